@@ -1,0 +1,1 @@
+// Definitions and laws on numbers and lists; they stand in specs/.

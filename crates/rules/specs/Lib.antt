@@ -1,0 +1,6 @@
+pub mod Elements
+pub mod Pairing
+pub mod Tables
+pub mod Recovery
+pub mod Refusals
+pub mod Queries

@@ -1,0 +1,146 @@
+-- Document 01, "Lengths and refusals": what build and recovery answer, and what every buffer holds after them.
+-- Assumes nothing.
+use mathlib.Core.Path.{_≡_}
+use mathlib.Core.Bool.{Bool, true, false, not}
+use mathlib.Core.List.{List, _++_}
+use Prim.Native.Nat.{ℕ, _+_, _*_}
+use lib.Dec.{T, leb, eqb}
+use lib.ListN.{length, drop, replicate}
+use Rattle.lists.specs.Tests.{both, same}
+use Rattle.lists.specs.Search.{at}
+use Rattle.rules.specs.Elements.{elements, element, number, slot, origin, firstSide, countSides, firstVertex}
+use Rattle.rules.specs.Pairing.{alike, joins, sizesFit, unfitCorner, repeatedCorner, rowsFit}
+use Rattle.rules.specs.Tables.{columns, borders, b2e, e2e, v2e, edges}
+use Rattle.rules.specs.Recovery.{walk}
+
+-- "the answer or the refusal number": two numbers of an answer; or a refusal's number and "The place is two numbers"
+pub data Answer : Type 0 where
+  gives : ℕ → ℕ → Answer
+  refused : ℕ → ℕ → ℕ → Answer
+
+-- 5: "vertex with no side"; "least vertex"
+unfoldable pub unusedVertex : ℕ → List ℕ → ℕ
+unusedVertex n L = firstVertex n (λ v. eqb (firstSide L (λ s. eqb (origin L s) v)) 0)
+
+-- 6: "three or more sides join the same two vertices"; "least such side"
+unfoldable pub crowdedSide : List ℕ → ℕ
+crowdedSide L = firstSide L (λ s. leb 3 (countSides L (joins L s)))
+
+-- 7: "two sides run alike between the same two vertices"; "least such side"
+unfoldable pub alikeSide : List ℕ → ℕ
+alikeSide L = firstSide L (λ s. not (eqb (firstSide L (λ t. both (not (eqb s t)) (alike L s t))) 0))
+
+-- 8: "no turn order"; "least vertex". The walk over the tables meets all sides at a vertex exactly where it has a turn order
+-- (theory, `Orders`): W is what the walk wrote, and v has a side that it left out
+unfoldable pub missed : List ℕ → List ℕ → ℕ → Bool
+missed L W v = not (eqb (firstSide L (λ s. both (eqb (origin L s) v) (not (eqb (at W (slot s)) v)))) 0)
+
+unfoldable pub unorderedVertex : ℕ → List ℕ → ℕ
+unorderedVertex n L = let W = walk (v2e n L) (e2e L) in firstVertex n (missed L W)
+
+-- a refusal where a side or a vertex was found for it, else what the later checks say
+unfoldable pub sideCheck : ℕ → ℕ → Answer → Answer
+sideCheck r s rest = elim (eqb s 0) [ true ↦ rest | false ↦ refused r (element s) (number s) ]
+
+unfoldable pub vertexCheck : ℕ → ℕ → Answer → Answer
+vertexCheck r v rest = elim (eqb v 0) [ true ↦ rest | false ↦ refused r v 0 ]
+
+-- checks 3 to 8, "in order, each over the whole list before the next"; then k and the number of edges
+unfoldable pub listAnswer : ℕ → List ℕ → Answer
+listAnswer n L =
+    sideCheck 3 (unfitCorner n L)
+    (sideCheck 4 (repeatedCorner L)
+    (vertexCheck 5 (unusedVertex n L)
+    (sideCheck 6 (crowdedSide L)
+    (sideCheck 7 (alikeSide L)
+    (vertexCheck 8 (unorderedVertex n L)
+    (gives (borders L) (edges L)))))))
+
+-- an accepted list, as a test
+unfoldable pub accepts : ℕ → List ℕ → Bool
+accepts n L =
+    both (rowsFit n L)
+    (both (eqb (unusedVertex n L) 0)
+    (both (eqb (crowdedSide L) 0)
+    (both (eqb (alikeSide L) 0)
+    (eqb (unorderedVertex n L) 0))))
+
+-- the buffers of build
+pub record Buffers : Type 0 where
+  pub vertices : List ℕ
+  pub opposites : List ℕ
+  pub border : List ℕ
+  pub work : List ℕ
+
+-- "not in fours"
+abbrev pub inFours : List ℕ → Bool
+inFours X = eqb (length X) (4 * elements X)
+
+-- checks 1 and 2 of a call with a work buffer: "n or m over its maximum, or element list or E2e not in fours";
+-- "V2e holds exactly n entries, E2e and the element list exactly 4 × m, the work buffer of build and recovery at least n + 16 × m".
+-- X is the buffer that says m, Y the other one of the element list and E2e
+unfoldable pub callSizes : ℕ → List ℕ → List ℕ → Bool
+callSizes n X Y = both (sizesFit n X) (inFours Y)
+
+unfoldable pub callLengths : ℕ → List ℕ → List ℕ → List ℕ → List ℕ → Bool
+callLengths n X Y V2e work =
+    both (eqb (length V2e) n) (both (eqb (length Y) (4 * elements X)) (leb (n + 16 * elements X) (length work)))
+
+-- refusals 1 and 2, before what the later checks say
+unfoldable pub lengthChecks : Bool → Bool → Answer → Answer
+lengthChecks sizes lengths rest =
+    elim sizes [ true ↦ elim lengths [ true ↦ rest | false ↦ refused 2 0 0 ] | false ↦ refused 1 0 0 ]
+
+-- 9: "B2e shorter than k"; "k, 0"
+unfoldable pub roomCheck : ℕ → Answer → Answer
+roomCheck room (gives k e) = elim (leb k room) [ true ↦ gives k e | false ↦ refused 9 k 0 ]
+roomCheck room (refused r a b) = refused r a b
+
+-- what build answers: "Build checks 1 to 9 in order"
+unfoldable pub buildAnswer : ℕ → List ℕ → Buffers → Answer
+buildAnswer n L w =
+    lengthChecks (callSizes n L (w .opposites)) (callLengths n L (w .opposites) (w .vertices) (w .work))
+    (roomCheck (length (w .border)) (listAnswer n L))
+
+-- "left as it was": a buffer after an answer, and after a refusal
+unfoldable pub after : Answer → List ℕ → List ℕ → List ℕ
+after (gives a b) new old = new
+after (refused r a b) new old = old
+
+-- "written from the output's start", "the rest untouched"
+unfoldable pub onto : List ℕ → List ℕ → List ℕ
+onto xs out = xs ++ drop (length xs) out
+
+-- "When a call with a work buffer passes checks 1 and 2 it leaves that buffer all zero, accepted or refused; otherwise the buffer is
+-- untouched"
+unfoldable pub workAfter : Bool → Bool → List ℕ → List ℕ
+workAfter sizes lengths work = elim (both sizes lengths) [ true ↦ replicate (length work) 0 | false ↦ work ]
+
+-- what build leaves in its buffers; it never writes the element list
+unfoldable pub buildLeaves : ℕ → List ℕ → Buffers → Buffers
+buildLeaves n L w =
+    let a = buildAnswer n L w in
+    record {
+      vertices = after a (v2e n L) (w .vertices);
+      opposites = after a (e2e L) (w .opposites);
+      border = after a (onto (b2e L) (w .border)) (w .border);
+      work = workAfter (callSizes n L (w .opposites)) (callLengths n L (w .opposites) (w .vertices) (w .work)) (w .work);
+    }
+
+-- the list that the walk gives has exactly these tables
+unfoldable pub recovers : ℕ → List ℕ → List ℕ → Bool
+recovers n V2e E2e =
+    let L = walk V2e E2e in both (accepts n L) (both (same (v2e n L) V2e) (same (e2e L) E2e))
+
+-- what recovery answers, given the element list only to write it: "recovery checks 1, 2, 10"
+unfoldable pub recoverAnswer : ℕ → List ℕ → List ℕ → List ℕ → List ℕ → Answer
+recoverAnswer n V2e E2e list work =
+    lengthChecks (callSizes n E2e list) (callLengths n E2e list V2e work)
+    (elim (recovers n V2e E2e) [ true ↦ gives 0 0 | false ↦ refused 10 0 0 ])
+
+-- what it leaves in the element list and in the work buffer; it never writes V2e or E2e
+unfoldable pub recoverList : ℕ → List ℕ → List ℕ → List ℕ → List ℕ → List ℕ
+recoverList n V2e E2e list work = after (recoverAnswer n V2e E2e list work) (walk V2e E2e) list
+
+unfoldable pub recoverWork : ℕ → List ℕ → List ℕ → List ℕ → List ℕ → List ℕ
+recoverWork n V2e E2e list work = workAfter (callSizes n E2e list) (callLengths n E2e list V2e work) work

@@ -1,0 +1,1 @@
+// Theorems about the rules; they stand in specs/.
