@@ -30,9 +30,12 @@ row L f = take 4 (drop (4 * (f - 1)) L)
 abbrev pub corner : List ℕ → ℕ → ℕ → ℕ
 corner L f i = at L (4 * (f - 1) + (i - 1))
 
--- "A fourth entry of 0 makes a triangle": the number of sides of element f
-unfoldable pub sides : List ℕ → ℕ → ℕ
-sides L f = elim (eqb (corner L f 4) 0) [ true ↦ 3 | false ↦ 4 ]
+-- "A fourth entry of 0 makes a triangle": the number of sides by a row's fourth entry, and of element f
+unfoldable pub sidesBy : ℕ → ℕ
+sidesBy fourth = elim (eqb fourth 0) [ true ↦ 3 | false ↦ 4 ]
+
+abbrev pub sides : List ℕ → ℕ → ℕ
+sides L f = sidesBy (corner L f 4)
 
 -- "Its code is 8 × f + i. Border half-edge ⟨b,0⟩ has code 8 × b": the element or border number of a code, and the side number in it
 abbrev pub element : ℕ → ℕ
@@ -55,12 +58,19 @@ slot s = 4 * (element s - 1) + (number s - 1)
 unfoldable pub origin : List ℕ → ℕ → ℕ
 origin L s = at L (slot s)
 
--- "the last corner being followed by the first": the side that follows s in its element, and the one before it
+-- "the last corner being followed by the first": the number of the side that follows side i of k, and of the one before it
+unfoldable pub nextNumber : ℕ → ℕ → ℕ
+nextNumber k i = elim (eqb i k) [ true ↦ 1 | false ↦ i + 1 ]
+
+unfoldable pub previousNumber : ℕ → ℕ → ℕ
+previousNumber k i = elim (eqb i 1) [ true ↦ k | false ↦ i - 1 ]
+
+-- the side that follows s in its element, and the one before it
 unfoldable pub next : List ℕ → ℕ → ℕ
-next L s = elim (eqb (number s) (sides L (element s))) [ true ↦ 8 * element s + 1 | false ↦ s + 1 ]
+next L s = 8 * element s + nextNumber (sides L (element s)) (number s)
 
 unfoldable pub previous : List ℕ → ℕ → ℕ
-previous L s = elim (eqb (number s) 1) [ true ↦ 8 * element s + sides L (element s) | false ↦ s - 1 ]
+previous L s = 8 * element s + previousNumber (sides L (element s)) (number s)
 
 -- "to the next corner (its destination)"
 abbrev pub destination : List ℕ → ℕ → ℕ
