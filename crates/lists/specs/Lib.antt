@@ -1,2 +1,4 @@
 pub mod Tests
+pub mod TestLaws
 pub mod Search
+pub mod SearchLaws
