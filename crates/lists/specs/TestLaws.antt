@@ -31,6 +31,9 @@ pub record Means (b : Bool) (P : Type 0) : Type 0 where
   pub says : T b → P
   pub shows : P → T b
 
+pub means-itself : (b : Bool) → Means b (T b)
+means-itself b = record { says = λ t. t; shows = λ t. t }
+
 -- a test that means P decides P
 pub decide : {b : Bool} {P : Type 0} → Means b P → P ⊎ (P → ⊥)
 decide {b = true} m = inl (m .says tt)
