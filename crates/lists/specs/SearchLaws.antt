@@ -126,6 +126,19 @@ count-last p (suc n) h = go (test (p n)) (λ k. count-last p n k)
         let f = count-fail p n t in
         let (i, k, u, q) = r (omega arith) in (i, (omega arith), u, (q ∙ sym f))
 
+-- each number below the count is that of a place that passes
+pub count-find : (p : ℕ → Bool) (n k : ℕ) → k < count p n → (i : ℕ) × (i < n) × T (p i) × (count p i ≡ k)
+unfolding count
+count-find p zero k h = absurd (omega arith)
+count-find p (suc n) k h = go (test (p n)) (λ g. count-find p n k g)
+  where
+    go : Test (p n) → (k < count p n → (i : ℕ) × (i < n) × T (p i) × (count p i ≡ k)) → (i : ℕ) × (i < suc n) × T (p i) × (count p i ≡ k)
+    go (fail t e) r =
+        let f = count-fail p n t in let (i, g, u, q) = r (omega arith) in (i, (omega arith), u, q)
+    go (pass t e) r =
+        elim (lt-or-eq k (count p n) (omega (arith, count-pass p n t)))
+        [ inl g ↦ let (i, l, u, q) = r g in (i, (omega arith), u, q) | inr g ↦ (n, (omega arith), t, sym g) ]
+
 -- tests that agree below n count alike and list alike
 pub count-same : (p q : ℕ → Bool) (n : ℕ) → ((i : ℕ) → i < n → p i ≡ q i) → count p n ≡ count q n
 unfolding count

@@ -1,3 +1,5 @@
 pub mod Sides
 pub mod Pairings
+pub mod Entries
+pub mod Turns
 pub mod Cases

@@ -42,6 +42,14 @@ module _ (L : List ℕ) where
       let (c, d) = means-opposed L s u .says y in
       means-alike L t u .shows (sym b ∙ d, sym a ∙ c)
 
+  pub partner-opposed : (s : ℕ) → (partner L s ≡ 0 → ⊥) → Side L (partner L s) × T (opposed L s (partner L s))
+  unfolding partner
+  partner-opposed s z = go (first-side L (opposed L s))
+    where
+      go : First L (opposed L s) (firstSide L (opposed L s)) → Side L (firstSide L (opposed L s)) × T (opposed L s (firstSide L (opposed L s)))
+      go (nobody e f) = absurd (z e)
+      go (somebody b w f) = (b, w)
+
   -- theorem 1: a pairing is unique
   pub pairing-unique : (π ρ : ℕ → ℕ) → Pairing L π → Pairing L ρ → (s : ℕ) → Side L s → π s ≡ ρ s
   pairing-unique π ρ p q s a = go (decide (means-eq (π s) 0)) (decide (means-eq (ρ s) 0))
@@ -146,22 +154,14 @@ module _ (n : ℕ) (L : List ℕ) (fit : Fit n L) where
         let (c, w) = first-found L (opposed L s) t b o in
         lone (firstSide L (opposed L s)) t c b (opposed-alike L s (firstSide L (opposed L s)) t w o)
 
-    partner-opposed : (s : ℕ) → Side L s → (partner L s ≡ 0 → ⊥) → Side L (partner L s) × T (opposed L s (partner L s))
-    unfolding partner
-    partner-opposed s a z = go (first-side L (opposed L s))
-      where
-        go : First L (opposed L s) (firstSide L (opposed L s)) → Side L (firstSide L (opposed L s)) × T (opposed L s (firstSide L (opposed L s)))
-        go (nobody e f) = absurd (z e)
-        go (somebody b w f) = (b, w)
-
     -- with no two sides alike the computed partners are a pairing
     partner-pairs : Pairing L (partner L)
     partner-pairs =
         record {
           mutually = λ s a z.
-              let (b, o) = partner-opposed s a z in (b, partner-is (partner L s) s b a (opposed-sym L s (partner L s) o));
+              let (b, o) = partner-opposed L s z in (b, partner-is (partner L s) s b a (opposed-sym L s (partner L s) o));
           opposite = λ s a z.
-              let (b, o) = partner-opposed s a z in
+              let (b, o) = partner-opposed L s z in
               ((λ e. ends-differ n L fit s a (means-opposed L s s .says (rw e at o) .0)), o);
           paired = λ s t a b d x.
               elim (means-joins L s t .says x) [ inl y ↦ absurd (d (lone s t a b y)) | inr o ↦ partner-is s t a b o ];

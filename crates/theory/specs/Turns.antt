@@ -1,0 +1,139 @@
+-- The tables of a list, read as the walk reads them: E2e speaks of the list's sides, and gives each side's turn and each walk's start.
+-- Assumes nothing.
+use mathlib.Core.Path.{_≡_, refl, ap, sym, subst, _∙_}
+use mathlib.Core.Bool.{Bool, true, false, not}
+use mathlib.Core.Logic.{_⊎_, inl, inr}
+use mathlib.Core.List.{List}
+use Prim.Native.Nat.{ℕ, suc, _+_, _*_, _-_, _/_, _%_, _≤_, _<_}
+use native.Mathlib.Omega.{arith}
+use lib.Dec.{T, eqb, T-not, not-T}
+use lib.ListN.{length}
+use Rattle.lists.specs.TestLaws.{Test, pass, fail, test, true-of, false-of, Means, decide, means-not, means-eq, zero-or}
+use Rattle.lists.specs.Search.{at}
+use Rattle.rules.specs.Elements.{elements, corner, element, number, sides, sidesBy, isSide, Side, slot, origin, destination, next, nextNumber, sideAt, firstSide}
+use Rattle.rules.specs.Pairing.{opposed}
+use Rattle.rules.specs.Tables.{partner, borderNumber, e2e}
+use Rattle.rules.specs.Recovery.{walkStart, turnBy}
+use Rattle.theory.specs.Sides.{First, nobody, somebody, first-side, first-found, SidesBy, three, four, sides-by, SideFacts, side-facts, side-of, side-positive, sideAt-slot, slot-sideAt}
+use Rattle.theory.specs.Pairings.{partner-opposed, means-opposed}
+use Rattle.theory.specs.Entries.{length-e2e, e2e-paired, e2e-border, e2e-empty, e2e-nonzero, border-no-side, number-from, number-inj}
+
+module _ (L : List ℕ) where
+  pub elements-e2e : elements (e2e L) ≡ elements L
+  elements-e2e = omega (arith, length-e2e L)
+
+  -- the side whose corner is the fourth of element f
+  fourth : (f : ℕ) → 1 ≤ f → sideAt (4 * (f - 1) + 3) ≡ 8 * f + 4
+  unfolding sideAt
+  fourth f h = omega arith
+
+  fourth-side : (f : ℕ) → 1 ≤ f → f ≤ elements L → (corner L f 4 ≡ 0 → ⊥) → Side L (8 * f + 4)
+  fourth-side f a b c =
+      let e : (8 * f + 4) / 8 ≡ f = omega arith in
+      let g : (8 * f + 4) % 8 ≡ 4 = omega arith in
+      side-of L (8 * f + 4) (rw e a) (rw e b) (omega arith) (rw (g, e) (go (sides-by (corner L f 4))))
+    where
+      go : {k : ℕ} → SidesBy (corner L f 4) k → 4 ≤ k
+      go (three z e) = absurd (c z)
+      go (four z e) = omega arith
+
+  fourth-none : (f : ℕ) → corner L f 4 ≡ 0 → T (not (isSide L (8 * f + 4)))
+  fourth-none f c =
+      not-T (isSide L (8 * f + 4))
+      (λ a.
+      let e : (8 * f + 4) / 8 ≡ f = omega arith in
+      let g : (8 * f + 4) % 8 ≡ 4 = omega arith in
+      go (sides-by (corner L f 4)) (rw (e, g) at (side-facts L (8 * f + 4) a .number-to)))
+    where
+      go : {k : ℕ} → SidesBy (corner L f 4) k → 4 ≤ k → ⊥
+      go (three z e) h = omega arith
+      go (four z e) h = z c
+
+  -- E2e marks triangles as the list does
+  pub sides-e2e : (f : ℕ) → 1 ≤ f → f ≤ elements L → sides (e2e L) f ≡ sides L f
+  sides-e2e f a b = go (sides-by (corner L f 4)) (sides-by (corner (e2e L) f 4))
+    where
+      go : {k j : ℕ} → SidesBy (corner L f 4) k → SidesBy (corner (e2e L) f 4) j → j ≡ k
+      go (three z e) (three y d) = omega arith
+      go (four z e) (four y d) = omega arith
+      go (three z e) (four y d) =
+          absurd (y (e2e-empty L (4 * (f - 1) + 3) (rw (fourth f a) (fourth-none f z))))
+      go (four z e) (three y d) =
+          let w = fourth-side f a b z in
+          absurd (e2e-nonzero L (8 * f + 4) w (ap (at (e2e L)) (slot-fourth f a) ∙ y))
+        where
+          slot-fourth : (f : ℕ) → 1 ≤ f → slot (8 * f + 4) ≡ 4 * (f - 1) + 3
+          slot-fourth f a = sym (ap slot (fourth f a)) ∙ slot-sideAt (4 * (f - 1) + 3)
+
+  pub side-e2e : (s : ℕ) → Side (e2e L) s → Side L s
+  side-e2e s a =
+      let f = side-facts (e2e L) s a in
+      let h : s / 8 ≤ elements L = rw elements-e2e at (f .element-to) in
+      side-of L s (f .element-from) h (f .number-from) (rw (sides-e2e (s / 8) (f .element-from) h) at (f .number-to))
+
+  pub e2e-side : (s : ℕ) → Side L s → Side (e2e L) s
+  e2e-side s a =
+      let f = side-facts L s a in
+      side-of (e2e L) s (f .element-from) (rw elements-e2e (f .element-to)) (f .number-from)
+      (rw (sides-e2e (s / 8) (f .element-from) (f .element-to)) (f .number-to))
+
+  pub next-e2e : (s : ℕ) → Side L s → next (e2e L) s ≡ next L s
+  unfolding next
+  next-e2e s a =
+      let f = side-facts L s a in rw (sides-e2e (s / 8) (f .element-from) (f .element-to))
+
+  -- the turn of a paired side, and of a border side
+  pub turn-paired : (s : ℕ) → Side L s → (partner L s ≡ 0 → ⊥) → turnBy (e2e L) s ≡ next L (partner L s)
+  unfolding turnBy
+  turn-paired s a z =
+      let b = partner-opposed L s z .0 in
+      let e = e2e-paired L s a z in
+      rw (true-of (isSide (e2e L) (at (e2e L) (slot s))) (rw e (e2e-side (partner L s) b)), turnBy)
+      (ap (next (e2e L)) e ∙ next-e2e (partner L s) b)
+
+  pub turn-border : (s : ℕ) → Side L s → partner L s ≡ 0 → turnBy (e2e L) s ≡ 0
+  unfolding turnBy
+  turn-border s a z =
+      rw (false-of (isSide (e2e L) (at (e2e L) (slot s))) (rw (e2e-border L s a z) (not-T (isSide (e2e L) (8 * borderNumber L s)) (border-no-side L (e2e L) (borderNumber L s)))), turnBy)
+
+  -- the walk about a rim vertex begins at the side following its border side, and about any other at its V2e entry
+  entryIs : ℕ → ℕ → Bool
+  entryIs c t = eqb (at (e2e L) (slot t)) c
+
+  rim-found : (s r : ℕ) → Side L s → partner L s ≡ 0 → First (e2e L) (entryIs (8 * borderNumber L s)) r → r ≡ s
+  unfolding entryIs
+  rim-found s r a z (nobody e f) =
+      absurd (T-not (entryIs (8 * borderNumber L s) s) (f s (e2e-side s a)) (means-eq _ _ .shows (e2e-border L s a z)))
+  rim-found s r a z (somebody b t f) =
+      let e : at (e2e L) (slot r) ≡ 8 * borderNumber L s = means-eq _ _ .says t in go e (zero-or (partner L r))
+    where
+      go : at (e2e L) (slot r) ≡ 8 * borderNumber L s → (partner L r ≡ 0) ⊎ (partner L r ≡ 0 → ⊥) → r ≡ s
+      go e (inl w) =
+          let c = side-e2e r b in
+          number-inj L r s c w a z (omega (arith, e2e-border L r c w))
+      go e (inr w) =
+          let c = side-e2e r b in
+          absurd (border-no-side L L (borderNumber L s) (rw (sym (e2e-paired L r c w) ∙ e) at (partner-opposed L r w .0)))
+
+  pub start-rim : (s : ℕ) → Side L s → partner L s ≡ 0 → walkStart (e2e L) (8 * borderNumber L s) ≡ next L s
+  unfolding walkStart entryIs
+  start-rim s a z =
+      let c = 8 * borderNumber L s in
+      let e = rim-found s (firstSide (e2e L) (entryIs c)) a z (first-side (e2e L) (entryIs c)) in
+      let m : c % 8 ≡ 0 = omega arith in
+      rw (true-of (eqb (c % 8) 0) (means-eq (c % 8) 0 .shows m), walkStart)
+      (rw (e, false-of (eqb s 0) (means-not (means-eq s 0) .shows (side-positive L s a))) (ap (next (e2e L)) e ∙ next-e2e s a))
+
+  pub start-side : (s : ℕ) → Side L s → walkStart (e2e L) s ≡ s
+  unfolding walkStart
+  start-side s a =
+      rw (false-of (eqb (s % 8) 0) (means-not (means-eq (s % 8) 0) .shows (λ e. omega (arith, side-facts L s a))), walkStart)
+
+  pub start-none : walkStart (e2e L) 0 ≡ 0
+  unfolding walkStart entryIs
+  start-none = go (first-side (e2e L) (entryIs 0))
+    where
+      go : First (e2e L) (entryIs 0) (firstSide (e2e L) (entryIs 0)) → walkStart (e2e L) 0 ≡ 0
+      go (nobody e f) = rw (e, walkStart)
+      go (somebody a t f) =
+          absurd (e2e-nonzero L (firstSide (e2e L) (entryIs 0)) (side-e2e _ a) (means-eq _ _ .says t))
