@@ -2,4 +2,5 @@ pub mod Sides
 pub mod Pairings
 pub mod Entries
 pub mod Turns
+pub mod Orders
 pub mod Cases
