@@ -53,8 +53,8 @@ built n L =
 pub data Case : Type 0 where
   -- build's answer
   answers : ℕ → List ℕ → Answer → Case
-  -- the tables that build writes, of E2e the first row, and the whole of it
-  v2eIs b2eIs e2eBegins e2eIs : ℕ → List ℕ → List ℕ → Case
+  -- the tables that build writes; of E2e all, or the first row
+  v2eIs e2eIs e2eBegins b2eIs : ℕ → List ℕ → List ℕ → Case
   -- on built tables, of the vertex or the border after the list
   ringIs neighboursAre loopIs : ℕ → List ℕ → ℕ → List ℕ → Case
   -- of n, V2e and E2e; `none` for 10
@@ -101,6 +101,7 @@ listingE2e = quad 8 16 17 0 ++ quad 11 24 32 0
 unfoldable pub tetrahedron : List ℕ
 tetrahedron = tri 1 2 3 ++ tri 1 4 2 ++ tri 2 4 3 ++ tri 3 4 1
 
+-- "Where no n is named, it is the greatest corner"
 unfoldable pub cases : List Case
 cases =
     -- "n = 0, m = 0: accepted, all empty"
