@@ -4,3 +4,4 @@ pub mod Tables
 pub mod Recovery
 pub mod Refusals
 pub mod Queries
+pub mod Cases

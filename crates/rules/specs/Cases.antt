@@ -1,0 +1,148 @@
+-- Document 01, "Housings to hold up to the rules": "The cases marked P are gathered in a small table, and a single proof shows that the
+-- rules above give all its rows".
+-- Assumes nothing.
+use mathlib.Core.Bool.{Bool, true, false}
+use mathlib.Core.Option.{Option, none, some}
+use mathlib.Core.List.{List, [], _∷_, _++_}
+use Prim.Native.Nat.{ℕ, _+_, _*_}
+use lib.Dec.{T, eqb}
+use lib.ListN.{length, take, replicate}
+use Rattle.lists.specs.Tests.{both, same}
+use Rattle.lists.specs.Search.{least, count, upto, tab, zeros}
+use Rattle.rules.specs.Elements.{elements, sidesBy, isSide, slot, origin, nextNumber, next, sideAt, firstSide, countSides, firstVertex}
+use Rattle.rules.specs.Pairing.{alike, opposed, joins, sizesFit, unfitCorner, repeatedCorner, rowsFit}
+use Rattle.rules.specs.Tables.{partner, isBorder, b2e, borderNumber, borders, e2eEntry, e2e, borderInto, v2eEntry, v2e, edges}
+use Rattle.rules.specs.Recovery.{walkStart, turnBy, trace, walkTo, walk}
+use Rattle.rules.specs.Refusals.{Answer, gives, refused, unusedVertex, crowdedSide, alikeSide, missed, unorderedVertex, sideCheck, vertexCheck, listAnswer, accepts}
+use Rattle.rules.specs.Refusals.{Buffers, callSizes, callLengths, lengthChecks, roomCheck, buildAnswer, after, onto, buildLeaves, recovers, recoverAnswer, recoverList}
+use Rattle.rules.specs.Queries.{Mesh, asked, defined, listed, listLeaves, andThen, prepend, readAll, follow, over, isBorderCode, isHalfEdge, isVertex}
+use Rattle.rules.specs.Queries.{readOpposite, readBorderSide, readVertexEntry, readOrigin, readDestination, borderNext, startSide, onward, ringSides}
+use Rattle.rules.specs.Queries.{ring, neighbours, loopNext, borderLoop, listAnswer as listingAnswer}
+use Rattle.rules.specs.Queries.{ringAnswer, ringLeaves, neighboursAnswer, neighboursLeaves, borderLoopAnswer, borderLoopLeaves}
+
+-- an element's row, or a row of E2e; lists are rows joined by ++
+unfoldable pub quad : ℕ → ℕ → ℕ → ℕ → List ℕ
+quad a b c d = a ∷ b ∷ c ∷ d ∷ []
+
+unfoldable pub tri : ℕ → ℕ → ℕ → List ℕ
+tri a b c = quad a b c 0
+
+-- a buffer of this length
+unfoldable pub blank : ℕ → List ℕ
+blank k = replicate k 0
+
+-- buffers of fit lengths for n vertices and the list L, B2e as long as the border, and what build leaves in them
+unfoldable pub room : ℕ → List ℕ → Buffers
+room n L =
+    record {
+      vertices = blank n;
+      opposites = blank (length L);
+      border = blank (borders L);
+      work = blank (n + 16 * elements L);
+    }
+
+unfoldable pub left : ℕ → List ℕ → Buffers
+left n L = buildLeaves n L (room n L)
+
+-- "Built tables are a list and what build writes for it, B2e cut to k"
+unfoldable pub built : ℕ → List ℕ → Mesh
+built n L =
+    record { n = n; list = L; vertices = left n L .vertices; opposites = left n L .opposites; border = left n L .border }
+
+-- a row: what is asked of n vertices and a list, and the outcome
+pub data Case : Type 0 where
+  -- build's answer
+  answers : ℕ → List ℕ → Answer → Case
+  -- the tables that build writes; of E2e all, or the first row
+  v2eIs e2eIs e2eBegins b2eIs : ℕ → List ℕ → List ℕ → Case
+  -- on built tables, of the vertex or the border after the list
+  ringIs neighboursAre loopIs : ℕ → List ℕ → ℕ → List ℕ → Case
+  -- of n, V2e and E2e; `none` for 10
+  recovered : ℕ → List ℕ → List ℕ → Option (List ℕ) → Case
+
+unfoldable pub sameAnswer : Answer → Answer → Bool
+sameAnswer (gives a b) (gives c d) = both (eqb a c) (eqb b d)
+sameAnswer (gives a b) (refused r c d) = false
+sameAnswer (refused q a b) (gives c d) = false
+sameAnswer (refused q a b) (refused r c d) = both (eqb q r) (both (eqb a c) (eqb b d))
+
+-- the rules give this list: its count is returned, and it stands in an output of its length
+unfoldable pub gave : (List ℕ → Answer) → (List ℕ → List ℕ) → List ℕ → Bool
+gave answer leaves xs =
+    let out = blank (length xs) in both (sameAnswer (answer out) (gives (length xs) 0)) (same (leaves out) xs)
+
+-- the rules give the row
+unfoldable pub holds : Case → Bool
+holds (answers n L a) = sameAnswer (buildAnswer n L (room n L)) a
+holds (v2eIs n L xs) = same (left n L .vertices) xs
+holds (b2eIs n L xs) = same (left n L .border) xs
+holds (e2eBegins n L xs) = same (take 4 (left n L .opposites)) xs
+holds (e2eIs n L xs) = same (left n L .opposites) xs
+holds (ringIs n L v xs) = gave (ringAnswer (built n L) v) (ringLeaves (built n L) v) xs
+holds (neighboursAre n L v xs) = gave (neighboursAnswer (built n L) v) (neighboursLeaves (built n L) v) xs
+holds (loopIs n L b xs) = gave (borderLoopAnswer (built n L) b) (borderLoopLeaves (built n L) b) xs
+holds (recovered n V2e E2e (some L)) =
+    let w = room n E2e in
+    both (sameAnswer (recoverAnswer n V2e E2e (w .opposites) (w .work)) (gives 0 0))
+    (same (recoverList n V2e E2e (w .opposites) (w .work)) L)
+holds (recovered n V2e E2e none) =
+    let w = room n E2e in sameAnswer (recoverAnswer n V2e E2e (w .opposites) (w .work)) (refused 10 0 0)
+
+unfoldable pub every : (Case → Bool) → List Case → Bool
+every p [] = true
+every p (c ∷ cs) = both (p c) (every p cs)
+
+unfoldable pub listing : List ℕ
+listing = tri 1 2 3 ++ tri 1 3 4
+
+unfoldable pub listingE2e : List ℕ
+listingE2e = quad 8 16 17 0 ++ quad 11 24 32 0
+
+unfoldable pub tetrahedron : List ℕ
+tetrahedron = tri 1 2 3 ++ tri 1 4 2 ++ tri 2 4 3 ++ tri 3 4 1
+
+-- "Where no n is named, it is the greatest corner"
+unfoldable pub cases : List Case
+cases =
+    -- "n = 0, m = 0: accepted, all empty"
+    answers 0 [] (gives 0 0) ∷ v2eIs 0 [] [] ∷ e2eIs 0 [] [] ∷ b2eIs 0 [] [] ∷
+    -- "n = 1, m = 0: 5 at 1,0"
+    answers 1 [] (refused 5 1 0) ∷
+    -- "the listing: 5 edges, k = 4; ring of 1 is 2,1; its neighbours 4,3,2; border loop of 1 is 1,4,3,2"; the tables that it prints
+    answers 4 listing (gives 4 5) ∷
+    v2eIs 4 listing (32 ∷ 8 ∷ 16 ∷ 24 ∷ []) ∷
+    e2eIs 4 listing listingE2e ∷
+    b2eIs 4 listing (9 ∷ 10 ∷ 18 ∷ 19 ∷ []) ∷
+    ringIs 4 listing 1 (2 ∷ 1 ∷ []) ∷
+    neighboursAre 4 listing 1 (4 ∷ 3 ∷ 2 ∷ []) ∷
+    loopIs 4 listing 1 (1 ∷ 4 ∷ 3 ∷ 2 ∷ []) ∷
+    -- "one quadrilateral 1,2,3,4: V2e 32,8,16,24, E2e 8,16,24,32, B2e 9 to 12, 4 edges"
+    answers 4 (quad 1 2 3 4) (gives 4 4) ∷
+    v2eIs 4 (quad 1 2 3 4) (32 ∷ 8 ∷ 16 ∷ 24 ∷ []) ∷
+    e2eIs 4 (quad 1 2 3 4) (quad 8 16 24 32) ∷
+    b2eIs 4 (quad 1 2 3 4) (9 ∷ 10 ∷ 11 ∷ 12 ∷ []) ∷
+    -- "(1,2,3) (1,4,2) (2,4,3) (3,4,1): k = 0, V2e 9,10,11,18, first E2e row 19,27,35,0; ring of 1 is 1,2,4"
+    answers 4 tetrahedron (gives 0 6) ∷
+    v2eIs 4 tetrahedron (9 ∷ 10 ∷ 11 ∷ 18 ∷ []) ∷
+    e2eBegins 4 tetrahedron (quad 19 27 35 0) ∷
+    ringIs 4 tetrahedron 1 (1 ∷ 2 ∷ 4 ∷ []) ∷
+    -- "(1,2,2): 4 at 1,3", "(1,2,3,1): 4 at 1,4", "(1,2,3) with n = 2: 3 at 1,3"
+    answers 2 (tri 1 2 2) (refused 4 1 3) ∷
+    answers 3 (quad 1 2 3 1) (refused 4 1 4) ∷
+    answers 2 (tri 1 2 3) (refused 3 1 3) ∷
+    -- "(1,2,3) (1,2,4): 7 at 1,1", "(1,2,3) (2,1,4) (1,2,5): 6 at 1,1", "(1,2,3) (1,4,5), two fans at a point: 8 at 1,0"
+    answers 4 (tri 1 2 3 ++ tri 1 2 4) (refused 7 1 1) ∷
+    answers 5 (tri 1 2 3 ++ tri 2 1 4 ++ tri 1 2 5) (refused 6 1 1) ∷
+    answers 5 (tri 1 2 3 ++ tri 1 4 5) (refused 8 1 0) ∷
+    -- "recovery of the listing's V2e and E2e gives its rows; with V2e 8,32,16,24 it gives 2,1,3,0 / 2,3,4,0; with V2e 32,8,16,16 it gives 10"
+    recovered 4 (32 ∷ 8 ∷ 16 ∷ 24 ∷ []) listingE2e (some listing) ∷
+    recovered 4 (8 ∷ 32 ∷ 16 ∷ 24 ∷ []) listingE2e (some (quad 2 1 3 0 ++ quad 2 3 4 0)) ∷
+    recovered 4 (32 ∷ 8 ∷ 16 ∷ 16 ∷ []) listingE2e none ∷
+    -- of "Pairing and turn order": "Two triangles back to back, (1,2,3) and (1,3,2), are accepted"
+    answers 3 (tri 1 2 3 ++ tri 1 3 2) (gives 0 3) ∷
+    []
+
+-- the rules give every row of the table
+pub cases-hold : T (every holds cases)
+unfolding quad tri blank room left built sameAnswer gave holds every listing listingE2e tetrahedron cases least count upto tab zeros same sidesBy isSide slot origin nextNumber next sideAt firstSide countSides firstVertex alike opposed joins sizesFit unfitCorner repeatedCorner rowsFit partner isBorder b2e borderNumber borders e2eEntry e2e borderInto v2eEntry v2e edges walkStart turnBy trace walkTo walk unusedVertex crowdedSide alikeSide missed unorderedVertex sideCheck vertexCheck listAnswer accepts callSizes callLengths lengthChecks roomCheck buildAnswer after onto buildLeaves recovers recoverAnswer recoverList asked defined listed listLeaves andThen prepend readAll follow over isBorderCode isHalfEdge isVertex readOpposite readBorderSide readVertexEntry readOrigin readDestination borderNext startSide onward ringSides ring neighbours loopNext borderLoop listingAnswer ringAnswer ringLeaves neighboursAnswer neighboursLeaves borderLoopAnswer borderLoopLeaves
+cases-hold = tt
