@@ -1,0 +1,28 @@
+-- Document 01, "Element list and half-edge numbers": the codes of half-edges.
+-- Assumes nothing.
+use mathlib.Core.Bool.{Bool, true, false}
+use Prim.Native.Nat.{ℕ, _+_, _*_}
+use lib.Dec.{eqb}
+use Rattle.lists.specs.Tests.{both, either, within}
+use Rattle.rules.specs.Elements.{maxElement, maxBorder, element, number}
+
+-- "Side ⟨f,i⟩ .. i is 1 to 3 or 1 to 4", f from 1 to the largest element number
+abbrev pub sidePossible : ℕ → ℕ → Bool
+sidePossible f i = both (within 1 maxElement f) (within 1 4 i)
+
+-- "Border half-edge ⟨b,0⟩ .. b from 1", to the largest border number
+abbrev pub borderPossible : ℕ → Bool
+borderPossible b = within 1 maxBorder b
+
+-- "Its code is 8 × f + i"; "Code 0 names nothing"
+unfoldable pub sideCode : ℕ → ℕ → ℕ
+sideCode f i = elim (sidePossible f i) [ true ↦ 8 * f + i | false ↦ 0 ]
+
+-- "Border half-edge ⟨b,0⟩ has code 8 × b"
+unfoldable pub borderCode : ℕ → ℕ
+borderCode b = elim (borderPossible b) [ true ↦ 8 * b | false ↦ 0 ]
+
+-- c where it is the code of a possible side or border half-edge, else the code that names nothing
+unfoldable pub knownCode : ℕ → ℕ
+knownCode c =
+    elim (either (sidePossible (element c) (number c)) (both (eqb (number c) 0) (borderPossible (element c)))) [ true ↦ c | false ↦ 0 ]
