@@ -6,6 +6,11 @@ use lib.Dec.{eqb}
 use Rattle.lists.specs.Tests.{both, either, within}
 use Rattle.rules.specs.Elements.{maxElement, maxBorder, element, number}
 
+-- x where the test passes, else 0: "Code 0 names nothing"
+abbrev pub orNothing : Bool → ℕ → ℕ
+orNothing true x = x
+orNothing false x = 0
+
 -- "Side ⟨f,i⟩ .. i is 1 to 3 or 1 to 4", f from 1 to the largest element number
 abbrev pub sidePossible : ℕ → ℕ → Bool
 sidePossible f i = both (within 1 maxElement f) (within 1 4 i)
@@ -14,15 +19,17 @@ sidePossible f i = both (within 1 maxElement f) (within 1 4 i)
 abbrev pub borderPossible : ℕ → Bool
 borderPossible b = within 1 maxBorder b
 
--- "Its code is 8 × f + i"; "Code 0 names nothing"
+-- "Its code is 8 × f + i"
 unfoldable pub sideCode : ℕ → ℕ → ℕ
-sideCode f i = elim (sidePossible f i) [ true ↦ 8 * f + i | false ↦ 0 ]
+sideCode f i = orNothing (sidePossible f i) (8 * f + i)
 
 -- "Border half-edge ⟨b,0⟩ has code 8 × b"
 unfoldable pub borderCode : ℕ → ℕ
-borderCode b = elim (borderPossible b) [ true ↦ 8 * b | false ↦ 0 ]
+borderCode b = orNothing (borderPossible b) (8 * b)
 
 -- c where it is the code of a possible side or border half-edge, else the code that names nothing
 unfoldable pub knownCode : ℕ → ℕ
 knownCode c =
-    elim (either (sidePossible (element c) (number c)) (both (eqb (number c) 0) (borderPossible (element c)))) [ true ↦ c | false ↦ 0 ]
+    orNothing
+    (either (sidePossible (element c) (number c)) (both (eqb (number c) 0) (borderPossible (element c))))
+    c

@@ -1,25 +1,24 @@
 use borrow.Author.Needs.{needs}
+use native.Mathlib.Omega.{arith}
+use Rattle.rules.specs.Elements.{maxBorder}
+use Rattle.halfedge.specs.Codes.{borderCode}
+use Rattle.halfedge.proofs.Within.{inside, failed, passed}
 use Rattle.halfedge.proofs.HalfEdge.border.Statement.{statement}
 use Rattle.halfedge.proofs.HalfEdge.border.Tie as tie
-use Rattle.halfedge.proofs.HalfEdge.border.Reads as reads
-use Rattle.halfedge.proofs.HalfEdge.border.Lts as lts
-use Rattle.halfedge.proofs.is_within.Reads as is-within-reads
 
--- src/lib.rt:37:13
 is-within-requires : tie.Need-is-within-requires
 is-within-requires c κs = search needs
 
--- src/lib.rt:38:13
 returns : tie.Need-returns
-returns c = ?
+unfolding borderCode
+returns c = simp (failed (c .before .is-within .ensures) (c .if1 .taken))
 
--- src/lib.rt:40:26
 mul-t4 : tie.Need-mul-t4
-mul-t4 c = ?
+mul-t4 c = omega (arith, inside 1 maxBorder (c .before .before .args .b) (passed (c .before .is-within .ensures) (c .if1 .left)))
 
--- src/lib.rt:34:5
 returns-2 : tie.Need-returns-2
-returns-2 c = ?
+unfolding borderCode
+returns-2 c = rw (passed (c .before .is-within .ensures) (c .if1 .left))
 
 pub border-spec : {M : Type 1} → statement M
 border-spec = tie.close (tie.spec is-within-requires returns mul-t4 returns-2)
