@@ -1,10 +1,14 @@
 -- Document 01, "Element list and half-edge numbers": an element row as one value.
 -- Assumes nothing.
 use mathlib.Core.List.{List, [], _∷_}
-use Prim.Native.Nat.{ℕ, _-_}
+use mathlib.Core.Path.{_≡_, refl}
+use Prim.Native.Nat.{ℕ, zero, suc, _+_, _*_, _-_, _≤_, _<_}
+use lib.Seq.{getD-take, getD-drop}
+use native.Mathlib.Omega.{arith}
+use lib.ListN.{length, take, drop}
 use Rattle.lists.specs.Tests.{within}
 use Rattle.lists.specs.Search.{at}
-use Rattle.rules.specs.Elements.{sidesBy, nextNumber, previousNumber}
+use Rattle.rules.specs.Elements.{row, sidesBy, nextNumber, previousNumber}
 use Rattle.halfedge.specs.Codes.{orNothing}
 
 -- "An element row of four numbers travels as one value": the row in an element's part of the list
@@ -29,3 +33,20 @@ nextSide = turned nextNumber
 
 abbrev pub previousSide : List ℕ → ℕ → ℕ
 previousSide = turned previousNumber
+
+-- the entries of a row are the first four of its part
+pub row-entry : (p : List ℕ) (j : ℕ) → j < 4 → at (rowOf p) j ≡ at p j
+row-entry p zero h = refl
+row-entry p (suc zero) h = refl
+row-entry p (suc (suc zero)) h = refl
+row-entry p (suc (suc (suc zero))) h = refl
+row-entry p (suc (suc (suc (suc j)))) h = omega arith
+
+-- "that part alone is handed to whatever reads the element": the part of L from a to e, four entries on
+pub part-entry : (L : List ℕ) (a e j : ℕ) → e ≡ a + 4 → j < 4 → at (rowOf (take (e - a) (drop a L))) j ≡ at L (a + j)
+part-entry L a e j q h =
+    let n : j < e - a = omega arith in rw (row-entry, getD-take, getD-drop)
+
+-- "The row of element f is the four entries that start at entry 4 × (f − 1)"
+pub element-entry : (L : List ℕ) (f j : ℕ) → j < 4 → at (rowOf (row L f)) j ≡ at L (4 * (f - 1) + j)
+element-entry L f j h = rw (row-entry, getD-take, getD-drop)
