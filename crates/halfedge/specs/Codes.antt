@@ -1,7 +1,9 @@
 -- Document 01, "Element list and half-edge numbers": the codes of half-edges.
 -- Assumes nothing.
 use mathlib.Core.Bool.{Bool, true, false}
-use Prim.Native.Nat.{ℕ, _+_, _*_}
+use mathlib.Core.Path.{_≡_}
+use Prim.Native.Nat.{ℕ, _+_, _*_, _≤_}
+use borrow.Author.Tests.{le-leb}
 use lib.Dec.{eqb}
 use Rattle.lists.specs.Tests.{both, either, within}
 use Rattle.rules.specs.Elements.{maxElement, maxBorder, element, number}
@@ -33,3 +35,14 @@ knownCode c =
     orNothing
     (either (sidePossible (element c) (number c)) (both (eqb (number c) 0) (borderPossible (element c))))
     c
+
+pub within-true : {a b x : ℕ} → a ≤ x → x ≤ b → within a b x ≡ true
+within-true {a} {b} {x} l h = simp (le-leb a x l, le-leb x b h)
+
+pub side-code : (f i : ℕ) → 1 ≤ f → f ≤ maxElement → 1 ≤ i → i ≤ 4 → sideCode f i ≡ 8 * f + i
+unfolding sideCode
+side-code f i lf hf li hi = simp (within-true lf hf, within-true li hi)
+
+pub border-code : (b : ℕ) → 1 ≤ b → b ≤ maxBorder → borderCode b ≡ 8 * b
+unfolding borderCode
+border-code b l h = simp (within-true l h)

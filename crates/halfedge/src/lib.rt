@@ -14,7 +14,9 @@ pub struct HalfEdge {
 
 impl HalfEdge {
     pub const MAX_VERTEX: u32 = 1_000_000;
+
     pub const MAX_ELEMENT: u32 = 1_000_000;
+
     pub const MAX_BORDER: u32 = 4_000_000;
 
     // Side i of element f.

@@ -1,3 +1,5 @@
+-- `halfedge::code_at` meets its contract.
+-- Assumes nothing.
 use borrow.Author.Needs.{needs}
 use mathlib.Core.Path.{refl}
 use Rattle.rules.specs.Elements.{sideAt}

@@ -1,3 +1,5 @@
+-- `halfedge::corner` meets its contract. Each way out goes by the range test.
+-- Assumes nothing.
 use borrow.Author.Needs.{needs}
 use mathlib.Core.Path.{_≡_}
 use native.Mathlib.Omega.{arith}

@@ -1,3 +1,5 @@
+-- `halfedge::is_within` meets its contract.
+-- Assumes nothing.
 use borrow.Author.Tests.{lt-leb, le-leb}
 use Rattle.halfedge.proofs.is_within.Statement.{statement}
 use Rattle.halfedge.proofs.is_within.Tie as tie

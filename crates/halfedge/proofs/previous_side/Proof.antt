@@ -1,3 +1,5 @@
+-- `halfedge::previous_side` meets its contract. The law of a turn is in Turns.
+-- Assumes nothing.
 use borrow.Author.Needs.{needs}
 use borrow.Author.Tests.{eq-eqb, ne-eqb}
 use mathlib.Core.Path.{_≡_}

@@ -1,3 +1,5 @@
+-- `halfedge::slot_of` meets its contract.
+-- Assumes nothing.
 use borrow.Author.Needs.{needs}
 use native.Mathlib.Omega.{arith}
 use Rattle.rules.specs.Elements.{slot}

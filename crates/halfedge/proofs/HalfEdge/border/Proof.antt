@@ -1,3 +1,5 @@
+-- `halfedge::HalfEdge::border` meets its contract. Each way out goes by the range test.
+-- Assumes nothing.
 use borrow.Author.Needs.{needs}
 use native.Mathlib.Omega.{arith}
 use Rattle.rules.specs.Elements.{maxBorder}

@@ -1,3 +1,5 @@
+-- `halfedge::HalfEdge::from_code` meets its contract. A code is 8 times its element and its number, and a number of 0 is no side's.
+-- Assumes nothing.
 use borrow.Author.Needs.{needs}
 use borrow.Author.Tests.{ne-eqb}
 use mathlib.Core.Bool.{Bool, true, false}

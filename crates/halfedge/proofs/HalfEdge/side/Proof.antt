@@ -1,3 +1,5 @@
+-- `halfedge::HalfEdge::side` meets its contract. Each way out goes by the two range tests.
+-- Assumes nothing.
 use borrow.Author.Needs.{needs}
 use mathlib.Core.Bool.{true}
 use mathlib.Core.Path.{_≡_}
