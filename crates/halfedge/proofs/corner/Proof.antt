@@ -20,7 +20,7 @@ unfolding cornerOf
 returns c = simp (failed (c .before .is-within .ensures) (c .if1 .taken))
 
 sub-wide : tie.Need-sub-wide
-sub-wide c = bounds c .0
+sub-wide c = omega (arith, bounds c)
 
 wide-requires : tie.Need-wide-requires
 wide-requires c κs = search needs
