@@ -1,0 +1,31 @@
+-- `halfedge::slot_of` meets its contract.
+-- Assumes nothing.
+use borrow.Author.Needs.{needs}
+use native.Mathlib.Omega.{arith}
+use Rattle.rules.specs.Elements.{slot}
+use Rattle.halfedge.proofs.slot_of.Statement.{statement}
+use Rattle.halfedge.proofs.slot_of.Tie as tie
+
+one-less-requires : tie.Need-one-less-requires
+one-less-requires c κs = search needs
+
+mul-wide : tie.Need-mul-wide
+mul-wide c = search needs
+
+one-less-requires-2 : tie.Need-one-less-requires-2
+one-less-requires-2 c κs = search needs
+
+add-wide : tie.Need-add-wide
+add-wide c = search needs
+
+wide-requires : tie.Need-wide-requires
+wide-requires c κs = search needs
+
+returns : tie.Need-returns
+unfolding slot
+returns c = omega arith
+
+pub slot-of-spec : {M : Type 1} → statement M
+slot-of-spec =
+    tie.close
+    (tie.spec one-less-requires mul-wide one-less-requires-2 add-wide wide-requires returns)

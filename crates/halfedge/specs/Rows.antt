@@ -1,0 +1,66 @@
+-- Document 01, "Element list and half-edge numbers": an element row as one value.
+-- Assumes nothing.
+use mathlib.Core.List.{List, [], _∷_}
+use mathlib.Core.Path.{_≡_, refl, ap}
+use Prim.Native.Nat.{ℕ, zero, suc, _+_, _*_, _-_, _≤_, _<_}
+use lib.Seq.{getD-take, getD-drop}
+use native.Mathlib.Omega.{arith}
+use lib.ListN.{take, drop}
+use Rattle.lists.specs.Tests.{within}
+use Rattle.lists.specs.Search.{at}
+use Rattle.rules.specs.Elements.{row, corner, sides, sidesBy, nextNumber, previousNumber}
+use Rattle.halfedge.specs.Codes.{orNothing, within-true}
+
+-- "An element row of four numbers travels as one value": the row in an element's part of the list
+abbrev pub rowOf : List ℕ → List ℕ
+rowOf p = at p 0 ∷ at p 1 ∷ at p 2 ∷ at p 3 ∷ []
+
+-- corner i of a row; 0 where there is none
+unfoldable pub cornerOf : List ℕ → ℕ → ℕ
+cornerOf r i = orNothing (within 1 4 i) (at r (i - 1))
+
+-- "A fourth entry of 0 makes a triangle"
+abbrev pub sidesOf : List ℕ → ℕ
+sidesOf r = sidesBy (at r 3)
+
+-- the side that a turn gives from side i of a row; 0 where the row has no side i
+unfoldable pub turned : (ℕ → ℕ → ℕ) → List ℕ → ℕ → ℕ
+turned turn r i = orNothing (within 1 (sidesOf r) i) (turn (sidesOf r) i)
+
+-- "the last corner being followed by the first"
+abbrev pub nextSide : List ℕ → ℕ → ℕ
+nextSide = turned nextNumber
+
+abbrev pub previousSide : List ℕ → ℕ → ℕ
+previousSide = turned previousNumber
+
+-- the entries of a row are the first four of its part
+pub row-entry : (p : List ℕ) (j : ℕ) → j < 4 → at (rowOf p) j ≡ at p j
+row-entry p zero h = refl
+row-entry p (suc zero) h = refl
+row-entry p (suc (suc zero)) h = refl
+row-entry p (suc (suc (suc zero))) h = refl
+row-entry p (suc (suc (suc (suc j)))) h = omega arith
+
+-- "The row of element f is the four entries that start at entry 4 × (f − 1)"; "that part alone is handed to whatever reads the element"
+pub part-row : (L : List ℕ) (f a e : ℕ) → a ≡ 4 * (f - 1) → e ≡ a + 4 → take (e - a) (drop a L) ≡ row L f
+part-row L f a e s q = let n : e - a ≡ 4 = omega arith in rw (n, s)
+
+pub part-at : (L : List ℕ) (a e j : ℕ) → e ≡ a + 4 → j < 4 → at (rowOf (take (e - a) (drop a L))) j ≡ at L (a + j)
+part-at L a e j q h = let n : j < e - a = omega arith in rw (row-entry, getD-take, getD-drop)
+
+-- what the reader finds in the row of element f of L
+module _ (L : List ℕ) (f : ℕ) where
+  pub row-at : (j : ℕ) → j < 4 → at (rowOf (row L f)) j ≡ at L (4 * (f - 1) + j)
+  row-at j h = rw (row-entry, getD-take, getD-drop)
+
+  pub row-sides : sidesOf (rowOf (row L f)) ≡ sides L f
+  row-sides = ap sidesBy (row-at 3 (omega arith))
+
+  pub row-corner : (i : ℕ) → 1 ≤ i → i ≤ 4 → cornerOf (rowOf (row L f)) i ≡ corner L f i
+  unfolding cornerOf
+  row-corner i l h = let t = within-true l h in let j : i - 1 < 4 = omega arith in simp t (row-at (i - 1) j)
+
+  pub row-turned : (turn : ℕ → ℕ → ℕ) (i : ℕ) → 1 ≤ i → i ≤ sides L f → turned turn (rowOf (row L f)) i ≡ turn (sides L f) i
+  unfolding turned
+  row-turned turn i l h = rw (row-sides, within-true l h)

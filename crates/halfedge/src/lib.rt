@@ -1,0 +1,176 @@
+// Half-edge numbers and element rows, document 01, "Element list and half-edge numbers".
+ghost use mathlib.Core.Path.{_≡_};
+ghost use Prim.Native.Nat.{_-_, _<_};
+ghost use Rattle.lists.specs.Search.{at};
+ghost use Rattle.lists.specs.Tests.{within};
+ghost use Rattle.rules.specs.Elements.{element, number, sidesBy, slot, sideAt};
+ghost use Rattle.halfedge.specs.Codes.{sideCode, borderCode, knownCode};
+ghost use Rattle.halfedge.specs.Rows.{rowOf, cornerOf, nextSide, previousSide};
+
+// A side ⟨f,i⟩ or a border half-edge ⟨b,0⟩ by its code. Code 0 names nothing.
+pub struct HalfEdge {
+    pub code: u32,
+}
+
+impl HalfEdge {
+    pub const MAX_VERTEX: u32 = 1_000_000;
+
+    pub const MAX_ELEMENT: u32 = 1_000_000;
+
+    pub const MAX_BORDER: u32 = 4_000_000;
+
+    // Side i of element f.
+    pub fn side(f: u32, i: u32) -> HalfEdge
+        ensures { λ r. ⌜ r .code ≡ sideCode f i ⌝ }
+    {
+        if !is_within(1, HalfEdge::MAX_ELEMENT, f) {
+            return HalfEdge { code: 0 };
+        }
+        if !is_within(1, 4, i) {
+            return HalfEdge { code: 0 };
+        }
+        HalfEdge { code: 8 * f + i }
+    }
+
+    // Border half-edge b.
+    pub fn border(b: u32) -> HalfEdge
+        ensures { λ r. ⌜ r .code ≡ borderCode b ⌝ }
+    {
+        if !is_within(1, HalfEdge::MAX_BORDER, b) {
+            return HalfEdge { code: 0 };
+        }
+        HalfEdge { code: 8 * b }
+    }
+
+    pub fn from_code(c: u32) -> HalfEdge
+        ensures { λ r. ⌜ r .code ≡ knownCode c ⌝ }
+    {
+        if c % 8 == 0 {
+            return HalfEdge::border(c / 8);
+        }
+        HalfEdge::side(c / 8, c % 8)
+    }
+
+    // The element of a side, or the number of a border half-edge.
+    pub fn element(self) -> u32
+        ensures { λ r. ⌜ r ≡ element (self .code) ⌝ }
+    {
+        self.code / 8
+    }
+
+    // The side's number in its element, 0 of a border half-edge.
+    pub fn number(self) -> u32
+        ensures { λ r. ⌜ r ≡ number (self .code) ⌝ }
+    {
+        self.code % 8
+    }
+}
+
+// The row of one element, read from that element's part of the list.
+pub fn row(part: &[u32]) -> [u32; 4]
+    ensures { λ r. ⌜ r ≡ rowOf (now (part .entry)) ⌝ }
+{
+    [
+        entry(part, 0),
+        entry(part, 1),
+        entry(part, 2),
+        entry(part, 3),
+    ]
+}
+
+// Corner i of a row; 0 where i is not 1 to 4.
+pub fn corner(row: [u32; 4], i: u32) -> u32
+    ensures { λ r. ⌜ r ≡ cornerOf row i ⌝ }
+{
+    if !is_within(1, 4, i) {
+        return 0;
+    }
+    row[wide(i - 1)]
+}
+
+pub fn side_count(row: [u32; 4]) -> u32
+    ensures { λ r. ⌜ r ≡ sidesBy (at row 3) ⌝ }
+{
+    if row[3] == 0 {
+        return 3;
+    }
+    4
+}
+
+// The number of the side after side i; 0 where the row has no side i.
+pub fn next_side(row: [u32; 4], i: u32) -> u32
+    ensures { λ r. ⌜ r ≡ nextSide row i ⌝ }
+{
+    let count = side_count(row);
+    if !is_within(1, count, i) {
+        return 0;
+    }
+    if i == count {
+        return 1;
+    }
+    i + 1
+}
+
+// The number of the side before side i; 0 where the row has no side i.
+pub fn previous_side(row: [u32; 4], i: u32) -> u32
+    ensures { λ r. ⌜ r ≡ previousSide row i ⌝ }
+{
+    let count = side_count(row);
+    if !is_within(1, count, i) {
+        return 0;
+    }
+    if i == 1 {
+        return count;
+    }
+    i - 1
+}
+
+// The code of the side whose origin stands at entry p of the element list.
+pub fn code_at(p: usize) -> u32
+    requires { ⌜ p < 4_000_000 ⌝ }
+    ensures { λ r. ⌜ r ≡ sideAt p ⌝ }
+{
+    (8 * (p / 4 + 1) + (p % 4 + 1)) as u32
+}
+
+// The entry of the element list at which a side's origin stands.
+pub fn slot_of(code: u32) -> usize
+    ensures { λ r. ⌜ r ≡ slot code ⌝ }
+{
+    wide(4 * one_less(code / 8) + one_less(code % 8))
+}
+
+fn is_within(low: u32, high: u32, x: u32) -> bool
+    ensures { λ r. ⌜ r ≡ within low high x ⌝ }
+{
+    if x < low {
+        return false;
+    }
+    x <= high
+}
+
+// Entry i of a part; 0 past its end.
+fn entry(part: &[u32], i: usize) -> u32
+    ensures { λ r. ⌜ r ≡ at (now (part .entry)) i ⌝ }
+{
+    if i < part.len() {
+        return part[i];
+    }
+    0
+}
+
+// x - 1; 0 where x is 0.
+fn one_less(x: u32) -> u32
+    ensures { λ r. ⌜ r ≡ x - 1 ⌝ }
+{
+    if x == 0 {
+        return 0;
+    }
+    x - 1
+}
+
+fn wide(x: u32) -> usize
+    ensures { λ r. ⌜ r ≡ x ⌝ }
+{
+    x as usize
+}
