@@ -9,7 +9,7 @@ use native.Mathlib.Omega.{arith}
 use lib.Dec.{T, ltb, eqb, T-not, nltb→le}
 use lib.ListN.{length, getD, set, length-append, length-set, List·getD-append}
 use lib.Seq.{getD-at, getD-set-same, getD-set-other}
-use Rattle.lists.specs.TestLaws.{Test, pass, fail, test, true-of, false-of, means-lt, means-eq, means-not}
+use Rattle.lists.specs.TestLaws.{Test, pass, fail, test, true-of, false-of, means-lt, means-eq, means-not, decide}
 use Rattle.lists.specs.Search.{at, least, count, upto, tab, zeros}
 
 pub lt-or-eq : (j n : ℕ) → j < suc n → (j < n) ⊎ (j ≡ n)
@@ -213,3 +213,13 @@ at-tab (suc n) f i h = go (lt-or-eq i n h) (λ k. at-tab n f i k)
     go : (i < n) ⊎ (i ≡ n) → (i < n → at (tab n f) i ≡ f i) → at (tab n f ++ (f n ∷ [])) i ≡ f i
     go (inl k) r = rw (List·getD-append (tab n f) (f n ∷ []) 0 i (omega (arith, length-tab n f))) (r k)
     go (inr k) r = getD-at (tab n f) (f n) [] 0 i (length-tab n f ∙ sym k) ∙ ap f (sym k)
+
+-- a number stands in a list or it doesn't
+pub member : (o : List ℕ) (x : ℕ) → ((i : ℕ) × (i < length o) × (at o i ≡ x)) ⊎ ((i : ℕ) → i < length o → at o i ≡ x → ⊥)
+member [] x = inr (λ i h e. omega arith)
+member (y ∷ o) x = go (decide (means-eq y x)) (member o x)
+  where
+    go : (y ≡ x) ⊎ (y ≡ x → ⊥) → ((i : ℕ) × (i < length o) × (at o i ≡ x)) ⊎ ((i : ℕ) → i < length o → at o i ≡ x → ⊥) → ((i : ℕ) × (i < suc (length o)) × (at (y ∷ o) i ≡ x)) ⊎ ((i : ℕ) → i < suc (length o) → at (y ∷ o) i ≡ x → ⊥)
+    go (inl e) r = inl (0, (omega arith), e)
+    go (inr d) (inl (i, h, e)) = inl (suc i, (omega arith), e)
+    go (inr d) (inr f) = inr (λ i. elim i as (λ j. j < suc (length o) → at (y ∷ o) j ≡ x → ⊥) [ zero ↦ λ h e. d e | suc j ↦ λ h e. f j (omega arith) e ])

@@ -4,3 +4,4 @@ pub mod Entries
 pub mod Turns
 pub mod Orders
 pub mod Tracing
+pub mod Walking
