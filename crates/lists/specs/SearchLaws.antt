@@ -7,7 +7,7 @@ use mathlib.Core.List.{List, [], _∷_, _++_}
 use Prim.Native.Nat.{ℕ, zero, suc, _+_, _-_, _≤_, _<_}
 use native.Mathlib.Omega.{arith}
 use lib.Dec.{T, ltb, eqb, T-not, nltb→le}
-use lib.ListN.{length, getD, set, length-append, length-set, List·getD-append}
+use lib.ListN.{length, getD, set, replicate, length-append, length-set, List·getD-append}
 use lib.Seq.{getD-at, getD-set-same, getD-set-other}
 use Rattle.lists.specs.TestLaws.{Test, pass, fail, test, true-of, false-of, means-lt, means-eq, means-not, decide}
 use Rattle.lists.specs.Search.{at, least, count, upto, tab, zeros}
@@ -223,3 +223,8 @@ member (y ∷ o) x = go (decide (means-eq y x)) (member o x)
     go (inl e) r = inl (0, (omega arith), e)
     go (inr d) (inl (i, h, e)) = inl (suc i, (omega arith), e)
     go (inr d) (inr f) = inr (λ i. elim i as (λ j. j < suc (length o) → at (y ∷ o) j ≡ x → ⊥) [ zero ↦ λ h e. d e | suc j ↦ λ h e. f j (omega arith) e ])
+
+pub at-blank : (n i : ℕ) → at (replicate n 0) i ≡ 0
+at-blank zero i = refl
+at-blank (suc n) zero = refl
+at-blank (suc n) (suc i) = at-blank n i
