@@ -214,12 +214,15 @@ at-tab (suc n) f i h = go (lt-or-eq i n h) (λ k. at-tab n f i k)
     go (inl k) r = rw (List·getD-append (tab n f) (f n ∷ []) 0 i (omega (arith, length-tab n f))) (r k)
     go (inr k) r = getD-at (tab n f) (f n) [] 0 i (length-tab n f ∙ sym k) ∙ ap f (sym k)
 
--- a number stands in a list or it doesn't
-pub member : (o : List ℕ) (x : ℕ) → ((i : ℕ) × (i < length o) × (at o i ≡ x)) ⊎ ((i : ℕ) → i < length o → at o i ≡ x → ⊥)
+-- x stands in the list o; it does or it doesn't
+abbrev pub Met : List ℕ → ℕ → Type 0
+Met o x = (i : ℕ) × (i < length o) × (at o i ≡ x)
+
+pub member : (o : List ℕ) (x : ℕ) → Met o x ⊎ ((i : ℕ) → i < length o → at o i ≡ x → ⊥)
 member [] x = inr (λ i h e. omega arith)
 member (y ∷ o) x = go (decide (means-eq y x)) (member o x)
   where
-    go : (y ≡ x) ⊎ (y ≡ x → ⊥) → ((i : ℕ) × (i < length o) × (at o i ≡ x)) ⊎ ((i : ℕ) → i < length o → at o i ≡ x → ⊥) → ((i : ℕ) × (i < suc (length o)) × (at (y ∷ o) i ≡ x)) ⊎ ((i : ℕ) → i < suc (length o) → at (y ∷ o) i ≡ x → ⊥)
+    go : (y ≡ x) ⊎ (y ≡ x → ⊥) → Met o x ⊎ ((i : ℕ) → i < length o → at o i ≡ x → ⊥) → Met (y ∷ o) x ⊎ ((i : ℕ) → i < suc (length o) → at (y ∷ o) i ≡ x → ⊥)
     go (inl e) r = inl (0, (omega arith), e)
     go (inr d) (inl (i, h, e)) = inl (suc i, (omega arith), e)
     go (inr d) (inr f) = inr (λ i. elim i as (λ j. j < suc (length o) → at (y ∷ o) j ≡ x → ⊥) [ zero ↦ λ h e. d e | suc j ↦ λ h e. f j (omega arith) e ])

@@ -5,3 +5,4 @@ pub mod Turns
 pub mod Orders
 pub mod Tracing
 pub mod Walking
+pub mod Covering

@@ -10,7 +10,7 @@ use lib.Dec.{T, eqb, T-not, not-T}
 use lib.ListN.{length, replicate, length-replicate}
 use Rattle.lists.specs.TestLaws.{means-eq, zero-or}
 use Rattle.lists.specs.Search.{at, zeros}
-use Rattle.lists.specs.SearchLaws.{member, lt-or-eq, at-blank}
+use Rattle.lists.specs.SearchLaws.{Met, member, lt-or-eq, at-blank}
 use Rattle.rules.specs.Elements.{Side, slot, origin, destination, next}
 use Rattle.rules.specs.Pairing.{Pairing, Turn, SideAt}
 use Rattle.rules.specs.Tables.{partner, borderNumber, e2e, v2e}
@@ -59,7 +59,7 @@ pub record Walked (n : ℕ) (L : List ℕ) (v : ℕ) (W : List ℕ) : Type 0 whe
   pub fans : (u : ℕ) → 1 ≤ u → u ≤ v
       → (o : List ℕ) × Fan L u (walkStart (e2e L) (at (v2e n L) (u - 1))) o
       × ((i : ℕ) → i < length o → at W (slot (at o i)) ≡ u)
-      × ((s : ℕ) → SideAt L u s → (at W (slot s) ≡ 0) ⊎ ((i : ℕ) × (i < length o) × (at o i ≡ s)))
+      × ((s : ℕ) → SideAt L u s → (at W (slot s) ≡ 0) ⊎ Met o s)
 
 module _ (n : ℕ) (L : List ℕ) (p : Pairing L (partner L)) where
   -- the turn by E2e of a side, where it is a side
@@ -98,18 +98,18 @@ module _ (n : ℕ) (L : List ℕ) (p : Pairing L (partner L)) where
     other-kept s a d = side-kept s a (λ i h e. d (ap (origin L) (sym e) ∙ met i h .1))
 
     -- a side at the vertex was met, or it is still empty
-    met-or-empty : (s : ℕ) → SideAt L (suc v) s → (at W′ (slot s) ≡ 0) ⊎ ((i : ℕ) × (i < length o) × (at o i ≡ s))
+    met-or-empty : (s : ℕ) → SideAt L (suc v) s → (at W′ (slot s) ≡ 0) ⊎ Met o s
     met-or-empty s (a, e) = go (member o s)
       where
-        go : ((i : ℕ) × (i < length o) × (at o i ≡ s)) ⊎ ((i : ℕ) → i < length o → at o i ≡ s → ⊥) → (at W′ (slot s) ≡ 0) ⊎ ((i : ℕ) × (i < length o) × (at o i ≡ s))
+        go : Met o s ⊎ ((i : ℕ) → i < length o → at o i ≡ s → ⊥) → (at W′ (slot s) ≡ 0) ⊎ Met o s
         go (inl y) = inr y
         go (inr g) = inl (side-kept s a g ∙ k .later s a (omega arith))
 
     -- where the trace stops at a side of the vertex, that side was met
-    stops-met : SideAt L (suc v) f → (i : ℕ) × (i < length o) × (at o i ≡ f)
+    stops-met : SideAt L (suc v) f → Met o f
     stops-met y = go (met-or-empty f y)
       where
-        go : (at W′ (slot f) ≡ 0) ⊎ ((i : ℕ) × (i < length o) × (at o i ≡ f)) → (i : ℕ) × (i < length o) × (at o i ≡ f)
+        go : (at W′ (slot f) ≡ 0) ⊎ Met o f → Met o f
         go (inl z) = absurd (x .stopped (e2e-side L f (y .0)) z)
         go (inr w) = w
 
@@ -157,7 +157,7 @@ module _ (n : ℕ) (L : List ℕ) (p : Pairing L (partner L)) where
         }
       where
         Known : ℕ → Type 0
-        Known u = (o : List ℕ) × Fan L u (walkStart (e2e L) (at (v2e n L) (u - 1))) o × ((i : ℕ) → i < length o → at W′ (slot (at o i)) ≡ u) × ((s : ℕ) → SideAt L u s → (at W′ (slot s) ≡ 0) ⊎ ((i : ℕ) × (i < length o) × (at o i ≡ s)))
+        Known u = (o : List ℕ) × Fan L u (walkStart (e2e L) (at (v2e n L) (u - 1))) o × ((i : ℕ) → i < length o → at W′ (slot (at o i)) ≡ u) × ((s : ℕ) → SideAt L u s → (at W′ (slot s) ≡ 0) ⊎ Met o s)
 
         go : (u : ℕ) → 1 ≤ u → (u < suc v) ⊎ (u ≡ suc v) → Known u
         go u a (inl h) =
