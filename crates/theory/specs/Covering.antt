@@ -13,7 +13,7 @@ use lib.Seq.{ext-getD}
 use Rattle.lists.specs.Tests.{both}
 use Rattle.lists.specs.TestLaws.{Test, pass, fail, test, Means, decide, means-both, means-not, means-eq, means-lt, zero-or}
 use Rattle.lists.specs.Search.{at}
-use Rattle.lists.specs.SearchLaws.{Met, lt-or-eq}
+use Rattle.lists.specs.SearchLaws.{Met, lt-or-eq, le-not-lt}
 use Rattle.rules.specs.Elements.{elements, corner, sides, isSide, Side, slot, origin, destination, next, sideAt, firstSide, firstVertex}
 use Rattle.rules.specs.Pairing.{Pairing, Turn, SideAt, TurnOrder}
 use Rattle.rules.specs.Tables.{partner, e2e, v2e}
@@ -25,7 +25,7 @@ use Rattle.theory.specs.Orders.{Good, turn-origin, turn-inj, first-after
 use Rattle.theory.specs.Walking.{Start, after, side, nowhere, start-at, Fan, Walked, walk-walked}
 
 -- W has the origin v of each side at v
-pub Covered : List ℕ → List ℕ → ℕ → Type 0
+abbrev pub Covered : List ℕ → List ℕ → ℕ → Type 0
 Covered L W v = (s : ℕ) → SideAt L v s → at W (slot s) ≡ v
 
 module _ (L : List ℕ) (p : Pairing L (partner L)) (v c : ℕ) (o : List ℕ) (fan : Fan L v c o) where
@@ -118,14 +118,12 @@ module _ (L : List ℕ) (p : Pairing L (partner L)) (v c : ℕ) (o : List ℕ) (
 module _ (n : ℕ) (L : List ℕ) (p : Pairing L (partner L)) (v : ℕ) (from : 1 ≤ v) (to : v ≤ n) where
   -- a turn order exactly where the walk writes every side
   pub order-covered : (q : List ℕ) → TurnOrder L (partner L) v q → Covered L (walk (v2e n L) (e2e L)) v
-  unfolding Covered
   order-covered q x s a =
       let (o, fan, written, reached) = walk-walked n L p .fans v from to in
       let (i, h, e) = order-all-met L p v _ o fan (start-at n L v from to) q x s a in
       ap (λ (t : ℕ). at (walk (v2e n L) (e2e L)) (slot t)) (sym e) ∙ written i h
 
   pub covered-order : (s : ℕ) → SideAt L v s → Covered L (walk (v2e n L) (e2e L)) v → (o : List ℕ) × TurnOrder L (partner L) v o
-  unfolding Covered
   covered-order s a all =
       let (o, fan, written, reached) = walk-walked n L p .fans v from to in (
         o,
@@ -133,3 +131,55 @@ module _ (n : ℕ) (L : List ℕ) (p : Pairing L (partner L)) (v : ℕ) (from : 
             (λ t b. elim (reached t b) [ inl z ↦ absurd (omega (arith, all t b)) | inr m ↦ m ])
             (fan .some s a),
       )
+
+-- a place of the list where no side stands is a triangle's fourth, and holds 0
+no-side-zero : (L : List ℕ) (q : ℕ) → q < 4 * elements L → T (not (isSide L (sideAt q))) → at L q ≡ 0
+unfolding sideAt
+no-side-zero L q h t = go (sides-by (corner L (q / 4 + 1) 4)) refl
+  where
+    s : ℕ
+    s = 8 * (q / 4 + 1) + (q % 4 + 1)
+
+    e : s / 8 ≡ q / 4 + 1
+    e = omega arith
+
+    i : s % 8 ≡ q % 4 + 1
+    i = omega arith
+
+    -- within its element's sides it would be one
+    side-there : q % 4 + 1 ≤ sides L (q / 4 + 1) → ⊥
+    side-there l = T-not (isSide L s) t (side-of L s (omega arith) (omega arith) (omega arith) (rw (e, i) l))
+
+    go : {k : ℕ} → SidesBy (corner L (q / 4 + 1) 4) k → sides L (q / 4 + 1) ≡ k → at L q ≡ 0
+    go (four z d) g = absurd (side-there (omega arith))
+    go (three z d) g = third (decide (means-lt (q % 4) 3))
+      where
+        third : (q % 4 < 3) ⊎ (q % 4 < 3 → ⊥) → at L q ≡ 0
+        third (inl l) = absurd (side-there (omega arith))
+        third (inr l) =
+            let w : q % 4 ≡ 3 = omega (arith, le-not-lt 3 (q % 4) l) in
+            let c : q ≡ 4 * (q / 4 + 1 - 1) + 3 = omega arith in
+            ap (at L) c ∙ z
+
+-- theorem 4: the walk gives every accepted list back from its tables
+pub walk-back : (n : ℕ) (L : List ℕ) → Good n L → walk (v2e n L) (e2e L) ≡ L
+unfolding origin
+walk-back n L g =
+    let k = walk-walked n L (g .pairing) in
+    ext-getD 0 (walk (v2e n L) (e2e L)) L
+    (k .long ∙ length-e2e L ∙ sym (g .fit .fours))
+    (λ q h. go q (test (isSide L (sideAt q))) (omega (arith, k .long, length-e2e L)))
+  where
+    go : (q : ℕ) → Test (isSide L (sideAt q)) → q < 4 * elements L → at (walk (v2e n L) (e2e L)) q ≡ at L q
+    go q (pass a e) h =
+        let s = sideAt q in
+        let v = origin L s in
+        let from = g .fit .from s a in
+        let to = g .fit .to s a in
+        let (o, x) = g .orders v from to in
+        ap (at (walk (v2e n L) (e2e L))) (sym (slot-sideAt q))
+        ∙ order-covered n L (g .pairing) v from to o x s (a, refl)
+        ∙ ap (at L) (slot-sideAt q)
+    go q (fail a e) h =
+        walk-walked n L (g .pairing) .outside q (λ s b w. T-not (isSide L (sideAt q)) a (rw (sym (ap sideAt w) ∙ sideAt-slot L s b) b))
+        ∙ sym (no-side-zero L q h a)

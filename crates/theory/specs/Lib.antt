@@ -6,3 +6,4 @@ pub mod Orders
 pub mod Tracing
 pub mod Walking
 pub mod Covering
+pub mod Deciding
