@@ -26,6 +26,13 @@ le-not-lt a b f = go (test (ltb b a))
     go (pass t e) = absurd (f (means-lt b a .says t))
     go (fail t e) = nltb→le b a t
 
+pub le-or-lt : (a b : ℕ) → (a ≤ b) ⊎ (b < a)
+le-or-lt a b = go (test (ltb b a))
+  where
+    go : Test (ltb b a) → (a ≤ b) ⊎ (b < a)
+    go (pass t e) = inr (means-lt b a .says t)
+    go (fail t e) = inl (nltb→le b a t)
+
 -- what holds below n and at n holds below n + 1
 pub below-last : (P : ℕ → Type 0) (n : ℕ) → ((j : ℕ) → j < n → P j) → P n → (j : ℕ) → j < suc n → P j
 below-last P n f x j h = elim (lt-or-eq j n h) [ inl k ↦ f j k | inr e ↦ subst P (sym e) x ]

@@ -7,3 +7,5 @@ pub mod Tracing
 pub mod Walking
 pub mod Covering
 pub mod Deciding
+pub mod Answers
+pub mod Recovering

@@ -1,0 +1,136 @@
+-- What build answers, with fit lengths and rows: one of the refusals 5 to 8 exactly when no pairing of the sides with a turn order about
+-- every vertex exists; where one exists, only 9 remains, exactly when B2e is shorter than k.
+-- Assumes nothing.
+use mathlib.Core.Path.{_≡_, refl, ap, sym, subst, _∙_}
+use mathlib.Core.Bool.{Bool, true, false, not}
+use mathlib.Core.Logic.{_⊎_, inl, inr, _↔_}
+use mathlib.Core.List.{List}
+use Prim.Native.Nat.{ℕ, suc, _+_, _*_, _/_, _%_, _≤_, _<_}
+use native.Mathlib.Omega.{arith}
+use lib.Dec.{T, leb, eqb, T-not, not-T}
+use lib.ListN.{length}
+use Rattle.lists.specs.Tests.{both}
+use Rattle.lists.specs.TestLaws.{Test, pass, fail, test, true-of, false-of, Means, passes, both-pass, means-not, means-eq, means-le, zero-or}
+use Rattle.lists.specs.SearchLaws.{le-or-lt}
+use Rattle.rules.specs.Elements.{element, number}
+use Rattle.rules.specs.Pairing.{Pairing, Ordered, Accepted, unfitCorner, repeatedCorner, rowsFit, sizesFit}
+use Rattle.rules.specs.Tables.{partner, borders, edges}
+use Rattle.rules.specs.Refusals.{Answer, gives, refused, unusedVertex, crowdedSide, alikeSide, unorderedVertex, sideCheck, vertexCheck, listAnswer, accepts, Buffers, callSizes, callLengths, lengthChecks, roomCheck, buildAnswer}
+use Rattle.theory.specs.Sides.{Fit, means-fit}
+use Rattle.theory.specs.Pairings.{pairing-exists, the-pairing}
+use Rattle.theory.specs.Orders.{Good, good}
+use Rattle.theory.specs.Deciding.{means-used, means-ordered}
+
+-- a check that found nothing goes on to the later ones; else it refuses
+pub side-clear : (r s : ℕ) (rest : Answer) → s ≡ 0 → sideCheck r s rest ≡ rest
+unfolding sideCheck
+side-clear r s rest e = rw (true-of (eqb s 0) (means-eq s 0 .shows e), sideCheck)
+
+pub side-refuses : (r s : ℕ) (rest : Answer) → (s ≡ 0 → ⊥) → sideCheck r s rest ≡ refused r (element s) (number s)
+unfolding sideCheck
+side-refuses r s rest d = rw (false-of (eqb s 0) (means-not (means-eq s 0) .shows d), sideCheck)
+
+pub vertex-clear : (r v : ℕ) (rest : Answer) → v ≡ 0 → vertexCheck r v rest ≡ rest
+unfolding vertexCheck
+vertex-clear r v rest e = rw (true-of (eqb v 0) (means-eq v 0 .shows e), vertexCheck)
+
+pub vertex-refuses : (r v : ℕ) (rest : Answer) → (v ≡ 0 → ⊥) → vertexCheck r v rest ≡ refused r v 0
+unfolding vertexCheck
+vertex-refuses r v rest d = rw (false-of (eqb v 0) (means-not (means-eq v 0) .shows d), vertexCheck)
+
+-- B2e holds k entries, or 9 comes
+pub room-enough : (room k e : ℕ) → k ≤ room → roomCheck room (gives k e) ≡ gives k e
+unfolding roomCheck
+room-enough room k e h = rw (true-of (leb k room) (means-le k room .shows h), roomCheck)
+
+pub room-short : (room k e : ℕ) → room < k → roomCheck room (gives k e) ≡ refused 9 k 0
+unfolding roomCheck
+room-short room k e h = rw (false-of (leb k room) (not-T (leb k room) (λ t. omega (arith, means-le k room .says t))), roomCheck)
+
+-- one of the refusals 5 to 8
+abbrev pub Late : Answer → Type 0
+Late x = (r : ℕ) × (a : ℕ) × (b : ℕ) × (5 ≤ r) × (r ≤ 8) × (x ≡ refused r a b)
+
+late-side : (r s : ℕ) (rest : Answer) → 5 ≤ r → r ≤ 8 → (s ≡ 0 → Late rest) → Late (sideCheck r s rest)
+late-side r s rest from to f = go (zero-or s)
+  where
+    go : (s ≡ 0) ⊎ (s ≡ 0 → ⊥) → Late (sideCheck r s rest)
+    go (inl e) = rw (side-clear r s rest e) (f e)
+    go (inr d) = (r, element s, number s, from, to, side-refuses r s rest d)
+
+late-vertex : (r v : ℕ) (rest : Answer) → 5 ≤ r → r ≤ 8 → (v ≡ 0 → Late rest) → Late (vertexCheck r v rest)
+late-vertex r v rest from to f = go (zero-or v)
+  where
+    go : (v ≡ 0) ⊎ (v ≡ 0 → ⊥) → Late (vertexCheck r v rest)
+    go (inl e) = rw (vertex-clear r v rest e) (f e)
+    go (inr d) = (r, v, 0, from, to, vertex-refuses r v rest d)
+
+module _ (n : ℕ) (L : List ℕ) (rows : T (rowsFit n L)) where
+  -- with fit rows checks 3 and 4 find nothing
+  rows-clear : (rest : Answer) → sideCheck 3 (unfitCorner n L) (sideCheck 4 (repeatedCorner L) rest) ≡ rest
+  unfolding rowsFit
+  rows-clear rest =
+      let (a, t) = passes (sizesFit n L) _ rows in
+      let (b, c) = passes (eqb (unfitCorner n L) 0) (eqb (repeatedCorner L) 0) t in
+      side-clear 3 (unfitCorner n L) _ (means-eq (unfitCorner n L) 0 .says b)
+      ∙ side-clear 4 (repeatedCorner L) rest (means-eq (repeatedCorner L) 0 .says c)
+
+  -- where a pairing with turn orders exists, checks 3 to 8 find nothing
+  pub ordered-answer : (π : ℕ → ℕ) → Ordered n L π → listAnswer n L ≡ gives (borders L) (edges L)
+  unfolding listAnswer
+  ordered-answer π x =
+      let g = good n L (record { rows = rows; pairing = π; ordered = x }) in
+      let (c, d) = pairing-exists n L (g .fit) .0 (partner L, g .pairing) in
+      rows-clear _
+      ∙ vertex-clear 5 (unusedVertex n L) _ (means-eq (unusedVertex n L) 0 .says (means-used n L .shows (g .used)))
+      ∙ side-clear 6 (crowdedSide L) _ c
+      ∙ side-clear 7 (alikeSide L) _ d
+      ∙ vertex-clear 8 (unorderedVertex n L) _ (means-eq (unorderedVertex n L) 0 .says (means-ordered n L (g .pairing) (g .used) .shows (g .orders)))
+
+  -- where none exists, one of the checks 5 to 8 finds something
+  pub unordered-answer : (((π : ℕ → ℕ) × Ordered n L π) → ⊥) → Late (listAnswer n L)
+  unfolding listAnswer
+  unordered-answer none =
+      let fit = means-fit n L .says rows in
+      subst Late (sym (rows-clear _))
+      (late-vertex 5 (unusedVertex n L) _ (omega arith) (omega arith)
+      (λ u.
+      late-side 6 (crowdedSide L) _ (omega arith) (omega arith)
+      (λ c.
+      late-side 7 (alikeSide L) _ (omega arith) (omega arith)
+      (λ a.
+      late-vertex 8 (unorderedVertex n L) _ (omega arith) (omega arith)
+      (λ o.
+      let p = the-pairing n L fit a in
+      let used = means-used n L .says (means-eq (unusedVertex n L) 0 .shows u) in
+      let orders = means-ordered n L p used .says (means-eq (unorderedVertex n L) 0 .shows o) in
+      absurd (none (partner L, record { pairing = p; used = used; orders = orders })))))))
+
+  module _ (w : Buffers) (sizes : T (callSizes n L (w .opposites))) (lengths : T (callLengths n L (w .opposites) (w .vertices) (w .work))) where
+    -- with fit lengths the answer is that of checks 3 to 9
+    fit-answer : buildAnswer n L w ≡ roomCheck (length (w .border)) (listAnswer n L)
+    unfolding buildAnswer lengthChecks
+    fit-answer =
+        rw (true-of (callSizes n L (w .opposites)) sizes, true-of (callLengths n L (w .opposites) (w .vertices) (w .work)) lengths, lengthChecks)
+
+    -- theorem 2: where a pairing with turn orders exists, only 9 remains, exactly when B2e is shorter than k
+    pub build-ordered : (π : ℕ → ℕ) → Ordered n L π → buildAnswer n L w ≡ roomCheck (length (w .border)) (gives (borders L) (edges L))
+    build-ordered π x = fit-answer ∙ ap (roomCheck (length (w .border))) (ordered-answer π x)
+
+    -- theorem 2: one of the refusals 5 to 8 exactly when no pairing with turn orders exists
+    pub build-late : Late (buildAnswer n L w) ↔ (((π : ℕ → ℕ) × Ordered n L π) → ⊥)
+    unfolding roomCheck
+    build-late = (
+      (λ (r, a, b, from, to, e) (π, x). not-late r a b from to (le-or-lt (borders L) (length (w .border))) (sym (build-ordered π x) ∙ e)),
+      (λ none.
+          let (r, a, b, from, to, e) = unordered-answer none in
+          (r, a, b, from, to, fit-answer ∙ ap (roomCheck (length (w .border))) e)),
+    )
+      where
+        not-late : (r a b : ℕ) → 5 ≤ r → r ≤ 8 → (borders L ≤ length (w .border)) ⊎ (length (w .border) < borders L) → roomCheck (length (w .border)) (gives (borders L) (edges L)) ≡ refused r a b → ⊥
+        not-late r a b from to (inl h) e =
+            let g = room-enough (length (w .border)) (borders L) (edges L) h in
+            let z : _≡_ {A = ℕ} 0 1 = cc in omega arith
+        not-late r a b from to (inr h) e =
+            let g = room-short (length (w .border)) (borders L) (edges L) h in
+            let z : r ≡ 9 = cc in omega arith
