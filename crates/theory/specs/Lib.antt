@@ -7,5 +7,6 @@ pub mod Tracing
 pub mod Walking
 pub mod Covering
 pub mod Deciding
+pub mod Described
 pub mod Answers
 pub mod Recovering

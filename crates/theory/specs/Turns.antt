@@ -23,7 +23,7 @@ module _ (L : List ℕ) where
   elements-e2e = omega (arith, length-e2e L)
 
   -- the side whose corner is the fourth of element f
-  fourth : (f : ℕ) → 1 ≤ f → sideAt (4 * (f - 1) + 3) ≡ 8 * f + 4
+  pub fourth : (f : ℕ) → 1 ≤ f → sideAt (4 * (f - 1) + 3) ≡ 8 * f + 4
   unfolding sideAt
   fourth f h = omega arith
 
@@ -37,7 +37,7 @@ module _ (L : List ℕ) where
       go (three z e) = absurd (c z)
       go (four z e) = omega arith
 
-  fourth-none : (f : ℕ) → corner L f 4 ≡ 0 → T (not (isSide L (8 * f + 4)))
+  pub fourth-none : (f : ℕ) → corner L f 4 ≡ 0 → T (not (isSide L (8 * f + 4)))
   fourth-none f c =
       not-T (isSide L (8 * f + 4))
       (λ a.
