@@ -114,6 +114,15 @@ count-le p m (suc n) h = go (test (p n)) (lt-or-eq m (suc n) (omega arith)) (λ 
 pub count-lt : (p : ℕ → Bool) (m n : ℕ) → m < n → T (p m) → count p m < count p n
 count-lt p m n h t = omega (arith, count-le p (suc m) n h, count-pass p m t)
 
+pub count-bound : (p : ℕ → Bool) (n : ℕ) → count p n ≤ n
+unfolding count
+count-bound p zero = omega arith
+count-bound p (suc n) = go (test (p n)) (count-bound p n)
+  where
+    go : Test (p n) → count p n ≤ n → count p (suc n) ≤ suc n
+    go (pass t e) h = omega (arith, count-pass p n t)
+    go (fail t e) h = omega (arith, count-fail p n t)
+
 -- places that pass have numbers of their own
 pub count-inj : (p : ℕ → Bool) (i j : ℕ) → T (p i) → T (p j) → count p i ≡ count p j → i ≡ j
 count-inj p i j t u e =

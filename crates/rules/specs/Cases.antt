@@ -12,12 +12,12 @@ use Rattle.lists.specs.Search.{least, count, upto, tab, zeros}
 use Rattle.rules.specs.Elements.{elements, sidesBy, isSide, slot, origin, nextNumber, next, sideAt, firstSide, countSides, firstVertex}
 use Rattle.rules.specs.Pairing.{alike, opposed, joins, sizesFit, unfitCorner, repeatedCorner, rowsFit}
 use Rattle.rules.specs.Tables.{partner, isBorder, b2e, borderNumber, borders, e2eEntry, e2e, borderInto, v2eEntry, v2e, edges}
-use Rattle.rules.specs.Recovery.{walkStart, turnBy, trace, walkTo, walk}
+use Rattle.rules.specs.Recovery.{sideOfBorder, walkStart, turnBy, trace, walkTo, walk}
 use Rattle.rules.specs.Refusals.{Answer, gives, refused, unusedVertex, crowdedSide, alikeSide, missed, unorderedVertex, sideCheck, vertexCheck, listAnswer, accepts}
 use Rattle.rules.specs.Refusals.{Buffers, callSizes, callLengths, lengthChecks, roomCheck, buildAnswer, after, onto, buildLeaves, recovers, recoverAnswer, recoverList}
 use Rattle.rules.specs.Queries.{Mesh, asked, defined, listed, listLeaves, andThen, prepend, readAll, follow, over, isBorderCode, isHalfEdge, isVertex}
 use Rattle.rules.specs.Queries.{readOpposite, readBorderSide, readVertexEntry, readOrigin, readDestination, borderNext, startSide, onward, ringSides}
-use Rattle.rules.specs.Queries.{ring, neighbours, loopNext, borderLoop, listAnswer as listingAnswer}
+use Rattle.rules.specs.Queries.{ring, neighbours, loopNext, borderLoop, listedAnswer}
 use Rattle.rules.specs.Queries.{ringAnswer, ringLeaves, neighboursAnswer, neighboursLeaves, borderLoopAnswer, borderLoopLeaves}
 
 -- an element's row, or a row of E2e; lists are rows joined by ++
@@ -144,5 +144,5 @@ cases =
 
 -- the rules give every row of the table
 pub cases-hold : T (every holds cases)
-unfolding quad tri blank room left built sameAnswer gave holds every listing listingE2e tetrahedron cases least count upto tab zeros same sidesBy isSide slot origin nextNumber next sideAt firstSide countSides firstVertex alike opposed joins sizesFit unfitCorner repeatedCorner rowsFit partner isBorder b2e borderNumber borders e2eEntry e2e borderInto v2eEntry v2e edges walkStart turnBy trace walkTo walk unusedVertex crowdedSide alikeSide missed unorderedVertex sideCheck vertexCheck listAnswer accepts callSizes callLengths lengthChecks roomCheck buildAnswer after onto buildLeaves recovers recoverAnswer recoverList asked defined listed listLeaves andThen prepend readAll follow over isBorderCode isHalfEdge isVertex readOpposite readBorderSide readVertexEntry readOrigin readDestination borderNext startSide onward ringSides ring neighbours loopNext borderLoop listingAnswer ringAnswer ringLeaves neighboursAnswer neighboursLeaves borderLoopAnswer borderLoopLeaves
+unfolding quad tri blank room left built sameAnswer gave holds every listing listingE2e tetrahedron cases least count upto tab zeros same sidesBy isSide slot origin nextNumber next sideAt firstSide countSides firstVertex alike opposed joins sizesFit unfitCorner repeatedCorner rowsFit partner isBorder b2e borderNumber borders e2eEntry e2e borderInto v2eEntry v2e edges sideOfBorder walkStart turnBy trace walkTo walk unusedVertex crowdedSide alikeSide missed unorderedVertex sideCheck vertexCheck listAnswer accepts callSizes callLengths lengthChecks roomCheck buildAnswer after onto buildLeaves recovers recoverAnswer recoverList asked defined listed listLeaves andThen prepend readAll follow over isBorderCode isHalfEdge isVertex readOpposite readBorderSide readVertexEntry readOrigin readDestination borderNext startSide onward ringSides ring neighbours loopNext borderLoop listedAnswer ringAnswer ringLeaves neighboursAnswer neighboursLeaves borderLoopAnswer borderLoopLeaves
 cases-hold = tt

@@ -59,7 +59,7 @@ pub record Ordered (n : ℕ) (L : List ℕ) (π : ℕ → ℕ) : Type 0 where
   pub used : (v : ℕ) → 1 ≤ v → v ≤ n → (s : ℕ) × SideAt L v s
   pub orders : (v : ℕ) → 1 ≤ v → v ≤ n → (o : List ℕ) × TurnOrder L π v o
 
--- check 1 on n and an element list: "n or m over its maximum, or element list not in fours"
+-- check 1, as far as it concerns n and the element list: "n or m over its maximum, or element list .. not in fours"
 unfoldable pub sizesFit : ℕ → List ℕ → Bool
 sizesFit n L = both (leb n maxVertex) (both (leb (elements L) maxElement) (eqb (length L) (4 * elements L)))
 

@@ -184,23 +184,23 @@ module _ (M : Mesh) where
   borderLoop b = follow (loopNext b) (length (M .border)) b
 
   -- "A list is written from the output's start, its count returned and the rest untouched"
-  unfoldable pub listAnswer : Bool → Option (List ℕ) → List ℕ → Answer
-  listAnswer there xs out = asked M (defined there (listed (length out) xs))
+  unfoldable pub listedAnswer : Bool → Option (List ℕ) → List ℕ → Answer
+  listedAnswer there xs out = asked M (defined there (listed (length out) xs))
 
   unfoldable pub ringAnswer : ℕ → List ℕ → Answer
-  ringAnswer v out = listAnswer (isVertex v) (ring v) out
+  ringAnswer v out = listedAnswer (isVertex v) (ring v) out
 
   unfoldable pub ringLeaves : ℕ → List ℕ → List ℕ
   ringLeaves v out = listLeaves (ringAnswer v out) (ring v) out
 
   unfoldable pub neighboursAnswer : ℕ → List ℕ → Answer
-  neighboursAnswer v out = listAnswer (isVertex v) (neighbours v) out
+  neighboursAnswer v out = listedAnswer (isVertex v) (neighbours v) out
 
   unfoldable pub neighboursLeaves : ℕ → List ℕ → List ℕ
   neighboursLeaves v out = listLeaves (neighboursAnswer v out) (neighbours v) out
 
   unfoldable pub borderLoopAnswer : ℕ → List ℕ → Answer
-  borderLoopAnswer b out = listAnswer (within 1 (length (M .border)) b) (borderLoop b) out
+  borderLoopAnswer b out = listedAnswer (within 1 (length (M .border)) b) (borderLoop b) out
 
   unfoldable pub borderLoopLeaves : ℕ → List ℕ → List ℕ
   borderLoopLeaves b out = listLeaves (borderLoopAnswer b out) (borderLoop b) out

@@ -1,14 +1,14 @@
 -- Document 01, "Recovery".
 -- Assumes nothing.
 use mathlib.Core.Path.{_≡_}
-use mathlib.Core.Bool.{Bool, true, false}
+use mathlib.Core.Bool.{true, false}
 use mathlib.Core.List.{List}
 use Prim.Native.Nat.{ℕ, zero, suc}
-use lib.Dec.{eqb}
+use lib.Dec.{leb, eqb}
 use lib.ListN.{length, set, replicate}
 use Rattle.lists.specs.Tests.{both}
 use Rattle.lists.specs.Search.{at, zeros}
-use Rattle.rules.specs.Elements.{number, isSide, slot, next, firstSide}
+use Rattle.rules.specs.Elements.{element, number, isSide, slot, next, firstSide}
 use Rattle.rules.specs.Pairing.{Accepted}
 use Rattle.rules.specs.Tables.{e2eSlot, v2e, e2e}
 
@@ -22,13 +22,16 @@ pub record HasTables (n : ℕ) (L V2e E2e : List ℕ) : Type 0 where
 -- The walk over a V2e and an E2e of any content, which gives every accepted list back from its tables. A triangle's fourth entry is 0 in
 -- E2e as in the element list, so the sides that E2e speaks of are `isSide E2e`.
 
+-- the least side whose entry is the border c; 0 where there is none. There are no more borders than entries
+unfoldable pub sideOfBorder : List ℕ → ℕ → ℕ
+sideOfBorder E2e c =
+    elim (leb (element c) (length E2e)) [ true ↦ firstSide E2e (λ t. eqb (at E2e (e2eSlot t)) c) | false ↦ 0 ]
+
 -- the side where the walk about a vertex begins: its V2e entry, or for a border the side following the one with this border
 unfoldable pub walkStart : List ℕ → ℕ → ℕ
 walkStart E2e c =
-    elim (eqb (number c) 0) [
-      | true ↦ let s = firstSide E2e (λ t. eqb (at E2e (e2eSlot t)) c) in elim (eqb s 0) [ true ↦ 0 | false ↦ next E2e s ]
-      | false ↦ c
-    ]
+    elim (eqb (number c) 0)
+    [ true ↦ elim (eqb (sideOfBorder E2e c) 0) [ true ↦ 0 | false ↦ next E2e (sideOfBorder E2e c) ] | false ↦ c ]
 
 -- the turn of s by E2e; 0 where it has none
 unfoldable pub turnBy : List ℕ → ℕ → ℕ

@@ -1,19 +1,18 @@
 -- Document 01, "Lengths and refusals": what build and recovery answer, and what every buffer holds after them.
 -- Assumes nothing.
-use mathlib.Core.Path.{_≡_}
 use mathlib.Core.Bool.{Bool, true, false, not}
 use mathlib.Core.List.{List, _++_}
 use Prim.Native.Nat.{ℕ, _+_, _*_}
-use lib.Dec.{T, leb, eqb}
+use lib.Dec.{leb, eqb}
 use lib.ListN.{length, drop, replicate}
 use Rattle.lists.specs.Tests.{both, same}
 use Rattle.lists.specs.Search.{at}
 use Rattle.rules.specs.Elements.{elements, element, number, slot, origin, firstSide, countSides, firstVertex}
 use Rattle.rules.specs.Pairing.{alike, joins, sizesFit, unfitCorner, repeatedCorner, rowsFit}
-use Rattle.rules.specs.Tables.{columns, borders, b2e, e2e, v2e, edges}
+use Rattle.rules.specs.Tables.{borders, b2e, e2e, v2e, edges}
 use Rattle.rules.specs.Recovery.{walk}
 
--- "the answer or the refusal number": two numbers of an answer; or a refusal's number and "The place is two numbers"
+-- "counts, or refusal and place": an answer's two numbers; or a refusal's number and its place, which "is two numbers"
 pub data Answer : Type 0 where
   gives : ℕ → ℕ → Answer
   refused : ℕ → ℕ → ℕ → Answer
@@ -31,7 +30,7 @@ unfoldable pub alikeSide : List ℕ → ℕ
 alikeSide L = firstSide L (λ s. not (eqb (firstSide L (λ t. both (not (eqb s t)) (alike L s t))) 0))
 
 -- 8: "no turn order"; "least vertex". The walk over the tables meets all sides at a vertex exactly where it has a turn order
--- (theory, `Orders`): W is what the walk wrote, and v has a side that it left out
+-- (theory, `Covering`): W is what the walk wrote, and v has a side that it left out
 unfoldable pub missed : List ℕ → List ℕ → ℕ → Bool
 missed L W v = not (eqb (firstSide L (λ s. both (eqb (origin L s) v) (not (eqb (at W (slot s)) v)))) 0)
 

@@ -11,7 +11,7 @@ use lib.ListN.{length, List·getD-eq-default}
 use Rattle.lists.specs.Tests.{both}
 use Rattle.lists.specs.TestLaws.{Test, pass, fail, test, true-of, false-of, Means, means-itself, decide, passes, both-pass, means-both, means-not, means-eq, means-lt, zero-or}
 use Rattle.lists.specs.Search.{at, count, upto, tab}
-use Rattle.lists.specs.SearchLaws.{length-tab, at-tab, length-upto, at-upto, count-lt, count-inj, count-find, le-not-lt}
+use Rattle.lists.specs.SearchLaws.{length-tab, at-tab, length-upto, at-upto, count-lt, count-inj, count-find, count-bound, le-not-lt}
 use Rattle.rules.specs.Elements.{elements, corner, sides, isSide, Side, slot, origin, destination, next, sideAt, sideWith, firstSide, countSides}
 use Rattle.rules.specs.Tables.{partner, isBorder, b2e, borderNumber, borders, e2eEntry, e2e, borderInto, v2eEntry, v2e}
 use Rattle.theory.specs.Sides.{First, nobody, somebody, first-side, SidesBy, three, four, sides-by, side-facts, sideAt-slot, slot-sideAt, slot-below, slot-less, slot-inj, side-positive}
@@ -87,6 +87,11 @@ module _ (L : List ℕ) where
   unfolding borderNumber borders countSides
   number-to s a z =
       omega (arith, count-lt (sideWith L (isBorder L)) (slot s) (length L) (slot-below L s a) (border-with s a z))
+
+  -- there are no more borders than entries
+  pub number-le : (s : ℕ) → Side L s → borderNumber L s ≤ 4 * elements L
+  unfolding borderNumber slot
+  number-le s a = omega (arith, count-bound (sideWith L (isBorder L)) (slot s), side-facts L s a)
 
   -- "border sides in order of code get b = 1, 2, .."
   pub number-less : (s t : ℕ) → Side L s → partner L s ≡ 0 → Side L t → partner L t ≡ 0 → s < t → borderNumber L s < borderNumber L t

@@ -6,17 +6,17 @@ use mathlib.Core.Logic.{_⊎_, inl, inr}
 use mathlib.Core.List.{List}
 use Prim.Native.Nat.{ℕ, suc, _+_, _*_, _-_, _/_, _%_, _≤_, _<_}
 use native.Mathlib.Omega.{arith}
-use lib.Dec.{T, eqb, T-not, not-T}
+use lib.Dec.{T, leb, eqb, T-not, not-T}
 use lib.ListN.{length}
-use Rattle.lists.specs.TestLaws.{Test, pass, fail, test, true-of, false-of, Means, decide, means-not, means-eq, zero-or}
+use Rattle.lists.specs.TestLaws.{Test, pass, fail, test, true-of, false-of, Means, decide, means-not, means-eq, means-le, zero-or}
 use Rattle.lists.specs.Search.{at}
 use Rattle.rules.specs.Elements.{elements, corner, element, number, sides, sidesBy, isSide, Side, slot, origin, destination, next, nextNumber, sideAt, firstSide}
 use Rattle.rules.specs.Pairing.{opposed}
 use Rattle.rules.specs.Tables.{partner, borderNumber, e2e}
-use Rattle.rules.specs.Recovery.{walkStart, turnBy}
+use Rattle.rules.specs.Recovery.{sideOfBorder, walkStart, turnBy}
 use Rattle.theory.specs.Sides.{First, nobody, somebody, first-side, first-found, SidesBy, three, four, sides-by, SideFacts, side-facts, side-of, side-positive, sideAt-slot, slot-sideAt}
 use Rattle.theory.specs.Pairings.{partner-opposed, means-opposed}
-use Rattle.theory.specs.Entries.{length-e2e, e2e-paired, e2e-border, e2e-empty, e2e-nonzero, border-no-side, number-from, number-inj}
+use Rattle.theory.specs.Entries.{length-e2e, e2e-paired, e2e-border, e2e-empty, e2e-nonzero, border-no-side, number-from, number-le, number-inj}
 
 module _ (L : List ℕ) where
   pub elements-e2e : elements (e2e L) ≡ elements L
@@ -115,11 +115,19 @@ module _ (L : List ℕ) where
           let c = side-e2e r b in
           absurd (border-no-side L L (borderNumber L s) (rw (sym (e2e-paired L r c w) ∙ e) at (partner-opposed L r w .0)))
 
+  rim-side : (s : ℕ) → Side L s → partner L s ≡ 0 → sideOfBorder (e2e L) (8 * borderNumber L s) ≡ s
+  unfolding sideOfBorder entryIs
+  rim-side s a z =
+      let c = 8 * borderNumber L s in
+      let h : c / 8 ≤ length (e2e L) = omega (arith, length-e2e L, number-le L s a) in
+      rw (true-of (leb (c / 8) (length (e2e L))) (means-le (c / 8) (length (e2e L)) .shows h), sideOfBorder)
+      (rim-found s (firstSide (e2e L) (entryIs c)) a z (first-side (e2e L) (entryIs c)))
+
   pub start-rim : (s : ℕ) → Side L s → partner L s ≡ 0 → walkStart (e2e L) (8 * borderNumber L s) ≡ next L s
-  unfolding walkStart entryIs
+  unfolding walkStart
   start-rim s a z =
       let c = 8 * borderNumber L s in
-      let e = rim-found s (firstSide (e2e L) (entryIs c)) a z (first-side (e2e L) (entryIs c)) in
+      let e = rim-side s a z in
       let m : c % 8 ≡ 0 = omega arith in
       rw (true-of (eqb (c % 8) 0) (means-eq (c % 8) 0 .shows m), walkStart)
       (rw (e, false-of (eqb s 0) (means-not (means-eq s 0) .shows (side-positive L s a))) (ap (next (e2e L)) e ∙ next-e2e s a))
@@ -129,11 +137,17 @@ module _ (L : List ℕ) where
   start-side s a =
       rw (false-of (eqb (s % 8) 0) (means-not (means-eq (s % 8) 0) .shows (λ e. omega (arith, side-facts L s a))), walkStart)
 
+  none-found : (r : ℕ) → First (e2e L) (entryIs 0) r → r ≡ 0
+  unfolding entryIs
+  none-found r (nobody e f) = e
+  none-found r (somebody a t f) = absurd (e2e-nonzero L r (side-e2e r a) (means-eq _ _ .says t))
+
+  none-side : sideOfBorder (e2e L) 0 ≡ 0
+  unfolding sideOfBorder entryIs
+  none-side =
+      rw (true-of (leb 0 (length (e2e L))) (means-le 0 (length (e2e L)) .shows (omega arith)), sideOfBorder)
+      (none-found (firstSide (e2e L) (entryIs 0)) (first-side (e2e L) (entryIs 0)))
+
   pub start-none : walkStart (e2e L) 0 ≡ 0
-  unfolding walkStart entryIs
-  start-none = go (first-side (e2e L) (entryIs 0))
-    where
-      go : First (e2e L) (entryIs 0) (firstSide (e2e L) (entryIs 0)) → walkStart (e2e L) 0 ≡ 0
-      go (nobody e f) = rw (e, walkStart)
-      go (somebody a t f) =
-          absurd (e2e-nonzero L (firstSide (e2e L) (entryIs 0)) (side-e2e _ a) (means-eq _ _ .says t))
+  unfolding walkStart
+  start-none = rw (none-side, walkStart)

@@ -1,0 +1,19 @@
+-- The numbers of document 01 for each case of the enum, and their packing.
+-- Assumes nothing.
+use Prim.Native.Nat.{ℕ, _+_, _*_, _%_}
+use Rattle.rules.specs.Refusals.{Answer as Stated, gives, refused}
+use Rattle.answer.specs.declared.Answer.{Answer}
+use Rattle.answer.specs.declared.Answer.the-variants.{Gives, Refused}
+
+-- "For an answer that is an enum, a definition gives this paper's number and values for each of its cases"
+abbrev pub numbers : Answer → Stated
+numbers (Gives a b) = gives a b
+numbers (Refused r a b) = refused r a b
+
+-- the refusal number (0: an answer) in bits 56 to 63, the first number in bits 28 to 55, the second in bits 0 to 27
+abbrev pub packed : ℕ → ℕ → ℕ → ℕ
+packed r a b = (r % 256) * 72_057_594_037_927_936 + (a % 268_435_456) * 268_435_456 + b % 268_435_456
+
+abbrev pub packedAnswer : Stated → ℕ
+packedAnswer (gives a b) = packed 0 a b
+packedAnswer (refused r a b) = packed r a b

@@ -1,0 +1,44 @@
+// What the public calls answer, and the one 64-bit number in which a host gets it.
+ghost use mathlib.Core.Path.{_≡_};
+ghost use Rattle.answer.specs.Numbers.{numbers, packed, packedAnswer};
+
+// An answer's two numbers; or a refusal with its number and the two numbers of its place.
+pub enum Answer {
+    Gives {
+        first: u32,
+        second: u32,
+    },
+    Refused {
+        number: u32,
+        first: u32,
+        second: u32,
+    },
+}
+
+fn wide(x: u32) -> u64
+    ensures { λ r. ⌜ r ≡ x ⌝ }
+{
+    x as u64
+}
+
+// The three numbers side by side: 8 bits for the refusal, 28 for each of the two others.
+fn join(number: u32, first: u32, second: u32) -> u64
+    ensures { λ r. ⌜ r ≡ packed number first second ⌝ }
+{
+    let high = wide(number % 256) * 72_057_594_037_927_936;
+    let middle = wide(first % 268_435_456) * 268_435_456;
+    high + middle + wide(second % 268_435_456)
+}
+
+pub fn pack(a: Answer) -> u64
+    ensures { λ r. ⌜ r ≡ packedAnswer (numbers a) ⌝ }
+{
+    match a {
+        Answer::Gives { first, second } => join(0, first, second),
+        Answer::Refused {
+            number,
+            first,
+            second,
+        } => join(number, first, second),
+    }
+}
