@@ -3,4 +3,5 @@ pub mod Pairings
 pub mod Entries
 pub mod Turns
 pub mod Orders
+pub mod Follows
 pub mod Cases
