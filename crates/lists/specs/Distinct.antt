@@ -1,11 +1,13 @@
--- Numbers from 1 to m that all differ are at most m.
+-- Bounds: numbers from 1 to m that all differ are at most m, and a count of places below n is at most n.
 -- Assumes nothing.
 use mathlib.Core.Path.{_≡_, refl, ap, sym, _∙_}
-use mathlib.Core.Bool.{true, false}
+use mathlib.Core.Bool.{Bool, true, false}
 use Prim.Native.Nat.{ℕ, zero, suc, _≤_, _<_}
 use native.Mathlib.Omega.{arith}
 use lib.Dec.{eqb}
 use Rattle.lists.specs.TestLaws.{Test, pass, fail, test, means-not, means-eq}
+use Rattle.lists.specs.Search.{count}
+use Rattle.lists.specs.SearchLaws.{count-pass, count-fail}
 
 -- f with its value at the last place put where f is m
 without : ℕ → (ℕ → ℕ) → ℕ → ℕ
@@ -39,3 +41,12 @@ crowded (suc m) f inside apart = crowded m (without (suc m) f) (λ i h. within�
     apart′ i j h k (stays e p) (stays f q) s = apart i j (omega arith) (omega arith) (sym p ∙ s ∙ q)
     apart′ i j h k (moved e p) (stays f q) s = omega (arith, apart (suc m) j (omega arith) (omega arith) (sym p ∙ s ∙ q))
     apart′ i j h k (stays e p) (moved f q) s = omega (arith, apart i (suc m) (omega arith) (omega arith) (sym p ∙ s ∙ q))
+
+pub count-bound : (p : ℕ → Bool) (n : ℕ) → count p n ≤ n
+unfolding count
+count-bound p zero = omega arith
+count-bound p (suc n) = go (test (p n)) (count-bound p n)
+  where
+    go : Test (p n) → count p n ≤ n → count p (suc n) ≤ suc n
+    go (pass t e) h = omega (arith, count-pass p n t)
+    go (fail t e) h = omega (arith, count-fail p n t)

@@ -4,4 +4,5 @@ pub mod Entries
 pub mod Turns
 pub mod Orders
 pub mod Follows
+pub mod Built
 pub mod Cases
