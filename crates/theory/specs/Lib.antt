@@ -5,4 +5,6 @@ pub mod Turns
 pub mod Orders
 pub mod Follows
 pub mod Built
+pub mod Rims
+pub mod Rings
 pub mod Cases
