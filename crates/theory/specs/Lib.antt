@@ -5,6 +5,7 @@ pub mod Turns
 pub mod Orders
 pub mod Follows
 pub mod Built
+pub mod Reads
 pub mod Rims
 pub mod Rings
 pub mod Cases

@@ -20,12 +20,8 @@ use Rattle.theory.specs.Pairings.{partner-opposed}
 use Rattle.theory.specs.Orders.{Good, turn-origin, turn-inj, after-border, first-after, begins}
 use Rattle.theory.specs.Follows.{Trail, Steady, Followed, followed}
 use Rattle.theory.specs.Built.{built, by-side, by-border, read-paired, read-border, read-border-side, ReadEntry, rim, inner, read-entry}
+use Rattle.theory.specs.Reads.{and-then, Mapped, read-all}
 use Rattle.theory.specs.Rims.{BorderInto, border-leads}
-
--- what is read from what was read
-pub and-then {ℓ} : {A : Type ℓ} {r : Option ℕ} {x : ℕ} (f : ℕ → Option A) → r ≡ some x → andThen r f ≡ f x
-unfolding andThen
-and-then f e = ap (λ r. andThen r f) e
 
 -- what comes after side s in the ring that begins at start
 pub data Onward (n : ℕ) (L : List ℕ) (start s : ℕ) : Type 0 where
@@ -184,3 +180,63 @@ module _ (n : ℕ) (L : List ℕ) (g : Good n L) (v : ℕ) (h : 1 ≤ v) (k : v 
               let c = f .stops in
               let c′ : t ≡ 0 = cc in
               absurd (side-positive L t (turn-origin L (g .pairing) (at o (length o - 1)) t (f .trail .inside (length o - 1) (omega (arith, f .trail .nonempty)) .0) u .0) c′)
+
+-- the ring of v: its start, its sides
+pub record RingOf (n : ℕ) (L : List ℕ) (v : ℕ) : Type 0 where
+  pub start : ℕ
+  pub found : startSide (built n L) v ≡ some start
+  pub whence : Start L v start
+  pub sides : List ℕ
+  pub listed : ringSides (built n L) v ≡ some sides
+  pub steps : Followed (SideAt L v) (onward (built n L) start) (elements L) start sides
+  pub order : TurnOrder L (partner L) v sides
+
+-- f is an element with a corner v
+abbrev pub About : List ℕ → ℕ → ℕ → Type 0
+About L v f = (s : ℕ) × SideAt L v s × (element s ≡ f)
+
+-- es lists every element with a corner v exactly once
+pub record ListsOnce (L : List ℕ) (v : ℕ) (es : List ℕ) : Type 0 where
+  pub sound : (i : ℕ) → i < length es → About L v (at es i)
+  pub complete : (f : ℕ) → About L v f → (i : ℕ) × (i < length es) × (at es i ≡ f)
+  pub once : (i j : ℕ) → i < length es → j < length es → at es i ≡ at es j → i ≡ j
+
+-- an element has one side with a given origin at most, so the elements of a turn order are listed once
+lists-once : (n : ℕ) (L : List ℕ) → Fit n L → (v : ℕ) (o es : List ℕ) → TurnOrder L (partner L) v o → Mapped (λ s. element s) o es → ListsOnce L v es
+lists-once n L fit v o es x m =
+    record {
+      sound = λ i h. let h′ : i < length o = omega (arith, m .size) in (at o i, x .sides i h′, sym (m .entries i h′));
+      complete = λ f (s, a, e).
+          let (i, h, q) = x .all s a in (i, (omega (arith, m .size)), m .entries i h ∙ ap (λ (t : ℕ). element t) q ∙ e);
+      once = λ i j h k e.
+          let h′ : i < length o = omega (arith, m .size) in
+          let k′ : j < length o = omega (arith, m .size) in
+          let (a, p) = x .sides i h′ in
+          let (b, q) = x .sides j k′ in
+          x .once i j h′ k′ (fit .differ (at o i) (at o j) a b (sym (m .entries i h′) ∙ e ∙ m .entries j k′) (p ∙ sym q));
+    }
+
+module _ (n : ℕ) (L : List ℕ) (g : Good n L) (v : ℕ) (h : 1 ≤ v) (k : v ≤ n) where
+  pub the-ring : RingOf n L v
+  unfolding ringSides
+  the-ring =
+      let (s, e, b, st) = start n L g v h k in
+      let (o, q, f) = followed (SideAt L v) (onward (built n L) s) (elements L) s (λ x. element x) (ring-steady n L g v h k s b) in
+      let (y, x) = g .orders v h k in
+      record {
+        start = s;
+        found = e;
+        whence = st;
+        sides = o;
+        listed = and-then _ e ∙ q;
+        steps = f;
+        order = ring-order n L g v h k s b st o f y x;
+      }
+
+  -- theorem 6: the ring lists every element with this corner exactly once
+  pub ring-lists : (es : List ℕ) × (ring (built n L) v ≡ some es) × ListsOnce L v es × Mapped (λ s. element s) (the-ring .sides) es
+  unfolding ring over
+  ring-lists =
+      let r = the-ring in
+      let (es, e, m) = read-all (λ s. some (element s)) (λ s. element s) (r .sides) (λ i l. refl) in
+      (es, ap (over (λ s. some (element s))) (r .listed) ∙ e, lists-once n L (g .fit) v (r .sides) es (r .order) m, m)
