@@ -8,4 +8,8 @@ pub mod Built
 pub mod Reads
 pub mod Rims
 pub mod Rings
+pub mod Opposites
+pub mod Loops
+pub mod Neighbours
+pub mod Answers
 pub mod Cases
