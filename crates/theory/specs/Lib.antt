@@ -12,4 +12,5 @@ pub mod Opposites
 pub mod Loops
 pub mod Neighbours
 pub mod Answers
+pub mod Walkers
 pub mod Cases
