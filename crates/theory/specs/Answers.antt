@@ -1,20 +1,20 @@
 -- Refusal 12 never comes on built tables.
 -- Assumes nothing.
-use mathlib.Core.Path.{_≡_, refl, ap, sym, subst, _∙_}
+use mathlib.Core.Path.{_≡_, refl, ap, sym, _∙_}
 use mathlib.Core.Bool.{Bool, true, false}
 use mathlib.Core.Logic.{_⊎_, inl, inr}
-use mathlib.Core.Option.{Option, none, some}
+use mathlib.Core.Option.{Option, some}
 use mathlib.Core.List.{List}
 use Prim.Native.Nat.{ℕ, _*_, _≤_}
 use native.Mathlib.Omega.{arith}
 use lib.Dec.{T, leb}
 use lib.ListN.{length}
 use Rattle.lists.specs.Tests.{within}
-use Rattle.lists.specs.TestLaws.{Test, pass, fail, test, means-itself, means-within, zero-or}
+use Rattle.lists.specs.TestLaws.{Test, pass, fail, test, means-within, zero-or}
 use Rattle.rules.specs.Elements.{element, Side, isSide, origin, destination, next, previous}
 use Rattle.rules.specs.Tables.{partner, borderNumber, b2e}
 use Rattle.rules.specs.Refusals.{Answer, gives, refused}
-use Rattle.rules.specs.Queries.{asked, defined, found, listed, andThen, bySide, isHalfEdge, isVertex, readOpposite, readBorderSide, readVertexEntry, readOrigin, readDestination, opposite, borderNext, startSide, ring, neighbours, borderLoop, listAnswer, oppositeAnswer, nextAnswer, previousAnswer, elementAnswer, originAnswer, destinationAnswer, acrossAnswer, halfEdgeBorderAnswer, vertexBorderAnswer, ringAnswer, neighboursAnswer, borderLoopAnswer, startAnswer}
+use Rattle.rules.specs.Queries.{asked, defined, found, listed, andThen, bySide, isHalfEdge, isVertex, readOpposite, readBorderSide, readVertexEntry, readOrigin, readDestination, opposite, borderNext, ring, neighbours, borderLoop, listAnswer, oppositeAnswer, nextAnswer, previousAnswer, elementAnswer, originAnswer, destinationAnswer, acrossAnswer, halfEdgeBorderAnswer, vertexBorderAnswer, ringAnswer, neighboursAnswer, borderLoopAnswer, startAnswer}
 use Rattle.theory.specs.Entries.{length-b2e}
 use Rattle.theory.specs.Orders.{Good}
 use Rattle.theory.specs.Built.{built, asked-built, HalfEdge, side, border, by-side, by-border, means-half, means-vertex, read-paired, read-border, read-border-side, read-origin, read-destination, ReadEntry, rim, inner, read-entry}

@@ -1,24 +1,24 @@
 -- Built tables: checks 1 and 2 pass on them, their half-edges, and what each read on them gives.
 -- Assumes nothing.
-use mathlib.Core.Path.{_≡_, refl, ap, sym, subst, _∙_}
-use mathlib.Core.Bool.{Bool, true, false, not}
+use mathlib.Core.Path.{_≡_, refl, ap, sym, _∙_}
+use mathlib.Core.Bool.{Bool, true, false}
 use mathlib.Core.Logic.{_⊎_, inl, inr}
-use mathlib.Core.Option.{Option, none, some}
+use mathlib.Core.Option.{some}
 use mathlib.Core.List.{List}
-use Prim.Native.Nat.{ℕ, suc, _+_, _*_, _-_, _/_, _%_, _≤_, _<_}
+use Prim.Native.Nat.{ℕ, _*_, _-_, _/_, _%_, _≤_}
 use native.Mathlib.Omega.{arith}
-use lib.Dec.{T, leb, eqb, T-not}
+use lib.Dec.{T, eqb, T-not}
 use lib.ListN.{length}
 use Rattle.lists.specs.Tests.{both}
-use Rattle.lists.specs.TestLaws.{true-of, false-of, Means, passes, both-pass, means-itself, means-both, means-either, means-not, means-eq, means-le, means-within, zero-or}
+use Rattle.lists.specs.TestLaws.{true-of, false-of, Means, passes, both-pass, means-itself, means-both, means-either, means-not, means-eq, means-le, means-within}
 use Rattle.lists.specs.Search.{at}
 use Rattle.lists.specs.Distinct.{count-bound}
-use Rattle.rules.specs.Elements.{elements, isSide, Side, slot, origin, destination, next, sideWith, countSides, firstSide}
-use Rattle.rules.specs.Pairing.{SideAt, Accepted, rowsFit, sizesFit, unfitCorner, repeatedCorner}
+use Rattle.rules.specs.Elements.{elements, isSide, Side, origin, destination, sideWith, countSides}
+use Rattle.rules.specs.Pairing.{SideAt, rowsFit, sizesFit, unfitCorner, repeatedCorner}
 use Rattle.rules.specs.Tables.{partner, isBorder, b2e, borderNumber, borders, e2e, v2e}
-use Rattle.rules.specs.Refusals.{Answer, gives, refused, callSizes, lengthChecks}
+use Rattle.rules.specs.Refusals.{Answer, callSizes, lengthChecks}
 use Rattle.rules.specs.Queries.{Mesh, asked, read, bySide, isBorderCode, isHalfEdge, isVertex, readOpposite, readBorderSide, readVertexEntry, readOrigin, readDestination}
-use Rattle.theory.specs.Sides.{Fit, means-fit, First, nobody, somebody, side-facts, next-side}
+use Rattle.theory.specs.Sides.{Fit, means-fit, nobody, somebody, side-facts, next-side}
 use Rattle.theory.specs.Pairings.{partner-opposed}
 use Rattle.theory.specs.Entries.{length-e2e, length-v2e, length-b2e, e2e-paired, e2e-border, b2e-border, number-from, number-to, numbered-border, VertexEntry, vertex-entry}
 use Rattle.theory.specs.Turns.{elements-e2e}

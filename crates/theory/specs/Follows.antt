@@ -1,15 +1,14 @@
 -- Following a step that is one to one and never returns to its start: it stops in time, and meets nothing twice.
 -- Assumes nothing.
 use mathlib.Core.Path.{_≡_, refl, ap, sym, _∙_}
-use mathlib.Core.Bool.{Bool, true, false}
 use mathlib.Core.Logic.{_⊎_, inl, inr}
-use mathlib.Core.Option.{Option, none, some}
+use mathlib.Core.Option.{Option, some}
 use mathlib.Core.List.{List, [], _∷_}
 use Prim.Native.Nat.{ℕ, zero, suc, _-_, _≤_, _<_}
 use native.Mathlib.Omega.{arith}
 use lib.Dec.{eqb}
 use lib.ListN.{length}
-use Rattle.lists.specs.TestLaws.{true-of, false-of, means-eq, means-not, zero-or, decide, means-lt}
+use Rattle.lists.specs.TestLaws.{true-of, false-of, means-eq, means-not, zero-or}
 use Rattle.lists.specs.Search.{at}
 use Rattle.lists.specs.SearchLaws.{le-not-lt}
 use Rattle.lists.specs.Distinct.{crowded}

@@ -1,23 +1,21 @@
 -- The border loop of a border of built tables: it returns to its start within k steps and lists nothing twice.
 -- Assumes nothing.
-use mathlib.Core.Path.{_≡_, refl, ap, sym, subst, _∙_}
-use mathlib.Core.Bool.{Bool, true, false, not}
+use mathlib.Core.Path.{_≡_, refl, ap, sym, _∙_}
 use mathlib.Core.Logic.{_⊎_, inl, inr}
-use mathlib.Core.Option.{Option, none, some}
+use mathlib.Core.Option.{some}
 use mathlib.Core.List.{List}
-use Prim.Native.Nat.{ℕ, suc, _+_, _*_, _-_, _/_, _%_, _≤_, _<_}
+use Prim.Native.Nat.{ℕ, _*_, _-_, _/_, _≤_, _<_}
 use native.Mathlib.Omega.{arith}
-use lib.Dec.{T, eqb}
+use lib.Dec.{eqb}
 use lib.ListN.{length}
 use Rattle.lists.specs.TestLaws.{true-of, false-of, decide, means-not, means-eq}
 use Rattle.lists.specs.Search.{at}
-use Rattle.rules.specs.Elements.{element, Side, origin, destination, next}
-use Rattle.rules.specs.Pairing.{Pairing, TurnOrder}
+use Rattle.rules.specs.Elements.{Side, origin, destination}
 use Rattle.rules.specs.Tables.{partner, borderNumber, borders, b2e, v2e}
-use Rattle.rules.specs.Queries.{andThen, isBorderCode, borderNext, loopNext, borderLoop}
+use Rattle.rules.specs.Queries.{isBorderCode, borderNext, loopNext, borderLoop}
 use Rattle.theory.specs.Entries.{length-b2e, number-from, number-to, number-inj, numbered-border, VertexEntry, rim, inner, vertex-entry}
 use Rattle.theory.specs.Orders.{Good}
-use Rattle.theory.specs.Follows.{Trail, Steady, Followed, followed}
+use Rattle.theory.specs.Follows.{Steady, followed}
 use Rattle.theory.specs.Built.{built, border-code, read-valid, read-border-side, read-origin}
 use Rattle.theory.specs.Reads.{and-then}
 use Rattle.theory.specs.Rims.{BorderInto, border-leads, one-border-from}

@@ -2,25 +2,24 @@
 -- Assumes nothing.
 use mathlib.Core.Path.{_≡_, refl, ap, sym, _∙_}
 use mathlib.Core.Logic.{_⊎_, inl, inr}
-use mathlib.Core.Option.{Option, none, some}
-use mathlib.Core.List.{List, [], _∷_}
-use Prim.Native.Nat.{ℕ, zero, suc, _*_, _≤_, _<_}
+use mathlib.Core.Option.{some}
+use mathlib.Core.List.{List, _∷_}
+use Prim.Native.Nat.{ℕ, zero, suc, _≤_, _<_}
 use native.Mathlib.Omega.{arith}
-use lib.Dec.{T}
 use lib.ListN.{length}
 use Rattle.lists.specs.TestLaws.{means-eq, zero-or}
 use Rattle.lists.specs.Search.{at}
 use Rattle.rules.specs.Elements.{Side, origin, destination}
-use Rattle.rules.specs.Pairing.{Pairing, SideAt, TurnOrder, alike}
+use Rattle.rules.specs.Pairing.{SideAt, TurnOrder}
 use Rattle.rules.specs.Tables.{partner, borderNumber}
-use Rattle.rules.specs.Queries.{andThen, prepend, over, bySide, readDestination, ringSides, neighbours}
-use Rattle.theory.specs.Sides.{Fit, ends-differ, side-positive}
+use Rattle.rules.specs.Queries.{prepend, over, readDestination, ringSides, neighbours}
+use Rattle.theory.specs.Sides.{ends-differ, side-positive}
 use Rattle.theory.specs.Pairings.{means-alike, means-opposed, means-joins, means-no-alike, pairing-exists}
 use Rattle.theory.specs.Orders.{Good, one-border-into}
 use Rattle.theory.specs.Built.{built, by-side, by-border, read-border-side, read-origin, read-destination, ReadEntry, rim, inner, read-entry}
 use Rattle.theory.specs.Reads.{and-then, Mapped, read-all}
 use Rattle.theory.specs.Rims.{BorderInto}
-use Rattle.theory.specs.Rings.{RingOf, the-ring}
+use Rattle.theory.specs.Rings.{the-ring}
 
 -- a side runs between u and v, in either direction
 pub data Joined (L : List ℕ) (v u : ℕ) : Type 0 where

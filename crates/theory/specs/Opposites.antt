@@ -2,7 +2,7 @@
 -- Assumes nothing.
 use mathlib.Core.Path.{_≡_, refl, ap, sym, _∙_}
 use mathlib.Core.Logic.{_⊎_, inl, inr}
-use mathlib.Core.Option.{Option, none, some}
+use mathlib.Core.Option.{some}
 use mathlib.Core.List.{List}
 use Prim.Native.Nat.{ℕ, _*_}
 use lib.Dec.{T}
@@ -10,7 +10,7 @@ use Rattle.lists.specs.TestLaws.{zero-or}
 use Rattle.rules.specs.Elements.{Side}
 use Rattle.rules.specs.Pairing.{Pairing}
 use Rattle.rules.specs.Tables.{partner, borderNumber}
-use Rattle.rules.specs.Queries.{isHalfEdge, bySide, opposite}
+use Rattle.rules.specs.Queries.{isHalfEdge, opposite}
 use Rattle.theory.specs.Sides.{side-positive}
 use Rattle.theory.specs.Built.{built, HalfEdge, side, border, by-side, by-border, means-half, read-paired, read-border, read-border-side}
 

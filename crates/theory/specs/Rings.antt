@@ -1,27 +1,26 @@
 -- The ring of a vertex of built tables: its sides are a turn order, its elements are those with this corner, each one once.
 -- Assumes nothing.
-use mathlib.Core.Path.{_≡_, refl, ap, sym, subst, _∙_}
-use mathlib.Core.Bool.{Bool, true, false, not}
+use mathlib.Core.Path.{_≡_, refl, ap, sym, _∙_}
 use mathlib.Core.Logic.{_⊎_, inl, inr}
-use mathlib.Core.Option.{Option, none, some}
-use mathlib.Core.List.{List, [], _∷_}
-use Prim.Native.Nat.{ℕ, zero, suc, _+_, _*_, _-_, _/_, _%_, _≤_, _<_}
+use mathlib.Core.Option.{some}
+use mathlib.Core.List.{List}
+use Prim.Native.Nat.{ℕ, zero, suc, _+_, _-_, _≤_, _<_}
 use native.Mathlib.Omega.{arith}
-use lib.Dec.{T, eqb}
+use lib.Dec.{eqb}
 use lib.ListN.{length}
 use Rattle.lists.specs.TestLaws.{true-of, false-of, decide, means-not, means-eq, means-lt, zero-or}
 use Rattle.lists.specs.Search.{at}
-use Rattle.rules.specs.Elements.{elements, element, Side, origin, destination, next}
-use Rattle.rules.specs.Pairing.{Pairing, Turn, SideAt, TurnOrder}
+use Rattle.rules.specs.Elements.{elements, element, Side, next}
+use Rattle.rules.specs.Pairing.{Turn, SideAt, TurnOrder}
 use Rattle.rules.specs.Tables.{partner, borderNumber}
-use Rattle.rules.specs.Queries.{andThen, prepend, readAll, follow, over, bySide, readOpposite, startSide, onward, ringSides, ring}
+use Rattle.rules.specs.Queries.{over, startSide, onward, ringSides, ring}
 use Rattle.theory.specs.Sides.{Fit, side-facts, side-positive, next-side}
 use Rattle.theory.specs.Pairings.{partner-opposed}
 use Rattle.theory.specs.Orders.{Good, turn-origin, turn-inj, after-border, first-after, begins}
-use Rattle.theory.specs.Follows.{Trail, Steady, Followed, followed}
+use Rattle.theory.specs.Follows.{Steady, Followed, followed}
 use Rattle.theory.specs.Built.{built, by-side, by-border, read-paired, read-border, read-border-side, ReadEntry, rim, inner, read-entry}
 use Rattle.theory.specs.Reads.{and-then, Mapped, read-all}
-use Rattle.theory.specs.Rims.{BorderInto, border-leads}
+use Rattle.theory.specs.Rims.{BorderInto, Ends, border-leads}
 
 -- what comes after side s in the ring that begins at start
 pub data Onward (n : ℕ) (L : List ℕ) (start s : ℕ) : Type 0 where
@@ -61,6 +60,10 @@ pub data Start (L : List ℕ) (v start : ℕ) : Type 0 where
   rims : (r : ℕ) → BorderInto L v r → next L r ≡ start → Start L v start
   inside : ((r : ℕ) → BorderInto L v r → ⊥) → Start L v start
 
+-- t stands in o
+abbrev Met : List ℕ → ℕ → Type 0
+Met o t = (i : ℕ) × (i < length o) × (at o i ≡ t)
+
 module _ (n : ℕ) (L : List ℕ) (g : Good n L) (v : ℕ) (h : 1 ≤ v) (k : v ≤ n) where
   pub start : (s : ℕ) × (startSide (built n L) v ≡ some s) × SideAt L v s × Start L v s
   unfolding startSide
@@ -97,15 +100,11 @@ module _ (n : ℕ) (L : List ℕ) (g : Good n L) (v : ℕ) (h : 1 ≤ v) (k : v 
           (t, e, λ w. let (b, o) = turn-origin L (g .pairing) x t (a .0) u in (b, o ∙ a .1))
 
   module _ (s : ℕ) (b : SideAt L v s) (st : Start L v s) (o : List ℕ) (f : Followed (SideAt L v) (onward (built n L) s) (elements L) s o) where
-    Met : ℕ → Type 0
-    Met t = (i : ℕ) × (i < length o) × (at o i ≡ t)
-
     -- with a side its turn is met
-    turn-met : (t : ℕ) → (i : ℕ) → i < length o → Turn L (partner L) (at o i) t → Met t
-    unfolding Met
+    turn-met : (t : ℕ) → (i : ℕ) → i < length o → Turn L (partner L) (at o i) t → Met o t
     turn-met t i l u = go (onward-is n L s (at o i) (f .trail .inside i l .0)) (decide (means-lt (suc i) (length o)))
       where
-        go : Onward n L s (at o i) → (suc i < length o) ⊎ (suc i < length o → ⊥) → Met t
+        go : Onward n L s (at o i) → (suc i < length o) ⊎ (suc i < length o → ⊥) → Met o t
         go (stops z e) q = absurd (u .0 z)
         go (back w e) q = (0, f .trail .nonempty, f .trail .first ∙ sym (w .1) ∙ u .1)
         go (on r w d e) (inl q) =
@@ -118,19 +117,17 @@ module _ (n : ℕ) (L : List ℕ) (g : Good n L) (v : ℕ) (h : 1 ≤ v) (k : v 
 
     module _ (y : List ℕ) (x : TurnOrder L (partner L) v y) where
       -- what follows a met side in a turn order is met
-      rest-met : (j i : ℕ) → j + i < length y → Met (at y j) → Met (at y (j + i))
-      unfolding Met
+      rest-met : (j i : ℕ) → j + i < length y → Met o (at y j) → Met o (at y (j + i))
       rest-met j zero l m = let e : j + 0 ≡ j = omega arith in rw e m
       rest-met j (suc i) l m =
           let e : j + suc i ≡ suc (j + i) = omega arith in
           let (a, q, c) = rest-met j i (omega arith) m in
           rw e (turn-met (at y (suc (j + i))) a q (rw c (x .turns (j + i) (omega arith))))
 
-      first-met : Met (at y 0)
-      unfolding Met
+      first-met : Met o (at y 0)
       first-met = go st
         where
-          go : Start L v s → Met (at y 0)
+          go : Start L v s → Met o (at y 0)
           go (rims r (a, z, d) e) =
               (0, f .trail .nonempty, f .trail .first ∙ sym e ∙ sym (first-after L (g .pairing) v y x r a z d))
           go (inside free) =
@@ -139,13 +136,12 @@ module _ (n : ℕ) (L : List ℕ) (g : Good n L) (v : ℕ) (h : 1 ≤ v) (k : v 
               let q : j + (length y - 1 - j) ≡ length y - 1 = omega arith in
               closed (rw q at m) (x .ends) (omega arith)
             where
-              closed : Met (at y (length y - 1)) → Turn L (partner L) (at y (length y - 1)) (at y 0) ⊎ ((partner L (at y (length y - 1)) ≡ 0) × ((s : ℕ) → Side L s → Turn L (partner L) s (at y 0) → ⊥)) → 0 < length y → Met (at y 0)
+              closed : Met o (at y (length y - 1)) → Ends L y → 0 < length y → Met o (at y 0)
               closed (a, q, c) (inl u) l = turn-met (at y 0) a q (rw c u)
               closed m (inr (z, w)) l =
                   let (r, a, z, d, e) = begins L (g .pairing) v y x l w in absurd (free r (a, z, d))
 
-      all-met : (t : ℕ) → SideAt L v t → Met t
-      unfolding Met
+      all-met : (t : ℕ) → SideAt L v t → Met o t
       all-met t a =
           let (i, l, e) = x .all t a in
           let q : 0 + i ≡ i = omega arith in
@@ -153,7 +149,6 @@ module _ (n : ℕ) (L : List ℕ) (g : Good n L) (v : ℕ) (h : 1 ≤ v) (k : v 
 
       -- theorem 6: the sides of the ring are a turn order
       ring-order : TurnOrder L (partner L) v o
-      unfolding Met
       ring-order =
           let last = length o - 1 in
           let l : last < length o = omega (arith, f .trail .nonempty) in
@@ -173,7 +168,7 @@ module _ (n : ℕ) (L : List ℕ) (g : Good n L) (v : ℕ) (h : 1 ≤ v) (k : v 
               let (r, q) = border-leads L (g .pairing) v y x (at o (length o - 1)) (f .trail .inside (length o - 1) (omega (arith, f .trail .nonempty))) z in
               free r q
 
-          ends : Onward n L s (at o (length o - 1)) → Turn L (partner L) (at o (length o - 1)) (at o 0) ⊎ ((partner L (at o (length o - 1)) ≡ 0) × ((s : ℕ) → Side L s → Turn L (partner L) s (at o 0) → ⊥))
+          ends : Onward n L s (at o (length o - 1)) → Ends L o
           ends (stops z e) = inr (z, nobody z st)
           ends (back u e) = inl (rw (f .trail .first) u)
           ends (on t u d e) =

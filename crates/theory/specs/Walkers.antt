@@ -1,27 +1,27 @@
 -- The walker on built tables: its calls hand out the ring in order, then 0 for ever with the record unchanged.
 -- Assumes nothing.
 use mathlib.Core.Path.{_≡_, refl, ap, sym, _∙_}
-use mathlib.Core.Bool.{Bool, true, false}
+use mathlib.Core.Bool.{Bool, true}
 use mathlib.Core.Logic.{_⊎_, inl, inr}
-use mathlib.Core.Option.{Option, none, some}
+use mathlib.Core.Option.{Option, some}
 use mathlib.Core.List.{List}
 use Prim.Native.Nat.{ℕ, zero, suc, _+_, _-_, _≤_, _<_}
 use native.Mathlib.Omega.{arith}
-use lib.Dec.{T, leb, eqb}
+use lib.Dec.{leb, eqb}
 use lib.ListN.{length, List·getD-eq-default}
 use Rattle.lists.specs.Tests.{both, either}
 use Rattle.lists.specs.TestLaws.{true-of, false-of, decide, both-pass, means-either, means-not, means-eq, means-le, means-lt}
 use Rattle.lists.specs.Search.{at}
 use Rattle.rules.specs.Elements.{elements, element, isSide, Side}
 use Rattle.rules.specs.Pairing.{SideAt}
-use Rattle.rules.specs.Refusals.{Answer, gives, refused}
+use Rattle.rules.specs.Refusals.{Answer, gives}
 use Rattle.rules.specs.Queries.{Mesh, asked, defined, found, andThen, isVertex, startSide, onward, ring, Walker, Walked, walked, started, startAnswer, walkerStart, goesTo, moved, walkerStep}
 use Rattle.theory.specs.Sides.{Fit, side-positive}
 use Rattle.theory.specs.Orders.{Good}
-use Rattle.theory.specs.Follows.{Trail, Followed}
+use Rattle.theory.specs.Follows.{Followed}
 use Rattle.theory.specs.Built.{built, asked-built, means-vertex}
 use Rattle.theory.specs.Reads.{and-then, Mapped}
-use Rattle.theory.specs.Rings.{RingOf, the-ring, ring-lists}
+use Rattle.theory.specs.Rings.{the-ring, ring-lists}
 
 -- the record after i calls
 unfoldable pub stepped : Mesh → Walker → ℕ → Walker
