@@ -13,4 +13,5 @@ pub mod Loops
 pub mod Neighbours
 pub mod Answers
 pub mod Walkers
+pub mod Served
 pub mod Cases

@@ -29,7 +29,7 @@ data Onward (n : ℕ) (L : List ℕ) (b x : ℕ) : Type 0 where
   back : loopNext (built n L) b x ≡ some 0 → Onward n L b x
   on : (s r : ℕ) → Side L s → partner L s ≡ 0 → borderNumber L s ≡ x → BorderInto L (origin L s) r → (borderNumber L r ≡ b → ⊥) → loopNext (built n L) b x ≡ some (borderNumber L r) → Onward n L b x
 
--- bs is b and then next, and next, until b returns
+-- bs lists border numbers, b first, at most k and none twice
 pub record LoopOf (L : List ℕ) (b : ℕ) (bs : List ℕ) : Type 0 where
   pub nonempty : 0 < length bs
   pub first : at bs 0 ≡ b
