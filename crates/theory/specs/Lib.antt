@@ -11,7 +11,7 @@ pub mod Rings
 pub mod Opposites
 pub mod Loops
 pub mod Neighbours
-pub mod Answers
+pub mod Sound
 pub mod Walkers
 pub mod Served
 pub mod Cases

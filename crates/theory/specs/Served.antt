@@ -21,7 +21,7 @@ use Rattle.theory.specs.Opposites.{opposite-undone}
 use Rattle.theory.specs.Loops.{Border, LoopOf, border-loop}
 use Rattle.theory.specs.Neighbours.{ListsJoined, neighbours-joined}
 use Rattle.theory.specs.Walkers.{HandsOut, walker-hands}
-use Rattle.theory.specs.Answers.{Sound, opposite-sound, next-sound, previous-sound, element-sound, origin-sound, destination-sound, across-sound, half-edge-border-sound, vertex-border-sound, ring-sound, neighbours-sound, border-loop-sound, start-sound}
+use Rattle.theory.specs.Sound.{Sound, opposite-sound, next-sound, previous-sound, element-sound, origin-sound, destination-sound, across-sound, half-edge-border-sound, vertex-border-sound, ring-sound, neighbours-sound, border-loop-sound, start-sound}
 
 -- every read of built tables finds what it must
 pub record Reads (n : ℕ) (L : List ℕ) : Type 0 where

@@ -14,7 +14,7 @@ use Rattle.lists.specs.TestLaws.{Test, pass, fail, test, means-within, zero-or}
 use Rattle.rules.specs.Elements.{element, Side, isSide, origin, destination, next, previous}
 use Rattle.rules.specs.Tables.{partner, borderNumber, b2e}
 use Rattle.rules.specs.Refusals.{Answer, gives, refused}
-use Rattle.rules.specs.Queries.{asked, defined, found, listed, andThen, bySide, isHalfEdge, isVertex, readOpposite, readBorderSide, readVertexEntry, readOrigin, readDestination, opposite, borderNext, ring, neighbours, borderLoop, listAnswer, oppositeAnswer, nextAnswer, previousAnswer, elementAnswer, originAnswer, destinationAnswer, acrossAnswer, halfEdgeBorderAnswer, vertexBorderAnswer, ringAnswer, neighboursAnswer, borderLoopAnswer, startAnswer}
+use Rattle.rules.specs.Queries.{asked, defined, found, listed, andThen, bySide, isHalfEdge, isVertex, readOpposite, readBorderSide, readVertexEntry, readOrigin, readDestination, opposite, borderNext, ring, neighbours, borderLoop, listedAnswer, oppositeAnswer, nextAnswer, previousAnswer, elementAnswer, originAnswer, destinationAnswer, acrossAnswer, halfEdgeBorderAnswer, vertexBorderAnswer, ringAnswer, neighboursAnswer, borderLoopAnswer, startAnswer}
 use Rattle.theory.specs.Entries.{length-b2e}
 use Rattle.theory.specs.Orders.{Good}
 use Rattle.theory.specs.Built.{built, asked-built, HalfEdge, side, border, by-side, by-border, means-half, means-vertex, read-paired, read-border, read-border-side, read-origin, read-destination, ReadEntry, rim, inner, read-entry}
@@ -124,17 +124,17 @@ module _ (n : ℕ) (L : List ℕ) (g : Good n L) where
       go (inner f s a e) = found-sound _ _ (and-then _ e)
 
   pub ring-sound : (v : ℕ) (out : List ℕ) → Sound (ringAnswer (built n L) v out)
-  unfolding ringAnswer listAnswer
+  unfolding ringAnswer listedAnswer
   ring-sound v out =
       vertex-sound v _ (λ h k. let (es, e, l, m) = ring-lists n L g v h k in listed-sound (length out) (ring (built n L) v) es e)
 
   pub neighbours-sound : (v : ℕ) (out : List ℕ) → Sound (neighboursAnswer (built n L) v out)
-  unfolding neighboursAnswer listAnswer
+  unfolding neighboursAnswer listedAnswer
   neighbours-sound v out =
       vertex-sound v _ (λ h k. let (us, e, l) = neighbours-joined n L g v h k in listed-sound (length out) (neighbours (built n L) v) us e)
 
   pub border-loop-sound : (b : ℕ) (out : List ℕ) → Sound (borderLoopAnswer (built n L) b out)
-  unfolding borderLoopAnswer listAnswer
+  unfolding borderLoopAnswer listedAnswer
   border-loop-sound b out =
       answer-sound (within 1 (length (b2e L)) b) _
       (λ t.
