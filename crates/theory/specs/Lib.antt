@@ -10,3 +10,14 @@ pub mod Deciding
 pub mod Described
 pub mod Answers
 pub mod Recovering
+pub mod Follows
+pub mod Built
+pub mod Reads
+pub mod Rims
+pub mod Rings
+pub mod Opposites
+pub mod Loops
+pub mod Neighbours
+pub mod Sound
+pub mod Walkers
+pub mod Served

@@ -1,0 +1,123 @@
+-- Following a step that is one to one and never returns to its start: it stops in time, and meets nothing twice.
+-- Assumes nothing.
+use mathlib.Core.Path.{_≡_, refl, ap, sym, _∙_}
+use mathlib.Core.Logic.{_⊎_, inl, inr}
+use mathlib.Core.Option.{Option, some}
+use mathlib.Core.List.{List, [], _∷_}
+use Prim.Native.Nat.{ℕ, zero, suc, _-_, _≤_, _<_}
+use native.Mathlib.Omega.{arith}
+use lib.Dec.{eqb}
+use lib.ListN.{length}
+use Rattle.lists.specs.TestLaws.{true-of, false-of, means-eq, means-not, zero-or}
+use Rattle.lists.specs.Search.{at}
+use Rattle.lists.specs.SearchLaws.{le-not-lt}
+use Rattle.lists.specs.Distinct.{crowded}
+use Rattle.rules.specs.Queries.{andThen, prepend, follow}
+
+-- o begins at x, and each entry is what follows the one before it
+pub record Trail (P : ℕ → Type 0) (step : ℕ → Option ℕ) (x : ℕ) (o : List ℕ) : Type 0 where
+  pub nonempty : 0 < length o
+  pub first : at o 0 ≡ x
+  pub inside : (i : ℕ) → i < length o → P (at o i)
+  pub steps : (i : ℕ) → suc i < length o → step (at o i) ≡ some (at o (suc i))
+
+-- what is asked of a step on the numbers with P: they have different keys from 1 to m
+pub record Steady (P : ℕ → Type 0) (step : ℕ → Option ℕ) (m start : ℕ) (key : ℕ → ℕ) : Type 0 where
+  pub begins : P start
+  pub goes : (x : ℕ) → P x → (y : ℕ) × (step x ≡ some y) × ((y ≡ 0 → ⊥) → P y)
+  pub positive : (x : ℕ) → P x → x ≡ 0 → ⊥
+  pub injective : (x y z : ℕ) → P x → P y → P z → step x ≡ some z → step y ≡ some z → x ≡ y
+  pub away : (x : ℕ) → P x → step x ≡ some start → ⊥
+  pub keys : (x : ℕ) → P x → (1 ≤ key x) × (key x ≤ m)
+  pub apart : (x y : ℕ) → P x → P y → key x ≡ key y → x ≡ y
+
+-- what following gives
+pub record Followed (P : ℕ → Type 0) (step : ℕ → Option ℕ) (m start : ℕ) (o : List ℕ) : Type 0 where
+  pub trail : Trail P step start o
+  pub stops : step (at o (length o - 1)) ≡ some 0
+  pub once : (i j : ℕ) → i < length o → j < length o → at o i ≡ at o j → i ≡ j
+  pub short : length o ≤ m
+
+module _ (step : ℕ → Option ℕ) (j x y : ℕ) (e : step x ≡ some y) where
+  follow-stop : y ≡ 0 → follow step (suc j) x ≡ some (x ∷ [])
+  unfolding follow andThen
+  follow-stop z = rw (e, follow, andThen) (rw (true-of (eqb y 0) (means-eq y 0 .shows z)) refl)
+
+  follow-on : (y ≡ 0 → ⊥) → (o : List ℕ) → follow step j y ≡ some o → follow step (suc j) x ≡ some (x ∷ o)
+  unfolding follow andThen prepend
+  follow-on z o f = rw (e, follow, andThen) (rw (false-of (eqb y 0) (means-not (means-eq y 0) .shows z)) (ap (prepend x) f))
+
+module _ (P : ℕ → Type 0) (step : ℕ → Option ℕ) where
+  trail-one : (x : ℕ) → P x → Trail P step x (x ∷ [])
+  trail-one x p =
+      record {
+        nonempty = omega arith;
+        first = refl;
+        inside = λ i h. let e : i ≡ 0 = omega arith in rw e p;
+        steps = λ i h. absurd (omega arith);
+      }
+
+  trail-more : (x y : ℕ) (o : List ℕ) → P x → step x ≡ some y → Trail P step y o → Trail P step x (x ∷ o)
+  trail-more x y o p e t = record { nonempty = omega arith; first = refl; inside = inside; steps = steps }
+    where
+      inside : (i : ℕ) → i < suc (length o) → P (at (x ∷ o) i)
+      inside zero h = p
+      inside (suc i) h = t .inside i (omega arith)
+
+      steps : (i : ℕ) → suc i < suc (length o) → step (at (x ∷ o) i) ≡ some (at o i)
+      steps zero h = e ∙ ap some (sym (t .first))
+      steps (suc i) h = t .steps i (omega arith)
+
+  -- with j steps allowed, either the end comes, or there are j + 1 entries without an end
+  data Outcome (j x : ℕ) : Type 0 where
+    ended : (o : List ℕ) → follow step j x ≡ some o → Trail P step x o → step (at o (length o - 1)) ≡ some 0 → Outcome j x
+    going : (o : List ℕ) → length o ≡ suc j → Trail P step x o → Outcome j x
+
+  outcome : (m start : ℕ) (key : ℕ → ℕ) → Steady P step m start key → (j x : ℕ) → P x → Outcome j x
+  outcome m start key s zero x p = going (x ∷ []) refl (trail-one x p)
+  outcome m start key s (suc j) x p =
+      let (y, e, q) = s .goes x p in go y e (zero-or y) (λ d. q d) (λ d. outcome m start key s j y (q d))
+    where
+      more : (y : ℕ) → step x ≡ some y → (y ≡ 0 → ⊥) → Outcome j y → Outcome (suc j) x
+      more y e d (ended o f t z) =
+          let q : suc (length o) - 1 ≡ suc (length o - 1) = omega (arith, t .nonempty) in
+          ended (x ∷ o) (follow-on step j x y e d o f) (trail-more x y o p e t) (ap (λ i. step (at (x ∷ o) i)) q ∙ z)
+      more y e d (going o l t) = going (x ∷ o) (ap suc l) (trail-more x y o p e t)
+
+      go : (y : ℕ) → step x ≡ some y → (y ≡ 0) ⊎ (y ≡ 0 → ⊥) → ((y ≡ 0 → ⊥) → P y) → ((y ≡ 0 → ⊥) → Outcome j y) → Outcome (suc j) x
+      go y e (inl z) q r = ended (x ∷ []) (follow-stop step j x y e z) (trail-one x p) (e ∙ ap some z)
+      go y e (inr d) q r = more y e d (r d)
+
+module _ (P : ℕ → Type 0) (step : ℕ → Option ℕ) (m start : ℕ) (key : ℕ → ℕ) (s : Steady P step m start key) where
+  -- going back from two equal entries leads to the start, to which nothing leads
+  trail-apart : (o : List ℕ) → Trail P step start o → (i j : ℕ) → i < j → j < length o → at o i ≡ at o j → ⊥
+  trail-apart o t i zero h k e = omega arith
+  trail-apart o t zero (suc j) h k e =
+      s .away (at o j) (t .inside j (omega arith)) (t .steps j k ∙ ap some (sym e ∙ t .first))
+  trail-apart o t (suc i) (suc j) h k e =
+      trail-apart o t i j (omega arith) (omega arith)
+      (s .injective (at o i) (at o j) (at o (suc i))
+      (t .inside i (omega arith)) (t .inside j (omega arith)) (t .inside (suc i) (omega arith))
+      (t .steps i (omega arith)) (t .steps j k ∙ ap some (sym e)))
+
+  trail-once : (o : List ℕ) → Trail P step start o → (i j : ℕ) → i < length o → j < length o → at o i ≡ at o j → i ≡ j
+  trail-once o t i j h k e =
+      let a : j ≤ i = le-not-lt j i (λ l. trail-apart o t i j l k e) in
+      let b : i ≤ j = le-not-lt i j (λ l. trail-apart o t j i l h (sym e)) in
+      omega arith
+
+  trail-short : (o : List ℕ) → Trail P step start o → length o ≤ m
+  trail-short o t =
+      le-not-lt (length o) m
+      (λ h.
+      crowded m (λ i. key (at o i)) (λ i k. s .keys (at o i) (t .inside i (omega arith)))
+      (λ i j k l e.
+      trail-once o t i j (omega arith) (omega arith)
+      (s .apart (at o i) (at o j) (t .inside i (omega arith)) (t .inside j (omega arith)) e)))
+
+  pub followed : (o : List ℕ) × (follow step m start ≡ some o) × Followed P step m start o
+  followed = go (outcome P step m start key s m start (s .begins))
+    where
+      go : Outcome P step m start → (o : List ℕ) × (follow step m start ≡ some o) × Followed P step m start o
+      go (ended o f t z) = (o, f, record { trail = t; stops = z; once = trail-once o t; short = trail-short o t })
+      go (going o l t) = absurd (omega (arith, trail-short o t))

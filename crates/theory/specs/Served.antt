@@ -1,0 +1,131 @@
+-- Theorem 6: what the queries do on the built tables of an accepted list.
+-- Assumes nothing.
+use mathlib.Core.Path.{_≡_, refl, ap, sym, _∙_}
+use mathlib.Core.Logic.{_⊎_, inl, inr}
+use mathlib.Core.Option.{some}
+use mathlib.Core.List.{List}
+use Prim.Native.Nat.{ℕ, _*_, _≤_}
+use native.Mathlib.Omega.{arith}
+use lib.Dec.{T}
+use Rattle.lists.specs.TestLaws.{Means, zero-or}
+use Rattle.rules.specs.Elements.{Side, origin, destination}
+use Rattle.rules.specs.Pairing.{TurnOrder, Accepted}
+use Rattle.rules.specs.Tables.{partner, borderNumber}
+use Rattle.rules.specs.Refusals.{Answer, gives}
+use Rattle.rules.specs.Queries.{asked, isHalfEdge, readOpposite, readBorderSide, readVertexEntry, readOrigin, readDestination, opposite, ringSides, ring, neighbours, borderLoop, Walker, walkerStart, oppositeAnswer, nextAnswer, previousAnswer, elementAnswer, originAnswer, destinationAnswer, acrossAnswer, halfEdgeBorderAnswer, vertexBorderAnswer, ringAnswer, neighboursAnswer, borderLoopAnswer, startAnswer}
+use Rattle.theory.specs.Entries.{number-from, number-to, numbered-border}
+use Rattle.theory.specs.Orders.{Good, good}
+use Rattle.theory.specs.Built.{built, asked-built, HalfEdge, side, border, means-half, read-paired, read-border, read-border-side, read-origin, read-destination, ReadEntry, rim, inner, read-entry}
+use Rattle.theory.specs.Rings.{ListsOnce, the-ring, ring-lists}
+use Rattle.theory.specs.Opposites.{opposite-undone}
+use Rattle.theory.specs.Loops.{Border, LoopOf, border-loop}
+use Rattle.theory.specs.Neighbours.{ListsJoined, neighbours-joined}
+use Rattle.theory.specs.Walkers.{HandsOut, walker-hands}
+use Rattle.theory.specs.Sound.{Sound, opposite-sound, next-sound, previous-sound, element-sound, origin-sound, destination-sound, across-sound, half-edge-border-sound, vertex-border-sound, ring-sound, neighbours-sound, border-loop-sound, start-sound}
+
+-- every read of built tables finds what it must
+pub record Reads (n : ℕ) (L : List ℕ) : Type 0 where
+  pub half-edges : (c : ℕ) → Means (isHalfEdge (built n L) c) (Side L c ⊎ ((b : ℕ) × Border L b × (c ≡ 8 * b)))
+  pub opposites : (s : ℕ) → Side L s → (c : ℕ) × T (isHalfEdge (built n L) c) × (readOpposite (built n L) s ≡ some c)
+  pub borders : (b : ℕ) → Border L b → (s : ℕ) × Side L s × (readBorderSide (built n L) (8 * b) ≡ some s)
+  pub entries : (v : ℕ) → 1 ≤ v → v ≤ n → (c : ℕ) × T (isHalfEdge (built n L) c) × (readVertexEntry (built n L) v ≡ some c)
+  pub origins : (s : ℕ) → Side L s → readOrigin (built n L) s ≡ some (origin L s)
+  pub destinations : (s : ℕ) → Side L s → readDestination (built n L) s ≡ some (destination L s)
+
+-- "12 never comes"
+pub record Sounds (n : ℕ) (L : List ℕ) : Type 0 where
+  pub opposite : (c : ℕ) → Sound (oppositeAnswer (built n L) c)
+  pub next : (c : ℕ) → Sound (nextAnswer (built n L) c)
+  pub previous : (c : ℕ) → Sound (previousAnswer (built n L) c)
+  pub element : (c : ℕ) → Sound (elementAnswer (built n L) c)
+  pub origin : (c : ℕ) → Sound (originAnswer (built n L) c)
+  pub destination : (c : ℕ) → Sound (destinationAnswer (built n L) c)
+  pub across : (c : ℕ) → Sound (acrossAnswer (built n L) c)
+  pub half-edge-border : (c : ℕ) → Sound (halfEdgeBorderAnswer (built n L) c)
+  pub vertex-border : (v : ℕ) → Sound (vertexBorderAnswer (built n L) v)
+  pub ring : (v : ℕ) (out : List ℕ) → Sound (ringAnswer (built n L) v out)
+  pub neighbours : (v : ℕ) (out : List ℕ) → Sound (neighboursAnswer (built n L) v out)
+  pub border-loop : (b : ℕ) (out : List ℕ) → Sound (borderLoopAnswer (built n L) b out)
+  pub start : (v : ℕ) → Sound (startAnswer (built n L) v)
+
+pub record Served (n : ℕ) (L : List ℕ) : Type 0 where
+  pub checks : (a : Answer) → asked (built n L) a ≡ a
+  pub reads : Reads n L
+  pub turns : (v : ℕ) → 1 ≤ v → v ≤ n → (o : List ℕ) × (ringSides (built n L) v ≡ some o) × TurnOrder L (partner L) v o
+  pub rings : (v : ℕ) → 1 ≤ v → v ≤ n → (es : List ℕ) × (ring (built n L) v ≡ some es) × ListsOnce L v es
+  pub joined : (v : ℕ) → 1 ≤ v → v ≤ n → (us : List ℕ) × (neighbours (built n L) v ≡ some us) × ListsJoined L v us
+  pub undone : (c : ℕ) → T (isHalfEdge (built n L) c) → (d : ℕ) × T (isHalfEdge (built n L) d) × (opposite (built n L) c ≡ some d) × (opposite (built n L) d ≡ some c)
+  pub loops : (b : ℕ) → Border L b → (bs : List ℕ) × (borderLoop (built n L) b ≡ some bs) × LoopOf L b bs
+  pub sounds : Sounds n L
+  pub walks : (v : ℕ) → 1 ≤ v → v ≤ n → (w : Walker) → (es : List ℕ) × (ring (built n L) v ≡ some es) × (walkerStart (built n L) v w .answer ≡ gives 0 0) × HandsOut (built n L) (walkerStart (built n L) v w .walker) es
+
+module _ (n : ℕ) (L : List ℕ) (g : Good n L) where
+  reads-of : Reads n L
+  reads-of =
+      record {
+        half-edges = half-edges;
+        opposites = λ s a. opposites s a (zero-or (partner L s));
+        borders = λ b (h, k).
+            let (s, a, z, e) = numbered-border L b h k in
+            (s, a, ap (λ (x : ℕ). readBorderSide (built n L) (8 * x)) (sym e) ∙ read-border-side n L s a z);
+        entries = λ v h k. entries v (read-entry n L g v h k);
+        origins = read-origin n L (g .fit);
+        destinations = read-destination n L (g .fit);
+      }
+    where
+      half : (c : ℕ) → HalfEdge L c → T (isHalfEdge (built n L) c)
+      half c h = means-half n L c .shows h
+
+      half-edges : (c : ℕ) → Means (isHalfEdge (built n L) c) (Side L c ⊎ ((b : ℕ) × Border L b × (c ≡ 8 * b)))
+      half-edges c = record { says = λ t. says (means-half n L c .says t); shows = shows }
+        where
+          says : HalfEdge L c → Side L c ⊎ ((b : ℕ) × Border L b × (c ≡ 8 * b))
+          says (side a) = inl a
+          says (border s a z e) = inr (borderNumber L s, (number-from L s, number-to L s a z), e)
+
+          shows : Side L c ⊎ ((b : ℕ) × Border L b × (c ≡ 8 * b)) → T (isHalfEdge (built n L) c)
+          shows (inl a) = half c (side a)
+          shows (inr (b, (h, k), e)) =
+              let (s, a, z, f) = numbered-border L b h k in half c (border s a z (omega arith))
+
+      opposites : (s : ℕ) → Side L s → (partner L s ≡ 0) ⊎ (partner L s ≡ 0 → ⊥) → (c : ℕ) × T (isHalfEdge (built n L) c) × (readOpposite (built n L) s ≡ some c)
+      opposites s a (inl z) = (8 * borderNumber L s, half _ (border s a z refl), read-border n L s a z)
+      opposites s a (inr z) = (partner L s, half _ (side (g .pairing .mutually s a z .0)), read-paired n L s a z)
+
+      entries : (v : ℕ) → ReadEntry n L v → (c : ℕ) × T (isHalfEdge (built n L) c) × (readVertexEntry (built n L) v ≡ some c)
+      entries v (rim r a z d e) = (8 * borderNumber L r, half _ (border r a z refl), e)
+      entries v (inner f s a e) = (s, half s (side (a .0)), e)
+
+  sounds-of : Sounds n L
+  sounds-of =
+      record {
+        opposite = opposite-sound n L g;
+        next = next-sound n L g;
+        previous = previous-sound n L g;
+        element = element-sound n L g;
+        origin = origin-sound n L g;
+        destination = destination-sound n L g;
+        across = across-sound n L g;
+        half-edge-border = half-edge-border-sound n L g;
+        vertex-border = vertex-border-sound n L g;
+        ring = ring-sound n L g;
+        neighbours = neighbours-sound n L g;
+        border-loop = border-loop-sound n L g;
+        start = start-sound n L g;
+      }
+
+-- theorem 6
+pub served : (n : ℕ) (L : List ℕ) → Accepted n L → Served n L
+served n L x =
+    let g = good n L x in
+    record {
+      checks = asked-built n L (g .fit);
+      reads = reads-of n L g;
+      turns = λ v h k. let r = the-ring n L g v h k in (r .sides, r .listed, r .order);
+      rings = λ v h k. let (es, e, l, m) = ring-lists n L g v h k in (es, e, l);
+      joined = neighbours-joined n L g;
+      undone = opposite-undone n L (g .pairing);
+      loops = border-loop n L g;
+      sounds = sounds-of n L g;
+      walks = walker-hands n L g;
+    }
