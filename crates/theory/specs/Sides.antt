@@ -181,6 +181,34 @@ module _ (n : ℕ) (t : ℕ → Bool) where
             shows = λ g. absurd (g (firstVertex n t) a b u);
           }
 
+  pub means-some-vertex : Means (not (eqb (firstVertex n t) 0)) ((v : ℕ) × (1 ≤ v) × (v ≤ n) × T (t v))
+  means-some-vertex = go first-vertex
+    where
+      go : FirstVertex n t (firstVertex n t) → Means (not (eqb (firstVertex n t) 0)) ((v : ℕ) × (1 ≤ v) × (v ≤ n) × T (t v))
+      go (nobody e f) =
+          record {
+            says = λ z. absurd (means-not (means-eq (firstVertex n t) 0) .says z e);
+            shows = λ (v, a, b, u). absurd (T-not (t v) (f v a b) u);
+          }
+      go (somebody a b u f) =
+          record {
+            says = λ z. (firstVertex n t, a, b, u);
+            shows = λ x. means-not (means-eq (firstVertex n t) 0) .shows (λ e. omega arith);
+          }
+
+-- what the views say is all there is to say
+pub first-is : (L : List ℕ) (t : ℕ → Bool) (r : ℕ) → First L t r → firstSide L t ≡ r
+first-is L t r x = go x (first-side L t)
+  where
+    go : {q : ℕ} → First L t r → First L t q → q ≡ r
+    go (nobody e f) (nobody g h) = g ∙ sym e
+    go {q} (nobody e f) (somebody a u h) = absurd (T-not (t q) (f q a) u)
+    go (somebody a u f) (nobody g h) = absurd (T-not (t r) (h r a) u)
+    go {q} (somebody a u f) (somebody b w h) =
+        let l : q ≤ r = le-not-lt q r (λ k. T-not (t r) (h r a k) u) in
+        let m : r ≤ q = le-not-lt r q (λ k. T-not (t q) (f q b k) w) in
+        omega arith
+
 -- the number of the next side goes round, and that of the previous one back
 pub data NextNumber (k i r : ℕ) : Type 0 where
   wraps : i ≡ k → r ≡ 1 → NextNumber k i r
@@ -318,24 +346,25 @@ pub record Fit (n : ℕ) (L : List ℕ) : Type 0 where
   pub differ : (s t : ℕ) → Side L s → Side L t → s / 8 ≡ t / 8 → origin L s ≡ origin L t → s ≡ t
 
 module _ (n : ℕ) (L : List ℕ) where
-  unfit : ℕ → Bool
+  -- the tests of checks 3 and 4 at a side, and what they mean
+  unfoldable pub unfit : ℕ → Bool
   unfit s = either (eqb (origin L s) 0) (ltb n (origin L s))
 
-  earlier : ℕ → ℕ → Bool
+  unfoldable pub earlier : ℕ → ℕ → Bool
   earlier s t = both (eqb (element t) (element s)) (both (ltb t s) (eqb (origin L t) (origin L s)))
 
-  repeated : ℕ → Bool
+  unfoldable pub repeated : ℕ → Bool
   repeated s = both (not (eqb (origin L s) 0)) (not (eqb (firstSide L (earlier s)) 0))
 
-  means-unfit : (s : ℕ) → Means (unfit s) ((origin L s ≡ 0) ⊎ (n < origin L s))
+  pub means-unfit : (s : ℕ) → Means (unfit s) ((origin L s ≡ 0) ⊎ (n < origin L s))
   unfolding unfit
   means-unfit s = means-either (means-eq (origin L s) 0) (means-lt n (origin L s))
 
-  means-earlier : (s t : ℕ) → Means (earlier s t) ((t / 8 ≡ s / 8) × ((t < s) × (origin L t ≡ origin L s)))
+  pub means-earlier : (s t : ℕ) → Means (earlier s t) ((t / 8 ≡ s / 8) × ((t < s) × (origin L t ≡ origin L s)))
   unfolding earlier
   means-earlier s t = means-both (means-eq (t / 8) (s / 8)) (means-both (means-lt t s) (means-eq (origin L t) (origin L s)))
 
-  means-repeated : (s : ℕ) → Means (repeated s) ((origin L s ≡ 0 → ⊥) × ((t : ℕ) × Side L t × T (earlier s t)))
+  pub means-repeated : (s : ℕ) → Means (repeated s) ((origin L s ≡ 0 → ⊥) × ((t : ℕ) × Side L t × T (earlier s t)))
   unfolding repeated
   means-repeated s = means-both (means-not (means-eq (origin L s) 0)) (means-some L (earlier s))
 

@@ -1,0 +1,37 @@
+-- The faults of a row and of a list of rows.
+-- Assumes nothing.
+use mathlib.Core.Path.{_≡_}
+use mathlib.Core.Bool.{Bool, true, false, not}
+use mathlib.Core.List.{List}
+use Prim.Native.Nat.{ℕ, _-_, _≤_}
+use lib.Dec.{eqb, ltb}
+use Rattle.lists.specs.Tests.{both, either}
+use Rattle.lists.specs.Search.{at}
+use Rattle.rules.specs.Elements.{sidesBy, firstVertex}
+use Rattle.rules.specs.Pairing.{unfitCorner, repeatedCorner}
+use Rattle.theory.specs.Sides.{FirstVertex}
+use Rattle.corners.specs.declared.Fault.{Fault}
+use Rattle.corners.specs.declared.Fault.the-variants.{Unfit, Repeated, Nothing}
+
+-- a corner x is no vertex
+abbrev pub noVertex : ℕ → ℕ → Bool
+noVertex n x = either (eqb x 0) (ltb n x)
+
+-- corner i of a row equals an earlier one
+unfoldable pub repeats : List ℕ → ℕ → Bool
+repeats row i = not (eqb (firstVertex (i - 1) (λ j. eqb (at row (j - 1)) (at row (i - 1)))) 0)
+
+-- r is the first corner of a row that is no vertex, or that equals an earlier one; 0 where there is none
+abbrev pub UnfitIn : ℕ → List ℕ → ℕ → Type 0
+UnfitIn n row r = FirstVertex (sidesBy (at row 3)) (λ i. noVertex n (at row (i - 1))) r
+
+abbrev pub RepeatedIn : List ℕ → ℕ → Type 0
+RepeatedIn row r = FirstVertex (sidesBy (at row 3)) (repeats row) r
+
+-- what checks 3 and 4 find in a list
+unfoldable pub faultOf : ℕ → List ℕ → Fault
+faultOf n L =
+    elim (eqb (unfitCorner n L) 0) [
+      | true ↦ elim (eqb (repeatedCorner L) 0) [ true ↦ Nothing | false ↦ Repeated (repeatedCorner L) ]
+      | false ↦ Unfit (unfitCorner n L)
+    ]
