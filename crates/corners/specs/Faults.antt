@@ -3,11 +3,11 @@
 use mathlib.Core.Path.{_≡_}
 use mathlib.Core.Bool.{Bool, true, false, not}
 use mathlib.Core.List.{List}
-use Prim.Native.Nat.{ℕ, _-_, _≤_}
+use Prim.Native.Nat.{ℕ, _+_, _-_}
 use lib.Dec.{eqb, ltb}
 use Rattle.lists.specs.Tests.{both, either}
 use Rattle.lists.specs.Search.{at}
-use Rattle.rules.specs.Elements.{sidesBy, firstVertex}
+use Rattle.rules.specs.Elements.{sidesBy, sideAt, firstVertex}
 use Rattle.rules.specs.Pairing.{unfitCorner, repeatedCorner}
 use Rattle.theory.specs.Sides.{FirstVertex}
 use Rattle.corners.specs.declared.Fault.{Fault}
@@ -27,6 +27,12 @@ UnfitIn n row r = FirstVertex (sidesBy (at row 3)) (λ i. noVertex n (at row (i 
 
 abbrev pub RepeatedIn : List ℕ → ℕ → Type 0
 RepeatedIn row r = FirstVertex (sidesBy (at row 3)) (repeats row) r
+
+-- r is the first repeated corner, as a side's code: the one found before, or else that of the row at a
+pub data Repeating (a : ℕ) (row : List ℕ) (found r : ℕ) : Type 0 where
+  kept : (found ≡ 0 → ⊥) → r ≡ found → Repeating a row found r
+  none : found ≡ 0 → RepeatedIn row 0 → r ≡ 0 → Repeating a row found r
+  new : (i : ℕ) → found ≡ 0 → (i ≡ 0 → ⊥) → RepeatedIn row i → r ≡ sideAt (a + i - 1) → Repeating a row found r
 
 -- what checks 3 and 4 find in a list
 unfoldable pub faultOf : ℕ → List ℕ → Fault

@@ -97,7 +97,7 @@ module _ (n : ℕ) (row : List ℕ) where
 
 -- the corners before corner i of a row, and whether one of them equals it
 module _ (row : List ℕ) where
-  means-repeats : (i : ℕ) → Means (repeats row i) ((j : ℕ) × (1 ≤ j) × (j ≤ i - 1) × T (eqb (at row (j - 1)) (at row (i - 1))))
+  pub means-repeats : (i : ℕ) → Means (repeats row i) ((j : ℕ) × (1 ≤ j) × (j ≤ i - 1) × T (eqb (at row (j - 1)) (at row (i - 1))))
   unfolding repeats
   means-repeats i = means-some-vertex (i - 1) (λ j. eqb (at row (j - 1)) (at row (i - 1)))
 

@@ -1,9 +1,9 @@
 // Checks 3 and 4: unfit and repeated corners.
 ghost use mathlib.Core.Path.{_≡_};
-ghost use Prim.Native.Nat.{_*_, _≤_};
+ghost use Prim.Native.Nat.{_+_, _*_, _≤_};
 ghost use lib.ListN.{length};
 ghost use Rattle.rules.specs.Elements.{elements, maxElement};
-ghost use Rattle.corners.specs.Faults.{noVertex, UnfitIn, RepeatedIn, faultOf};
+ghost use Rattle.corners.specs.Faults.{noVertex, UnfitIn, RepeatedIn, Repeating, faultOf};
 
 // The first fault of a list; its corner as the code of the side that begins there.
 pub enum Fault {
@@ -66,4 +66,48 @@ fn repeated_in(row: [u32; 4]) -> u32
         return 4;
     }
     0
+}
+
+fn wide(x: u32) -> usize
+    ensures { λ r. ⌜ r ≡ x ⌝ }
+{
+    x as usize
+}
+
+// The first repeated corner: the one found before, or else that of the row at a.
+fn first_repeated(found: u32, a: usize, row: [u32; 4]) -> u32
+    requires { ⌜ a + 4 ≤ 4_000_000 ⌝ }
+    ensures { λ r. ⌜ Repeating a row found r ⌝ }
+{
+    if found != 0 {
+        return found;
+    }
+    let i = repeated_in(row);
+    if i == 0 {
+        return 0;
+    }
+    halfedge::code_at(a + wide(i) - 1)
+}
+
+// What checks 3 and 4 find, in one pass.
+pub fn first_fault(n: u32, list: &[u32]) -> Fault
+    requires { ⌜ (length (now list) ≡ 4 * elements (now list)) × (elements (now list) ≤ maxElement) ⌝ }
+    ensures { λ r. ⌜ r ≡ faultOf n (now (list .entry)) ⌝ }
+{
+    let mut repeated: u32 = 0;
+    let mut a: usize = 0;
+    while a < list.len() {
+        let e = a + 4;
+        let row = halfedge::row(&list[a..e]);
+        let i = unfit_in(n, row);
+        if i != 0 {
+            return Fault::Unfit(halfedge::code_at(a + wide(i) - 1));
+        }
+        repeated = first_repeated(repeated, a, row);
+        a = e;
+    }
+    if repeated != 0 {
+        return Fault::Repeated(repeated);
+    }
+    Fault::Nothing
 }
