@@ -4,9 +4,9 @@ use mathlib.Core.Path.{_≡_}
 use mathlib.Core.Bool.{true, false}
 use mathlib.Core.List.{List}
 use Prim.Native.Nat.{ℕ, zero, suc}
-use lib.Dec.{leb, eqb}
+use lib.Dec.{eqb}
 use lib.ListN.{length, set, replicate}
-use Rattle.lists.specs.Tests.{both}
+use Rattle.lists.specs.Tests.{both, within}
 use Rattle.lists.specs.Search.{at, zeros}
 use Rattle.rules.specs.Elements.{element, number, isSide, slot, next, firstSide}
 use Rattle.rules.specs.Pairing.{Accepted}
@@ -22,10 +22,10 @@ pub record HasTables (n : ℕ) (L V2e E2e : List ℕ) : Type 0 where
 -- The walk over a V2e and an E2e of any content, which gives every accepted list back from its tables. A triangle's fourth entry is 0 in
 -- E2e as in the element list, so the sides that E2e speaks of are `isSide E2e`.
 
--- the least side whose entry is the border c; 0 where there is none. There are no more borders than entries
+-- the least side whose entry is the border c; 0 where there is none. Borders are numbered from 1, and there are no more of them than entries
 unfoldable pub sideOfBorder : List ℕ → ℕ → ℕ
 sideOfBorder E2e c =
-    elim (leb (element c) (length E2e)) [ true ↦ firstSide E2e (λ t. eqb (at E2e (e2eSlot t)) c) | false ↦ 0 ]
+    elim (within 1 (length E2e) (element c)) [ true ↦ firstSide E2e (λ t. eqb (at E2e (e2eSlot t)) c) | false ↦ 0 ]
 
 -- the side where the walk about a vertex begins: its V2e entry, or for a border the side following the one with this border
 unfoldable pub walkStart : List ℕ → ℕ → ℕ

@@ -6,9 +6,10 @@ use mathlib.Core.Logic.{_⊎_, inl, inr}
 use mathlib.Core.List.{List}
 use Prim.Native.Nat.{ℕ, suc, _+_, _*_, _-_, _/_, _%_, _≤_, _<_}
 use native.Mathlib.Omega.{arith}
-use lib.Dec.{T, leb, eqb, T-not, not-T}
+use lib.Dec.{T, eqb, T-not, not-T}
 use lib.ListN.{length}
-use Rattle.lists.specs.TestLaws.{Test, pass, fail, test, true-of, false-of, Means, decide, means-not, means-eq, means-le, zero-or}
+use Rattle.lists.specs.TestLaws.{Test, pass, fail, test, true-of, false-of, Means, decide, means-not, means-eq, means-within, zero-or}
+use Rattle.lists.specs.Tests.{within}
 use Rattle.lists.specs.Search.{at}
 use Rattle.rules.specs.Elements.{elements, corner, element, number, sides, sidesBy, isSide, Side, slot, origin, destination, next, nextNumber, sideAt, firstSide}
 use Rattle.rules.specs.Pairing.{opposed}
@@ -115,12 +116,12 @@ module _ (L : List ℕ) where
           let c = side-e2e r b in
           absurd (border-no-side L L (borderNumber L s) (rw (sym (e2e-paired L r c w) ∙ e) at (partner-opposed L r w .0)))
 
-  rim-side : (s : ℕ) → Side L s → partner L s ≡ 0 → sideOfBorder (e2e L) (8 * borderNumber L s) ≡ s
+  pub rim-side : (s : ℕ) → Side L s → partner L s ≡ 0 → sideOfBorder (e2e L) (8 * borderNumber L s) ≡ s
   unfolding sideOfBorder entryIs
   rim-side s a z =
       let c = 8 * borderNumber L s in
-      let h : c / 8 ≤ length (e2e L) = omega (arith, length-e2e L, number-le L s a) in
-      rw (true-of (leb (c / 8) (length (e2e L))) (means-le (c / 8) (length (e2e L)) .shows h), sideOfBorder)
+      let h : (1 ≤ c / 8) × (c / 8 ≤ length (e2e L)) = omega (arith, length-e2e L, number-from L s, number-le L s a) in
+      rw (true-of (within 1 (length (e2e L)) (c / 8)) (means-within 1 (length (e2e L)) (c / 8) .shows h), sideOfBorder)
       (rim-found s (firstSide (e2e L) (entryIs c)) a z (first-side (e2e L) (entryIs c)))
 
   pub start-rim : (s : ℕ) → Side L s → partner L s ≡ 0 → walkStart (e2e L) (8 * borderNumber L s) ≡ next L s
@@ -137,17 +138,6 @@ module _ (L : List ℕ) where
   start-side s a =
       rw (false-of (eqb (s % 8) 0) (means-not (means-eq (s % 8) 0) .shows (λ e. omega (arith, side-facts L s a))), walkStart)
 
-  none-found : (r : ℕ) → First (e2e L) (entryIs 0) r → r ≡ 0
-  unfolding entryIs
-  none-found r (nobody e f) = e
-  none-found r (somebody a t f) = absurd (e2e-nonzero L r (side-e2e r a) (means-eq _ _ .says t))
-
-  none-side : sideOfBorder (e2e L) 0 ≡ 0
-  unfolding sideOfBorder entryIs
-  none-side =
-      rw (true-of (leb 0 (length (e2e L))) (means-le 0 (length (e2e L)) .shows (omega arith)), sideOfBorder)
-      (none-found (firstSide (e2e L) (entryIs 0)) (first-side (e2e L) (entryIs 0)))
-
   pub start-none : walkStart (e2e L) 0 ≡ 0
-  unfolding walkStart
-  start-none = rw (none-side, walkStart)
+  unfolding walkStart sideOfBorder
+  start-none = refl
