@@ -192,8 +192,10 @@ module _ (n m : ℕ) (w : List ℕ) (z : Sizes n m w) where
         where
           inside : within 1 (length (e2eIn n m w)) (c / 8) ≡ true
           inside = true-of _ (means-within 1 (length (e2eIn n m w)) (c / 8) .shows (from, rw e-length to))
+
           found : sideOfBorder (e2eIn n m w) c ≡ firstSide (e2eIn n m w) (λ t. eqb (at (e2eIn n m w) (slot t)) c)
           found = rw (inside, sideOfBorder)
+
           go : First (e2eIn n m w) (λ t. eqb (at (e2eIn n m w) (slot t)) c) (firstSide (e2eIn n m w) (λ t. eqb (at (e2eIn n m w) (slot t)) c)) → Side (e2eIn n m w) (sideOfBorder (e2eIn n m w) c)
           go (First.nobody e f) = absurd (d (read ∙ found ∙ e))
           go (First.somebody b t f) = rw found b

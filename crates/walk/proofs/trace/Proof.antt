@@ -1,68 +1,78 @@
+-- `walk::trace` meets its contract: what is still to come is what is to come from s.
+-- Assumes nothing.
+use mathlib.Core.Path.{_≡_, refl, ap, sym, _∙_}
+use mathlib.Core.Bool.{true}
+use Prim.Native.Nat.{ℕ, _+_, _*_, _<_}
+use native.Mathlib.Omega.{arith}
+use borrow.Author.Needs.{needs}
+use lib.Dec.{eqb}
+use Rattle.lists.specs.Tests.{both}
+use Rattle.lists.specs.Search.{at, zeros}
+use Rattle.rules.specs.Elements.{isSide, slot}
+use Rattle.walk.specs.Layout.{written, e2eIn}
+use Rattle.walk.specs.Traces.{Tracing, tracing-start, sizes-on, tracing-end, place-in, next-sizes, next-side, fewer, tracing-on}
 use Rattle.walk.proofs.trace.Statement.{statement}
 use Rattle.walk.proofs.trace.Tie as tie
-use Rattle.walk.proofs.trace.Reads as reads
-use Rattle.walk.proofs.trace.Lts as lts
-use Rattle.halfedge.proofs.slot_of.Reads as slot-of-reads
-use Rattle.walk.proofs.is_open.Reads as is-open-reads
-use Rattle.walk.proofs.turn.Reads as turn-reads
 
 abbrev Inv-loop : tie.InvT-loop
-Inv-loop n m v s work₀ t₀ work t = ?
+Inv-loop n m v s work₀ t₀ work t = Tracing n m v s work₀ work t
 
 abbrev μ-loop : tie.MeasureT-loop
-μ-loop n m v s work₀ t₀ work t = ?
+μ-loop n m v s work₀ t₀ work t = zeros (written n m work)
 
--- src/lib.rt:121:5
+abbrev Here : Type 0
+Here = tie.After-slot-of Inv-loop μ-loop
+
+opens : (c : Here) → both (isSide (e2eIn (c .before .before .before .before .before .before .args .n) (c .before .before .before .before .before .before .args .m) (c .before .before .before .before .loop .work)) (c .before .before .before .before .loop .t)) (eqb (at (written (c .before .before .before .before .before .before .args .n) (c .before .before .before .before .before .before .args .m) (c .before .before .before .before .loop .work)) (slot (c .before .before .before .before .loop .t))) 0) ≡ true
+opens c = sym (c .before .before .is-open .ensures) ∙ c .before .if1 .taken
+
+place : (c : Here) → c .slot-of .result < 4 * c .before .before .before .before .before .before .args .m
+place c = rw (c .slot-of .ensures) (place-in (c .before .before .before .before .before .before .args .n) (c .before .before .before .before .before .before .args .m) (c .before .before .before .before .before .before .args .v) (c .before .before .before .before .before .before .args .s) (c .before .before .before .before .before .before .args .work .now) (c .before .before .before .before .before .before .pre .0) (c .before .before .before .before .before .before .pre .1) (c .before .before .before .before .loop .work) (c .before .before .before .before .loop .t) (c .before .before .before .before .loop .inv) (opens c))
+
+abbrev p : Here → ℕ
+p c = c .before .before .before .before .before .before .args .n + 8 * c .before .before .before .before .before .before .args .m + c .slot-of .result
+
+placed : (c : Here) → p c ≡ c .before .before .before .before .before .before .args .n + 8 * c .before .before .before .before .before .before .args .m + slot (c .before .before .before .before .loop .t)
+placed c = ap (λ (i : ℕ). c .before .before .before .before .before .before .args .n + 8 * c .before .before .before .before .before .before .args .m + i) (c .slot-of .ensures)
+
 loop-holds : tie.Need-loop-holds Inv-loop μ-loop
-loop-holds c = ?
+loop-holds c = tracing-start (c .before .args .n) (c .before .args .m) (c .before .args .v) (c .before .args .s) (c .before .args .work .now) (c .before .pre .0) (c .before .pre .1)
 
--- src/lib.rt:121:11
 is-open-requires : tie.Need-is-open-requires Inv-loop μ-loop
-is-open-requires c κs = ?
+is-open-requires c κs = sizes-on (c .before .before .before .args .n) (c .before .before .before .args .m) (c .before .before .before .args .v) (c .before .before .before .args .s) (c .before .before .before .args .work .now) (c .before .before .before .pre .0) (c .before .before .before .pre .1) (c .before .loop .work) (c .before .loop .t) (c .before .loop .inv)
 
--- src/lib.rt:122:21
 mul-p : tie.Need-mul-p Inv-loop μ-loop
-mul-p c = ?
+mul-p c = omega (arith, c .before .before .before .before .before .pre .0)
 
--- src/lib.rt:122:17
 add-p : tie.Need-add-p Inv-loop μ-loop
-add-p c = ?
+add-p c = omega (arith, c .before .before .before .before .before .pre .0)
 
--- src/lib.rt:122:29
 slot-of-requires : tie.Need-slot-of-requires Inv-loop μ-loop
-slot-of-requires c κs = ?
+slot-of-requires c κs = tt
 
--- src/lib.rt:122:17
 add-p-2 : tie.Need-add-p-2 Inv-loop μ-loop
-add-p-2 c = ?
+add-p-2 c = omega (arith, c .before .before .before .before .before .before .pre .0, place c)
 
--- src/lib.rt:123:9
 mul-work : tie.Need-mul-work Inv-loop μ-loop
-mul-work c = ?
+mul-work c = omega (arith, c .before .before .before .before .before .before .pre .0, place c)
 
--- src/lib.rt:123:9
 slice-write-work : tie.Need-slice-write-work Inv-loop μ-loop
-slice-write-work c = ?
+slice-write-work c = omega (arith, c .before .before .before .before .before .before .pre .0, place c, c .before .before .before .before .loop .inv .long)
 
--- src/lib.rt:124:9
 turn-requires : tie.Need-turn-requires Inv-loop μ-loop
-turn-requires c κs = ?
+turn-requires c κs = (next-sizes (c .before .before .before .before .before .before .before .args .n) (c .before .before .before .before .before .before .before .args .m) (c .before .before .before .before .before .before .before .args .v) (c .before .before .before .before .before .before .before .args .s) (c .before .before .before .before .before .before .before .args .work .now) (c .before .before .before .before .before .before .before .pre .0) (c .before .before .before .before .before .before .before .pre .1) (c .before .before .before .before .before .loop .work) (c .before .before .before .before .before .loop .t) (c .before .before .before .before .before .loop .inv) (opens (c .before)) (p (c .before)) (placed (c .before)), next-side (c .before .before .before .before .before .before .before .args .n) (c .before .before .before .before .before .before .before .args .m) (c .before .before .before .before .before .before .before .args .v) (c .before .before .before .before .before .before .before .args .s) (c .before .before .before .before .before .before .before .args .work .now) (c .before .before .before .before .before .before .before .pre .0) (c .before .before .before .before .before .before .before .pre .1) (c .before .before .before .before .before .loop .work) (c .before .before .before .before .before .loop .t) (c .before .before .before .before .before .loop .inv) (opens (c .before)) (p (c .before)) (placed (c .before)))
 
--- src/lib.rt:121:5
 loop-less : tie.Need-loop-less Inv-loop μ-loop
-loop-less c = ?
+loop-less c = fewer (c .before .before .before .before .before .before .before .before .args .n) (c .before .before .before .before .before .before .before .before .args .m) (c .before .before .before .before .before .before .before .before .args .v) (c .before .before .before .before .before .before .before .before .args .s) (c .before .before .before .before .before .before .before .before .args .work .now) (c .before .before .before .before .before .before .before .before .pre .0) (c .before .before .before .before .before .before .before .before .pre .1) (c .before .before .before .before .before .before .loop .work) (c .before .before .before .before .before .before .loop .t) (c .before .before .before .before .before .before .loop .inv) (opens (c .before .before)) (p (c .before .before)) (placed (c .before .before))
 
--- src/lib.rt:121:5
 loop-again : tie.Need-loop-again Inv-loop μ-loop
-loop-again c = ?
+loop-again c = tracing-on (c .before .before .before .before .before .before .before .before .args .n) (c .before .before .before .before .before .before .before .before .args .m) (c .before .before .before .before .before .before .before .before .args .v) (c .before .before .before .before .before .before .before .before .args .s) (c .before .before .before .before .before .before .before .before .args .work .now) (c .before .before .before .before .before .before .before .before .pre .0) (c .before .before .before .before .before .before .before .before .pre .1) (c .before .before .before .before .before .before .loop .work) (c .before .before .before .before .before .before .loop .t) (c .before .before .before .before .before .before .loop .inv) (opens (c .before .before)) (p (c .before .before)) (placed (c .before .before)) (c .turn .result) (c .turn .ensures)
 
--- src/lib.rt:116:1
 same-length : tie.Need-same-length Inv-loop μ-loop
-same-length c = ?
+same-length c = c .before .before .before .loop .inv .long
 
--- src/lib.rt:116:1
 returns : tie.Need-returns Inv-loop μ-loop
-returns c = ?
+returns c = tracing-end (c .before .before .before .before .before .args .n) (c .before .before .before .before .before .args .m) (c .before .before .before .before .before .args .v) (c .before .before .before .before .before .args .s) (c .before .before .before .before .before .args .work .now) (c .before .before .before .before .before .pre .0) (c .before .before .before .before .before .pre .1) (c .before .before .before .loop .work) (c .before .before .before .loop .t) (c .before .before .before .loop .inv) (sym (c .before .is-open .ensures) ∙ c .if1 .left)
 
 pub trace-spec : {M : Type 1} → statement M
 trace-spec =
