@@ -1,11 +1,12 @@
--- Two parts of a list, before and from a place o on.
+-- Parts of a list, and lists that are filled from the front.
 -- Assumes nothing.
 use mathlib.Core.Path.{_≡_, ap, sym, _∙_}
-use mathlib.Core.List.{List, _++_}
-use Prim.Native.Nat.{ℕ, _+_, _-_, _≤_, _<_}
+use mathlib.Core.List.{List, _++_, append-nil}
+use Prim.Native.Nat.{ℕ, suc, _+_, _≤_, _<_}
+use native.Mathlib.Numerals.{add-one}
 use native.Mathlib.Omega.{arith}
-use lib.ListN.{length, take, drop, length-take, length-drop, take-append-drop}
-use lib.Seq.{getD-take, getD-drop, ext-getD}
+use lib.ListN.{length, take, drop, set, replicate, length-take, length-drop, take-append-drop}
+use lib.Seq.{getD-take, getD-drop, ext-getD, drop-cons, set-at, length-take-le, append-snoc, take-suc, take-length, drop-length}
 use Rattle.lists.specs.Search.{at}
 
 -- the part of k entries from a on
@@ -30,3 +31,21 @@ part-take a k o w h l =
     (λ i b.
     let c : i < k = omega (arith, length-part a k (take o w) (simp length-take (omega arith))) in
     at-part a k (take o w) i c ∙ getD-take o w (a + i) 0 (omega arith) ∙ sym (at-part a k w i c))
+
+-- a copy to the front of a list, one entry more
+pub copy-more : (s d : List ℕ) (i : ℕ) → i < length s → i < length d → set (take i s ++ drop i d) i (at s i) ≡ take (i + 1) s ++ drop (i + 1) d
+copy-more s d i h k =
+    ap (λ (r : List ℕ). set (take i s ++ r) i (at s i)) (drop-cons d i 0 k)
+    ∙ set-at (take i s) (at d i) (drop (suc i) d) (at s i) i (length-take-le i s (omega arith))
+    ∙ sym (append-snoc (take i s) (at s i) (drop (suc i) d))
+    ∙ ap (λ (r : List ℕ). r ++ drop (suc i) d) (sym (take-suc s i 0 h))
+    ∙ ap (λ (j : ℕ). take j s ++ drop j d) (sym (add-one i))
+
+pub copy-all : (s d : List ℕ) (i : ℕ) → i ≡ length s → take i s ++ drop i d ≡ s ++ drop (length s) d
+copy-all s d i e = ap (λ (j : ℕ). take j s ++ drop j d) e ∙ ap (λ (r : List ℕ). r ++ drop (length s) d) (take-length s)
+
+pub clear-all : (d : List ℕ) (i : ℕ) → i ≡ length d → replicate i 0 ++ drop i d ≡ replicate (length d) 0
+clear-all d i e =
+    ap (λ (j : ℕ). replicate j 0 ++ drop j d) e
+    ∙ ap (λ (r : List ℕ). replicate (length d) 0 ++ r) (drop-length d)
+    ∙ append-nil (replicate (length d) 0)
