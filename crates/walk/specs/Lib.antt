@@ -1,3 +1,4 @@
 pub mod Layout
 pub mod Sides
 pub mod Traces
+pub mod Walks

@@ -124,3 +124,25 @@ fn trace(n: usize, m: usize, v: u32, s: u32, work: &mut [u32])
         t = turn(n, m, work, t);
     }
 }
+
+// The vertices one after another, over places that are empty at first.
+fn walk_empty(n: usize, m: usize, work: &mut [u32])
+    requires { ⌜ Sizes n m (now work) × Linked n m (now work) × Walking n m 0 (now work) (now work) ⌝ }
+    ensures { λ r. ⌜ Walking n m n (now (work .entry)) (now (work .exit)) ⌝ }
+{
+    let mut v: u32 = 0;
+    while wide(v) < n {
+        v += 1;
+        let s = start(n, m, work, wide(v));
+        trace(n, m, v, s, work);
+    }
+}
+
+pub fn walk(n: usize, m: usize, work: &mut [u32])
+    requires { ⌜ Sizes n m (now work) × Linked n m (now work) ⌝ }
+    ensures { λ r. ⌜ Walking n m n (now (work .entry)) (now (work .exit)) ⌝ }
+{
+    let a = n + 8 * m;
+    buffers::clear(&mut work[a..]);
+    walk_empty(n, m, work);
+}
