@@ -2,11 +2,11 @@
 -- Assumes nothing.
 use mathlib.Core.Path.{_≡_, ap, sym, _∙_}
 use mathlib.Core.List.{List, _++_, append-nil}
-use Prim.Native.Nat.{ℕ, suc, _+_, _≤_, _<_}
+use Prim.Native.Nat.{ℕ, suc, _+_, _-_, _≤_, _<_}
 use native.Mathlib.Numerals.{add-one}
 use native.Mathlib.Omega.{arith}
-use lib.ListN.{length, take, drop, set, replicate, length-take, length-drop, take-append-drop}
-use lib.Seq.{getD-take, getD-drop, ext-getD, drop-cons, set-at, length-take-le, append-snoc, take-suc, take-length, drop-length}
+use lib.ListN.{length, take, drop, set, replicate, length-append, drop-of-length-le, length-take, length-drop, take-append-drop}
+use lib.Seq.{getD-take, getD-drop, ext-getD, take-at, drop-at, drop-cons, set-at, length-take-le, append-snoc, take-suc, take-length, drop-length}
 use Rattle.lists.specs.Search.{at}
 
 -- the part of k entries from a on
@@ -49,3 +49,17 @@ clear-all d i e =
     ap (λ (j : ℕ). replicate j 0 ++ drop j d) e
     ∙ ap (λ (r : List ℕ). replicate (length d) 0 ++ r) (drop-length d)
     ∙ append-nil (replicate (length d) 0)
+
+-- what stands from a on replaced by ys, as many: what was before a stays
+module _ (a : ℕ) (w ys : List ℕ) (inside : a ≤ length w) where
+  pub put-take : (k : ℕ) → take a (take a w ++ (ys ++ drop k (drop a w))) ≡ take a w
+  put-take k = take-at (take a w) (ys ++ drop k (drop a w)) a (length-take-le a w inside)
+
+  pub put-drop : drop a (take a w ++ (ys ++ drop (length w - a) (drop a w))) ≡ ys
+  put-drop =
+      drop-at (take a w) (ys ++ drop (length w - a) (drop a w)) a (length-take-le a w inside)
+      ∙ ap (λ (r : List ℕ). ys ++ r) (drop-of-length-le (drop a w) {i = length w - a} (simp length-drop (omega arith)))
+      ∙ append-nil ys
+
+  pub put-length : length ys ≡ length w - a → length (take a w ++ (ys ++ drop (length w - a) (drop a w))) ≡ length w
+  put-length e = simp (length-append, length-take, length-drop) (omega arith)

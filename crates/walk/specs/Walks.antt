@@ -6,7 +6,7 @@ use Prim.Native.Nat.{ℕ, zero, suc, _+_, _*_, _-_, _≤_, _<_}
 use native.Mathlib.Omega.{arith}
 use native.Mathlib.Numerals.{add-one}
 use lib.ListN.{length, take, drop, replicate}
-use lib.Seq.{getD-take}
+use lib.Seq.{getD-take, take-take}
 use Rattle.lists.specs.Search.{at, zeros}
 use Rattle.rules.specs.Recovery.{sideOfBorder, walkStart, trace, walkTo}
 use Rattle.walk.specs.Layout.{Sizes, tables, written, v2eIn, e2eIn, Linked, Traced, Walking}
@@ -42,10 +42,27 @@ module _ (n m : ℕ) (w : List ℕ) (z : Sizes n m w) where
         record {
           kept = t .kept ∙ k .kept;
           new =
-            t .new
-            ∙ ap (λ (E : List ℕ). trace (zeros (written n m w′)) E u s (written n m w′)) same
-            ∙ ap (λ (W : List ℕ). trace (zeros W) (e2eIn n m w) u s W) (k .new)
-            ∙ ap (λ (x : ℕ). trace (zeros (walkTo (v2eIn n w) (e2eIn n m w) v)) (e2eIn n m w) u x (walkTo (v2eIn n w) (e2eIn n m w) v)) start
-            ∙ ap (λ (x : ℕ). trace (zeros (walkTo (v2eIn n w) (e2eIn n m w) v)) (e2eIn n m w) x (walkStart (e2eIn n m w) (at (v2eIn n w) v)) (walkTo (v2eIn n w) (e2eIn n m w) v)) g
-            ∙ sym (ap (walkTo (v2eIn n w) (e2eIn n m w)) g);
-          long = t .long ∙ k .long }
+              t .new
+              ∙ ap (λ (E : List ℕ). trace (zeros (written n m w′)) E u s (written n m w′)) same
+              ∙ ap (λ (W : List ℕ). trace (zeros W) (e2eIn n m w) u s W) (k .new)
+              ∙ ap (λ (x : ℕ). trace (zeros (walkTo (v2eIn n w) (e2eIn n m w) v)) (e2eIn n m w) u x (walkTo (v2eIn n w) (e2eIn n m w) v)) start
+              ∙ ap (λ (x : ℕ). trace (zeros (walkTo (v2eIn n w) (e2eIn n m w) v)) (e2eIn n m w) x (walkStart (e2eIn n m w) (at (v2eIn n w) v)) (walkTo (v2eIn n w) (e2eIn n m w) v)) g
+              ∙ sym (ap (walkTo (v2eIn n w) (e2eIn n m w)) g);
+          long = t .long ∙ k .long;
+        }
+
+-- the walk begins with the places it writes cleared
+module _ (n m : ℕ) (w w′ : List ℕ) (z : Sizes n m w) (kept : tables n m w′ ≡ tables n m w) (long : length w′ ≡ length w) (clear : written n m w′ ≡ replicate (4 * m) 0) where
+  pub cleared : Linked n m w → Sizes n m w′ × Linked n m w′ × Walking n m 0 w′ w′
+  cleared linked =
+      let z′ : Sizes n m w′ = record { vertices = z .vertices; elements = z .elements; long = long ∙ z .long } in
+      (z′, kept-linked n m w w′ z long kept linked, walking-start n m w′ z′ clear)
+
+  pub walked-from : (w″ : List ℕ) → Walking n m n w′ w″ → Walking n m n w w″
+  walked-from w″ k =
+      let vertices : v2eIn n w′ ≡ v2eIn n w = sym (take-take n (n + 8 * m) w′ (omega arith)) ∙ ap (take n) kept ∙ take-take n (n + 8 * m) w (omega arith) in
+      record {
+        kept = k .kept ∙ kept;
+        new = k .new ∙ ap (λ (V2e : List ℕ). walkTo V2e (e2eIn n m w′) n) vertices ∙ ap (λ (E : List ℕ). walkTo (v2eIn n w) E n) (e-kept n m w w′ z long kept);
+        long = k .long ∙ long;
+      }

@@ -40,12 +40,13 @@ loop-less : tie.Need-loop-less Inv-loop μ-loop
 loop-less c = omega (arith, c .before .before .before .before .before .before .before .before .wide .ensures)
 
 loop-again : tie.Need-loop-again Inv-loop μ-loop
-loop-again c = 
+loop-again c =
     let k = c .before .before .before .before .before .before .before .before .before in
-    let v = k .loop .v in
-    (walking-on (c .before .before .before .before .before .before .before .before .before .before .before .args .n) (c .before .before .before .before .before .before .before .before .before .before .before .args .m) (c .before .before .before .before .before .before .before .before .before .before .before .args .work .now) (c .before .before .before .before .before .before .before .before .before .before .before .pre .0) v (k .loop .work) (k .loop .inv .0) (v + 1) (c .before .before .before .before .start .result) _ refl (omega (arith, c .before .before .before .before .before .before .before .before .wide .ensures))
-    (c .before .before .before .before .start .ensures ∙ ap (λ (i : ℕ). walkStart (e2eIn (c .before .before .before .before .before .before .before .before .before .before .before .args .n) (c .before .before .before .before .before .before .before .before .before .before .before .args .m) (k .loop .work)) (at (k .loop .work) (i - 1))) (c .before .before .before .before .before .wide2 .ensures)) (c .before .before .trace .ensures),
-    omega (arith, c .before .before .before .before .before .before .before .before .wide .ensures))
+    let v = k .loop .v in (
+      walking-on (c .before .before .before .before .before .before .before .before .before .before .before .args .n) (c .before .before .before .before .before .before .before .before .before .before .before .args .m) (c .before .before .before .before .before .before .before .before .before .before .before .args .work .now) (c .before .before .before .before .before .before .before .before .before .before .before .pre .0) v (k .loop .work) (k .loop .inv .0) (v + 1) (c .before .before .before .before .start .result) _ refl (omega (arith, c .before .before .before .before .before .before .before .before .wide .ensures))
+          (c .before .before .before .before .start .ensures ∙ ap (λ (i : ℕ). walkStart (e2eIn (c .before .before .before .before .before .before .before .before .before .before .before .args .n) (c .before .before .before .before .before .before .before .before .before .before .before .args .m) (k .loop .work)) (at (k .loop .work) (i - 1))) (c .before .before .before .before .before .wide2 .ensures)) (c .before .before .trace .ensures),
+      omega (arith, c .before .before .before .before .before .before .before .before .wide .ensures),
+    )
 
 same-length : tie.Need-same-length Inv-loop μ-loop
 same-length c = c .before .before .loop .inv .0 .long
