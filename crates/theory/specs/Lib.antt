@@ -4,4 +4,3 @@ pub mod Entries
 pub mod Turns
 pub mod Orders
 pub mod Tracing
-pub mod Walking
