@@ -2,3 +2,4 @@ pub mod Tests
 pub mod TestLaws
 pub mod Search
 pub mod SearchLaws
+pub mod Stores

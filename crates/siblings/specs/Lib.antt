@@ -1,0 +1,4 @@
+pub mod Siblings
+pub mod Chains
+pub mod Rings
+pub mod SiblingLaws
