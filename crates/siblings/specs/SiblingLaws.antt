@@ -29,6 +29,12 @@ ends-fit n L f s a =
     let z = f .to s a in
     let w = f .to (next L s) b in ((omega arith), (omega arith), (omega arith))
 
+pub between-fit : {n : ℕ} {L : List ℕ} {u v s : ℕ} → Fit n L → Between L u v s → (1 ≤ u) × (u < v) × (v ≤ n)
+between-fit {n} {L} {s} f b =
+    let e = ends-fit n L f s (b .side) in
+    let l = b .low in
+    let h = b .high in ((omega arith), (omega arith), (omega arith))
+
 module _ (L : List ℕ) where
   pub side-beyond : (s : ℕ) → Side L s → s < beyond L
   side-beyond s a = let f = side-facts L s a in omega arith
