@@ -31,3 +31,6 @@ kept-set {W = W} i x p h =
       long = length-set W i x ∙ p .long;
       entries = λ j l. let d : j ≡ i → ⊥ = λ e. omega arith in at-other W i x j d ∙ p .entries j l;
     }
+
+pub kept-later : {k m : ℕ} {U W : List ℕ} → Kept k U W → k ≤ m → Kept m U W
+kept-later p h = record { long = p .long; entries = λ j l. p .entries j (omega arith) }

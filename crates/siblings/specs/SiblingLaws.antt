@@ -93,7 +93,7 @@ module _ (L : List ℕ) where
         go (pass w e) (nobody z f) (nobody y g) = absurd (T-not (joins L s s) (g s (b .side)) (between-joins s s b b))
         go (pass w e) (nobody z f) (somebody a x g) =
             let under : (y : ℕ) → Between L u v y → y < firstSide L (joins L s) → ⊥ =
-                λ y k h. T-not (joins L s y) (g y (k .side) h) (between-joins s y b k) in
+            λ y k h. T-not (joins L s y) (g y (k .side) h) (between-joins s y b k) in
             rw (e, sibling)
             (returns (joins-between s (firstSide L (joins L s)) b a x) (le-not-lt (firstSide L (joins L s)) s (λ h. under s b h))
             (λ y k h l. T-not (higher s y) (f y (k .side)) (means-higher s y .shows (h, between-joins s y b k)))
