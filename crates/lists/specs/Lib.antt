@@ -3,3 +3,4 @@ pub mod TestLaws
 pub mod Search
 pub mod SearchLaws
 pub mod Stores
+pub mod CountLaws

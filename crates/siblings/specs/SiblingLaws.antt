@@ -54,7 +54,14 @@ module _ (L : List ℕ) where
           go (inl e) = inl (means-alike L s t .shows (e, (omega arith)))
           go (inr d) = inr (means-opposed L s t .shows ((omega arith), (omega arith)))
 
-  module _ (u v : ℕ) where
+  higher : ℕ → ℕ → Bool
+  higher s t = both (ltb s t) (joins L s t)
+
+  means-higher : (s t : ℕ) → Means (higher s t) ((s < t) × T (joins L s t))
+  unfolding higher
+  means-higher s t = means-both (means-lt s t) (means-itself (joins L s t))
+
+  module _ {u v : ℕ} where
     -- what joins the vertices of a side between u and v is between u and v
     pub joins-between : (s t : ℕ) → Between L u v s → Side L t → T (joins L s t) → Between L u v t
     joins-between s t b a x =
@@ -64,24 +71,17 @@ module _ (L : List ℕ) where
     between-joins s t b c = means-between s t .shows (b .low ∙ sym (c .low), b .high ∙ sym (c .high))
 
     -- only one side follows another
-    pub next-one : (c t x y : ℕ) → Next L u v c t x → Next L u v c t y → x ≡ y
-    next-one c t x y (rises a h i f) (rises b j k g) =
+    pub next-one : {c t x y : ℕ} → Next L u v c t x → Next L u v c t y → x ≡ y
+    next-one {x} {y} (rises a h i f) (rises b j k g) =
         let p : x ≤ y = le-not-lt x y (λ l. f y b j l) in
         let q : y ≤ x = le-not-lt y x (λ l. g x a h l) in
         omega arith
-    next-one c t x y (rises a h i f) (returns b j g k) = absurd (g x a h i)
-    next-one c t x y (returns a h f i) (rises b j k g) = absurd (f y b j k)
-    next-one c t x y (returns a h f i) (returns b j g k) =
+    next-one {x} (rises a h i f) (returns b j g k) = absurd (g x a h i)
+    next-one {y} (returns a h f i) (rises b j k g) = absurd (f y b j k)
+    next-one {x} {y} (returns a h f i) (returns b j g k) =
         let p : x ≤ y = le-not-lt x y (λ l. i y b l) in
         let q : y ≤ x = le-not-lt y x (λ l. k x a l) in
         omega arith
-
-    higher : ℕ → ℕ → Bool
-    higher s t = both (ltb s t) (joins L s t)
-
-    means-higher : (s t : ℕ) → Means (higher s t) ((s < t) × T (joins L s t))
-    unfolding higher
-    means-higher s t = means-both (means-lt s t) (means-itself (joins L s t))
 
     pub sibling-follows : (s : ℕ) → Between L u v s → Next L u v (beyond L) s (sibling L s)
     unfolding sibling higher
@@ -107,4 +107,4 @@ module _ (L : List ℕ) where
 
     -- what follows a side among all sides between its vertices is its sibling
     pub is-sibling : (s x : ℕ) → Between L u v s → Next L u v (beyond L) s x → x ≡ sibling L s
-    is-sibling s x b k = next-one (beyond L) s x (sibling L s) k (sibling-follows s b)
+    is-sibling s x b k = next-one k (sibling-follows s b)
