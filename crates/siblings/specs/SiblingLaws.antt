@@ -1,17 +1,17 @@
 -- Laws of siblings: sides join the same two vertices where their lesser and greater vertices agree, and the sibling follows a side in the
 -- ring of all sides between its vertices.
 -- Assumes nothing.
-use mathlib.Core.Path.{_≡_, refl, ap, sym, _∙_}
-use mathlib.Core.Bool.{Bool, true, false, not}
+use mathlib.Core.Path.{_≡_, sym, _∙_}
+use mathlib.Core.Bool.{Bool}
 use mathlib.Core.Logic.{_⊎_, inl, inr}
 use mathlib.Core.List.{List}
-use Prim.Native.Nat.{ℕ, _+_, _*_, _/_, _%_, _≤_, _<_, min, max}
+use Prim.Native.Nat.{ℕ, _≤_, _<_}
 use native.Mathlib.Omega.{arith}
 use lib.Dec.{T, ltb, eqb, T-not}
 use Rattle.lists.specs.Tests.{both}
 use Rattle.lists.specs.TestLaws.{Test, pass, fail, test, Means, means-itself, decide, means-both, means-not, means-eq, means-lt}
 use Rattle.lists.specs.SearchLaws.{le-not-lt}
-use Rattle.rules.specs.Elements.{elements, Side, origin, destination, next, firstSide}
+use Rattle.rules.specs.Elements.{Side, origin, next, firstSide}
 use Rattle.rules.specs.Pairing.{alike, opposed, joins}
 use Rattle.theory.specs.Sides.{Fit, First, nobody, somebody, first-side, side-facts, side-positive, next-side, ends-differ}
 use Rattle.theory.specs.Pairings.{means-alike, means-opposed, means-joins}

@@ -1,18 +1,16 @@
 -- What the sibling of a side tells: whether other sides join its vertices, whether three do, whether another runs alike, and its partner.
 -- Assumes nothing.
 use mathlib.Core.Path.{_≡_, refl, ap, sym, subst, _∙_}
-use mathlib.Core.Bool.{Bool}
 use mathlib.Core.Logic.{_⊎_, inl, inr, _↔_}
 use mathlib.Core.List.{List}
-use Prim.Native.Nat.{ℕ, _≤_, _<_}
+use Prim.Native.Nat.{ℕ, _≤_}
 use native.Mathlib.Omega.{arith}
 use lib.Dec.{T}
 use lib.ListN.{length}
-use Rattle.lists.specs.Tests.{both}
 use Rattle.lists.specs.TestLaws.{decide, passes, both-pass, means-eq, zero-or}
 use Rattle.lists.specs.SearchLaws.{le-not-lt}
 use Rattle.lists.specs.CountLaws.{Three, three, three-counted}
-use Rattle.rules.specs.Elements.{isSide, Side, slot, origin, destination, sideAt, sideWith, firstSide, countSides}
+use Rattle.rules.specs.Elements.{isSide, Side, slot, origin, sideAt, sideWith, firstSide, countSides}
 use Rattle.rules.specs.Pairing.{alike, opposed, joins}
 use Rattle.rules.specs.Tables.{partner}
 use Rattle.theory.specs.Sides.{Fit, slot-sideAt, sideAt-slot, slot-below, slot-inj, first-found, ends-differ}
