@@ -4,3 +4,5 @@ pub mod Search
 pub mod SearchLaws
 pub mod Distinct
 pub mod Parts
+pub mod Stores
+pub mod CountLaws

@@ -1,0 +1,36 @@
+-- Stores in a list of numbers, and what a list keeps of another.
+-- Assumes nothing.
+use mathlib.Core.Path.{_≡_, refl, _∙_}
+use mathlib.Core.List.{List}
+use Prim.Native.Nat.{ℕ, _≤_, _<_}
+use native.Mathlib.Omega.{arith}
+use lib.ListN.{length, set, length-set}
+use lib.Seq.{getD-set-same, getD-set-other}
+use Rattle.lists.specs.Search.{at}
+
+pub at-same : (W : List ℕ) (i x : ℕ) → i < length W → at (set W i x) i ≡ x
+at-same W i x h = getD-set-same W i x 0 h
+
+pub at-other : (W : List ℕ) (i x j : ℕ) → (j ≡ i → ⊥) → at (set W i x) j ≡ at W j
+at-other W i x j d = getD-set-other W i j x 0 d
+
+-- W is as long as U, and has the same entries from place k on
+pub record Kept (k : ℕ) (U W : List ℕ) : Type 0 where
+  pub long : length W ≡ length U
+  pub entries : (j : ℕ) → k ≤ j → at W j ≡ at U j
+
+pub kept-itself : (k : ℕ) (W : List ℕ) → Kept k W W
+kept-itself k W = record { long = refl; entries = λ j h. refl }
+
+pub kept-on : {k : ℕ} {T U W : List ℕ} → Kept k T U → Kept k U W → Kept k T W
+kept-on p q = record { long = q .long ∙ p .long; entries = λ j h. q .entries j h ∙ p .entries j h }
+
+pub kept-set : {k : ℕ} {U W : List ℕ} (i x : ℕ) → Kept k U W → i < k → Kept k U (set W i x)
+kept-set {W = W} i x p h =
+    record {
+      long = length-set W i x ∙ p .long;
+      entries = λ j l. let d : j ≡ i → ⊥ = λ e. omega arith in at-other W i x j d ∙ p .entries j l;
+    }
+
+pub kept-later : {k m : ℕ} {U W : List ℕ} → Kept k U W → k ≤ m → Kept m U W
+kept-later p h = record { long = p .long; entries = λ j l. p .entries j (omega arith) }

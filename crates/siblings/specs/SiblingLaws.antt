@@ -1,0 +1,110 @@
+-- Laws of siblings: sides join the same two vertices where their lesser and greater vertices agree, and the sibling follows a side in the
+-- ring of all sides between its vertices.
+-- Assumes nothing.
+use mathlib.Core.Path.{_≡_, sym, _∙_}
+use mathlib.Core.Bool.{Bool}
+use mathlib.Core.Logic.{_⊎_, inl, inr}
+use mathlib.Core.List.{List}
+use Prim.Native.Nat.{ℕ, _≤_, _<_}
+use native.Mathlib.Omega.{arith}
+use lib.Dec.{T, ltb, eqb, T-not}
+use Rattle.lists.specs.Tests.{both}
+use Rattle.lists.specs.TestLaws.{Test, pass, fail, test, Means, means-itself, decide, means-both, means-not, means-eq, means-lt}
+use Rattle.lists.specs.SearchLaws.{le-not-lt}
+use Rattle.rules.specs.Elements.{Side, origin, next, firstSide}
+use Rattle.rules.specs.Pairing.{alike, opposed, joins}
+use Rattle.theory.specs.Sides.{Fit, First, nobody, somebody, first-side, side-facts, side-positive, next-side, ends-differ}
+use Rattle.theory.specs.Pairings.{means-alike, means-opposed, means-joins}
+use Rattle.siblings.specs.Siblings.{sibling, lesser, greater, Between, beyond}
+use Rattle.siblings.specs.Rings.{Next, rises, returns}
+
+-- the vertices of a side of fit rows
+pub ends-fit : (n : ℕ) (L : List ℕ) → Fit n L → (s : ℕ) → Side L s → (1 ≤ lesser L s) × (lesser L s < greater L s) × (greater L s ≤ n)
+unfolding lesser greater
+ends-fit n L f s a =
+    let d = ends-differ n L f s a in
+    let b = next-side L s a in
+    let x = f .from s a in
+    let y = f .from (next L s) b in
+    let z = f .to s a in
+    let w = f .to (next L s) b in ((omega arith), (omega arith), (omega arith))
+
+pub between-fit : {n : ℕ} {L : List ℕ} {u v s : ℕ} → Fit n L → Between L u v s → (1 ≤ u) × (u < v) × (v ≤ n)
+between-fit {n} {L} {s} f b =
+    let e = ends-fit n L f s (b .side) in
+    let l = b .low in
+    let h = b .high in ((omega arith), (omega arith), (omega arith))
+
+module _ (L : List ℕ) where
+  pub side-beyond : (s : ℕ) → Side L s → s < beyond L
+  side-beyond s a = let f = side-facts L s a in omega arith
+
+  pub means-between : (s t : ℕ) → Means (joins L s t) ((lesser L s ≡ lesser L t) × (greater L s ≡ greater L t))
+  unfolding lesser greater
+  means-between s t = record { says = λ x. says (means-joins L s t .says x); shows = λ x. means-joins L s t .shows (shows x) }
+    where
+      says : T (alike L s t) ⊎ T (opposed L s t) → (lesser L s ≡ lesser L t) × (greater L s ≡ greater L t)
+      says (inl x) = let (p, q) = means-alike L s t .says x in ((omega arith), (omega arith))
+      says (inr x) = let (p, q) = means-opposed L s t .says x in ((omega arith), (omega arith))
+
+      shows : (lesser L s ≡ lesser L t) × (greater L s ≡ greater L t) → T (alike L s t) ⊎ T (opposed L s t)
+      shows (p, q) = go (decide (means-eq (origin L s) (origin L t)))
+        where
+          go : (origin L s ≡ origin L t) ⊎ (origin L s ≡ origin L t → ⊥) → T (alike L s t) ⊎ T (opposed L s t)
+          go (inl e) = inl (means-alike L s t .shows (e, (omega arith)))
+          go (inr d) = inr (means-opposed L s t .shows ((omega arith), (omega arith)))
+
+  higher : ℕ → ℕ → Bool
+  higher s t = both (ltb s t) (joins L s t)
+
+  means-higher : (s t : ℕ) → Means (higher s t) ((s < t) × T (joins L s t))
+  unfolding higher
+  means-higher s t = means-both (means-lt s t) (means-itself (joins L s t))
+
+  module _ {u v : ℕ} where
+    -- what joins the vertices of a side between u and v is between u and v
+    pub joins-between : (s t : ℕ) → Between L u v s → Side L t → T (joins L s t) → Between L u v t
+    joins-between s t b a x =
+        let (p, q) = means-between s t .says x in record { side = a; low = sym p ∙ b .low; high = sym q ∙ b .high }
+
+    pub between-joins : (s t : ℕ) → Between L u v s → Between L u v t → T (joins L s t)
+    between-joins s t b c = means-between s t .shows (b .low ∙ sym (c .low), b .high ∙ sym (c .high))
+
+    -- only one side follows another
+    pub next-one : {c t x y : ℕ} → Next L u v c t x → Next L u v c t y → x ≡ y
+    next-one {x} {y} (rises a h i f) (rises b j k g) =
+        let p : x ≤ y = le-not-lt x y (λ l. f y b j l) in
+        let q : y ≤ x = le-not-lt y x (λ l. g x a h l) in
+        omega arith
+    next-one {x} (rises a h i f) (returns b j g k) = absurd (g x a h i)
+    next-one {y} (returns a h f i) (rises b j k g) = absurd (f y b j k)
+    next-one {x} {y} (returns a h f i) (returns b j g k) =
+        let p : x ≤ y = le-not-lt x y (λ l. i y b l) in
+        let q : y ≤ x = le-not-lt y x (λ l. k x a l) in
+        omega arith
+
+    pub sibling-follows : (s : ℕ) → Between L u v s → Next L u v (beyond L) s (sibling L s)
+    unfolding sibling higher
+    sibling-follows s b =
+        go (test (eqb (firstSide L (higher s)) 0)) (first-side L (higher s)) (first-side L (joins L s))
+      where
+        go : Test (eqb (firstSide L (higher s)) 0) → First L (higher s) (firstSide L (higher s)) → First L (joins L s) (firstSide L (joins L s)) → Next L u v (beyond L) s (sibling L s)
+        go (pass w e) (somebody a x f) r = absurd (side-positive L _ a (means-eq (firstSide L (higher s)) 0 .says w))
+        go (pass w e) (nobody z f) (nobody y g) = absurd (T-not (joins L s s) (g s (b .side)) (between-joins s s b b))
+        go (pass w e) (nobody z f) (somebody a x g) =
+            let under : (y : ℕ) → Between L u v y → y < firstSide L (joins L s) → ⊥ =
+            λ y k h. T-not (joins L s y) (g y (k .side) h) (between-joins s y b k) in
+            rw (e, sibling)
+            (returns (joins-between s (firstSide L (joins L s)) b a x) (le-not-lt (firstSide L (joins L s)) s (λ h. under s b h))
+            (λ y k h l. T-not (higher s y) (f y (k .side)) (means-higher s y .shows (h, between-joins s y b k)))
+            under)
+        go (fail w e) (nobody z f) r = absurd (means-not (means-eq (firstSide L (higher s)) 0) .says w z)
+        go (fail w e) (somebody a x f) r =
+            let (h, j) = means-higher s (firstSide L (higher s)) .says x in
+            rw (e, sibling)
+            (rises (joins-between s (firstSide L (higher s)) b a j) h (side-beyond (firstSide L (higher s)) a)
+            (λ y k l m. T-not (higher s y) (f y (k .side) m) (means-higher s y .shows (l, between-joins s y b k))))
+
+    -- what follows a side among all sides between its vertices is its sibling
+    pub is-sibling : (s x : ℕ) → Between L u v s → Next L u v (beyond L) s x → x ≡ sibling L s
+    is-sibling s x b k = next-one k (sibling-follows s b)
