@@ -19,7 +19,7 @@ use Rattle.rules.specs.Pairing.{Pairing, Turn, SideAt, TurnOrder}
 use Rattle.rules.specs.Tables.{partner, e2e, v2e}
 use Rattle.rules.specs.Recovery.{walkStart, walk}
 use Rattle.rules.specs.Refusals.{missed, unorderedVertex}
-use Rattle.theory.specs.Sides.{Fit, SidesBy, three, four, sides-by, side-of, sideAt-slot, slot-sideAt, means-some, means-no-vertex}
+use Rattle.theory.specs.Sides.{Fit, SidesBy, three, four, sides-by, no-side-zero, sideAt-slot, slot-sideAt}
 use Rattle.theory.specs.Entries.{length-e2e}
 use Rattle.theory.specs.Orders.{Good, turn-origin, turn-inj, first-after, begins}
 use Rattle.theory.specs.Walking.{Start, after, side, nowhere, start-at, Fan, Walked, walk-walked}
@@ -131,35 +131,6 @@ module _ (n : ℕ) (L : List ℕ) (p : Pairing L (partner L)) (v : ℕ) (from : 
             (λ t b. elim (reached t b) [ inl z ↦ absurd (omega (arith, all t b)) | inr m ↦ m ])
             (fan .some s a),
       )
-
--- a place of the list where no side stands is a triangle's fourth, and holds 0
-no-side-zero : (L : List ℕ) (q : ℕ) → q < 4 * elements L → T (not (isSide L (sideAt q))) → at L q ≡ 0
-unfolding sideAt
-no-side-zero L q h t = go (sides-by (corner L (q / 4 + 1) 4)) refl
-  where
-    s : ℕ
-    s = 8 * (q / 4 + 1) + (q % 4 + 1)
-
-    e : s / 8 ≡ q / 4 + 1
-    e = omega arith
-
-    i : s % 8 ≡ q % 4 + 1
-    i = omega arith
-
-    -- within its element's sides it would be one
-    side-there : q % 4 + 1 ≤ sides L (q / 4 + 1) → ⊥
-    side-there l = T-not (isSide L s) t (side-of L s (omega arith) (omega arith) (omega arith) (rw (e, i) l))
-
-    go : {k : ℕ} → SidesBy (corner L (q / 4 + 1) 4) k → sides L (q / 4 + 1) ≡ k → at L q ≡ 0
-    go (four z d) g = absurd (side-there (omega arith))
-    go (three z d) g = third (decide (means-lt (q % 4) 3))
-      where
-        third : (q % 4 < 3) ⊎ (q % 4 < 3 → ⊥) → at L q ≡ 0
-        third (inl l) = absurd (side-there (omega arith))
-        third (inr l) =
-            let w : q % 4 ≡ 3 = omega (arith, le-not-lt 3 (q % 4) l) in
-            let c : q ≡ 4 * (q / 4 + 1 - 1) + 3 = omega arith in
-            ap (at L) c ∙ z
 
 -- theorem 4: the walk gives every accepted list back from its tables
 pub walk-back : (n : ℕ) (L : List ℕ) → Good n L → walk (v2e n L) (e2e L) ≡ L

@@ -423,3 +423,77 @@ module _ (n : ℕ) (L : List ℕ) where
 pub ends-differ : (n : ℕ) (L : List ℕ) → Fit n L → (s : ℕ) → Side L s → origin L s ≡ destination L s → ⊥
 ends-differ n L f s a e =
     next-differs L s a (sym (f .differ s (next L s) a (next-side L s a) (sym (next-numbered L s a .same)) e))
+
+pub vertex-is : (n : ℕ) (t : ℕ → Bool) (r : ℕ) → FirstVertex n t r → firstVertex n t ≡ r
+vertex-is n t r x = go x (first-vertex n t)
+  where
+    go : {q : ℕ} → FirstVertex n t r → FirstVertex n t q → q ≡ r
+    go (nobody e f) (nobody g h) = g ∙ sym e
+    go {q} (nobody e f) (somebody a b u h) = absurd (T-not (t q) (f q a b) u)
+    go (somebody a b u f) (nobody g h) = absurd (T-not (t r) (h r a b) u)
+    go {q} (somebody a b u f) (somebody c d w h) =
+        let l : q ≤ r = le-not-lt q r (λ k. T-not (t r) (h r a k) u) in
+        let m : r ≤ q = le-not-lt r q (λ k. T-not (t q) (f q c k) w) in
+        omega arith
+
+-- the first side found from place to place
+module _ (L : List ℕ) (t : ℕ → Bool) where
+  pub found-at : (p : ℕ) → Side L (sideAt p) → T (t (sideAt p)) → ((s : ℕ) → Side L s → slot s < p → T (not (t s))) → firstSide L t ≡ sideAt p
+  found-at p a u f =
+      first-is L t (sideAt p) (somebody a u (λ s b h. f s b (rw (slot-sideAt p) at (slot-less L s (sideAt p) b a h))))
+
+  pub found-nowhere : (p : ℕ) → length L ≤ p → ((s : ℕ) → Side L s → slot s < p → T (not (t s))) → firstSide L t ≡ 0
+  found-nowhere p h f = first-is L t 0 (nobody refl (λ s b. f s b (omega (arith, slot-below L s b))))
+
+  -- one place more, with a side that fails or with none
+  pub found-later : (p : ℕ) → ((s : ℕ) → Side L s → slot s < p → T (not (t s))) → (Side L (sideAt p) → T (not (t (sideAt p)))) → (s : ℕ) → Side L s → slot s < p + 1 → T (not (t s))
+  found-later p f g s b h = go (lt-or-eq (slot s) p (omega arith))
+    where
+      go : (slot s < p) ⊎ (slot s ≡ p) → T (not (t s))
+      go (inl l) = f s b l
+      go (inr e) = let q : sideAt p ≡ s = ap sideAt (sym e) ∙ sideAt-slot L s b in subst (λ (x : ℕ). T (not (t x))) q (g (rw q b))
+
+-- a place of the list where no side stands is a triangle's fourth, and holds 0
+pub no-side-zero : (L : List ℕ) (q : ℕ) → q < 4 * elements L → T (not (isSide L (sideAt q))) → at L q ≡ 0
+unfolding sideAt
+no-side-zero L q h t = go (sides-by (corner L (q / 4 + 1) 4)) refl
+  where
+    s : ℕ
+    s = 8 * (q / 4 + 1) + (q % 4 + 1)
+
+    e : s / 8 ≡ q / 4 + 1
+    e = omega arith
+
+    i : s % 8 ≡ q % 4 + 1
+    i = omega arith
+
+    -- within its element's sides it would be one
+    side-there : q % 4 + 1 ≤ sides L (q / 4 + 1) → ⊥
+    side-there l = T-not (isSide L s) t (side-of L s (omega arith) (omega arith) (omega arith) (rw (e, i) l))
+
+    go : {k : ℕ} → SidesBy (corner L (q / 4 + 1) 4) k → sides L (q / 4 + 1) ≡ k → at L q ≡ 0
+    go (four z d) g = absurd (side-there (omega arith))
+    go (three z d) g = third (decide (means-lt (q % 4) 3))
+      where
+        third : (q % 4 < 3) ⊎ (q % 4 < 3 → ⊥) → at L q ≡ 0
+        third (inl l) = absurd (side-there (omega arith))
+        third (inr l) =
+            let w : q % 4 ≡ 3 = omega (arith, le-not-lt 3 (q % 4) l) in
+            let c : q ≡ 4 * (q / 4 + 1 - 1) + 3 = omega arith in
+            ap (at L) c ∙ z
+
+-- on fit rows a side stands exactly where the entry isn't 0
+module _ (n : ℕ) (L : List ℕ) (fit : Fit n L) (p : ℕ) where
+  pub side-at : p < length L → (at L p ≡ 0 → ⊥) → Side L (sideAt p)
+  side-at h d = go (test (isSide L (sideAt p)))
+    where
+      go : Test (isSide L (sideAt p)) → Side L (sideAt p)
+      go (pass t e) = t
+      go (fail t e) = absurd (d (no-side-zero L p (omega (arith, fit .fours)) t))
+
+  pub entry-at : Side L (sideAt p) → at L p ≡ origin L (sideAt p)
+  unfolding origin
+  entry-at a = ap (at L) (sym (slot-sideAt p))
+
+  pub no-side-at : at L p ≡ 0 → Side L (sideAt p) → ⊥
+  no-side-at e a = omega (arith, fit .from (sideAt p) a, entry-at a)
