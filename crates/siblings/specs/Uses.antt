@@ -1,19 +1,21 @@
 -- What the sibling of a side tells: whether other sides join its vertices, whether three do, whether another runs alike, and its partner.
 -- Assumes nothing.
 use mathlib.Core.Path.{_≡_, refl, ap, sym, subst, _∙_}
+use mathlib.Core.Bool.{not}
 use mathlib.Core.Logic.{_⊎_, inl, inr, _↔_}
 use mathlib.Core.List.{List}
 use Prim.Native.Nat.{ℕ, _≤_}
 use native.Mathlib.Omega.{arith}
-use lib.Dec.{T}
+use lib.Dec.{T, leb, eqb}
 use lib.ListN.{length}
-use Rattle.lists.specs.TestLaws.{decide, passes, both-pass, means-eq, zero-or}
+use Rattle.lists.specs.Tests.{both}
+use Rattle.lists.specs.TestLaws.{Means, means-le, means-not, decide, passes, both-pass, means-eq, zero-or}
 use Rattle.lists.specs.SearchLaws.{le-not-lt}
 use Rattle.lists.specs.CountLaws.{Three, three, three-counted}
 use Rattle.rules.specs.Elements.{isSide, Side, slot, origin, sideAt, sideWith, firstSide, countSides}
 use Rattle.rules.specs.Pairing.{alike, opposed, joins}
 use Rattle.rules.specs.Tables.{partner}
-use Rattle.theory.specs.Sides.{Fit, slot-sideAt, sideAt-slot, slot-below, slot-inj, first-found, ends-differ}
+use Rattle.theory.specs.Sides.{Fit, slot-sideAt, sideAt-slot, slot-below, slot-inj, first-found, means-some, ends-differ}
 use Rattle.theory.specs.Pairings.{means-alike, means-opposed, means-joins, partner-opposed}
 use Rattle.siblings.specs.Siblings.{sibling, lesser, greater, Between, beyond}
 use Rattle.siblings.specs.SiblingLaws.{side-beyond, joins-between, between-joins, sibling-follows}
@@ -124,6 +126,11 @@ module _ (L : List ℕ) (s : ℕ) (a : Side L s) where
           (λ e. d (sym (slot-inj L s y a (third .side) e)))
           (λ e. second (slot-inj L x y sibling-side (third .side) e))
 
+  pub means-crowded : Means (leb 3 (countSides L (joins L s))) (sibling L (sibling L s) ≡ s → ⊥)
+  means-crowded =
+      let m = means-le 3 (countSides L (joins L s)) in
+      record { says = λ t. crowded .0 (m .says t); shows = λ d. m .shows (crowded .1 d) }
+
   -- no side of fit rows runs opposed to itself
   not-opposed : (n : ℕ) → Fit n L → T (opposed L s s) → ⊥
   not-opposed n f o = ends-differ n L f s a (means-opposed L s s .says o .0)
@@ -143,6 +150,19 @@ module _ (L : List ℕ) (s : ℕ) (a : Side L s) where
         runs o (inr x) =
             let (p, q) = means-opposed L s (sibling L s) .says x in
             means-alike L s (sibling L s) .shows (o, q ∙ sym o ∙ p)
+
+    pub means-sibling-alike : Means (not (eqb (firstSide L (λ t. both (not (eqb s t)) (alike L s t))) 0)) ((sibling L s ≡ s → ⊥) × (origin L (sibling L s) ≡ origin L s))
+    means-sibling-alike =
+        let m = means-some L (λ t. both (not (eqb s t)) (alike L s t)) in
+        record {
+          says = λ z.
+              let (t, b, x) = m .says z in
+              let (d, y) = passes (not (eqb s t)) (alike L s t) x in
+              sibling-alike .0 (t, b, (λ e. means-not (means-eq s t) .says d (sym e)), y);
+          shows = λ x.
+              let (t, b, d, y) = sibling-alike .1 x in
+              m .shows (t, b, both-pass (not (eqb s t)) (alike L s t) (means-not (means-eq s t) .shows (λ e. d (sym e))) y);
+        }
 
     -- a sibling that does not run alike is the partner
     pub partner-sibling : (n : ℕ) → Fit n L → (origin L (sibling L s) ≡ origin L s → ⊥) → partner L s ≡ sibling L s
