@@ -1,0 +1,152 @@
+// Checks 5 to 7 over a list of fit rows: the least side of each vertex, and what the sibling map tells.
+ghost use mathlib.Core.Path.{_≡_};
+ghost use mathlib.Core.List.{List};
+ghost use Prim.Native.Nat.{ℕ, _+_, _*_, _-_, _≤_, _<_};
+ghost use lib.ListN.{length};
+ghost use Rattle.lists.specs.Search.{at};
+ghost use Rattle.lists.specs.Stores.{Kept};
+ghost use Rattle.lists.specs.TestLaws.{Means};
+ghost use Rattle.rules.specs.Elements.{elements, origin, Side};
+ghost use Rattle.rules.specs.Refusals.{unusedVertex, crowdedSide, alikeSide};
+ghost use Rattle.theory.specs.Sides.{Fit};
+ghost use Rattle.checks.specs.Firsts.{FirstsFrom, Firsts};
+ghost use Rattle.checks.specs.Maps.{Mapped, CrowdedAt, AlikeAt};
+
+fn wide(x: u32) -> usize
+    ensures { λ r. ⌜ r ≡ x ⌝ }
+{
+    x as usize
+}
+
+// The side that begins at place p is the least so far of its origin x; where x is 0 no side begins there.
+fn put_first(n: usize, list: &[u32], work: &mut [u32], p: usize, x: u32)
+    requires { ⌜ Fit n (now list) × (n ≤ length (now work)) × (p < length (now list)) × (x ≡ at (now list) p) × FirstsFrom n (now list) (p + 1) (now work) ⌝ }
+    ensures { λ r. ⌜ Kept n (now (work .entry)) (now (work .exit)) × FirstsFrom n (now (list .entry)) p (now (work .exit)) ⌝ }
+{
+    if x == 0 {
+        return;
+    }
+    let i = wide(x) - 1;
+    work[i] = halfedge::code_at(p);
+}
+
+fn put_row(n: usize, list: &[u32], work: &mut [u32], a: usize)
+    requires { ⌜ Fit n (now list) × (n ≤ length (now work)) × (a + 4 ≤ length (now list)) × FirstsFrom n (now list) (a + 4) (now work) ⌝ }
+    ensures { λ r. ⌜ Kept n (now (work .entry)) (now (work .exit)) × FirstsFrom n (now (list .entry)) a (now (work .exit)) ⌝ }
+{
+    let e = a + 4;
+    let row = halfedge::row(&list[a..e]);
+    put_first(n, list, work, a + 3, row[3]);
+    put_first(n, list, work, a + 2, row[2]);
+    put_first(n, list, work, a + 1, row[1]);
+    put_first(n, list, work, a, row[0]);
+}
+
+fn put_rows(n: usize, list: &[u32], work: &mut [u32])
+    requires { ⌜ Fit n (now list) × (n ≤ length (now work)) × FirstsFrom n (now list) (length (now list)) (now work) ⌝ }
+    ensures { λ r. ⌜ Kept n (now (work .entry)) (now (work .exit)) × FirstsFrom n (now (list .entry)) 0 (now (work .exit)) ⌝ }
+{
+    let mut a = list.len();
+    while 0 < a {
+        a -= 4;
+        put_row(n, list, work, a);
+    }
+}
+
+// At each vertex the least side with that origin; 0 where there is none.
+pub fn first_sides(n: usize, list: &[u32], work: &mut [u32])
+    requires { ⌜ Fit n (now list) × (n ≤ length (now work)) ⌝ }
+    ensures { λ r. ⌜ Kept n (now (work .entry)) (now (work .exit)) × Firsts n (now (list .entry)) (now (work .exit)) ⌝ }
+{
+    buffers::clear(&mut work[0..n]);
+    put_rows(n, list, work);
+}
+
+// Check 5: the least vertex with no side; 0 where there is none.
+pub fn unused_vertex(n: u32, work: &[u32]) -> u32
+    requires { ⌜ n ≤ length (now work) ⌝ }
+    ensures { λ r. ⌜ ((L : List ℕ) → Firsts n L (now (work .entry)) → r ≡ unusedVertex n L) ⌝ }
+{
+    let mut v: u32 = 0;
+    while v < n {
+        if work[wide(v)] == 0 {
+            return v + 1;
+        }
+        v += 1;
+    }
+    0
+}
+
+// Three or more sides join the vertices of the side that begins at place p.
+fn is_crowded(n: usize, list: &[u32], work: &[u32], p: usize) -> bool
+    requires { ⌜ Mapped n (now list) (now work) × (p < length (now list)) ⌝ }
+    ensures { λ r. ⌜ Means r (CrowdedAt (now (list .entry)) p) ⌝ }
+{
+    let t = work[n + p];
+    if t == 0 {
+        return false;
+    }
+    if work[n + halfedge::slot_of(t)] == halfedge::code_at(p) {
+        return false;
+    }
+    true
+}
+
+// Check 6: the least side whose two vertices three or more sides join; 0 where there is none.
+pub fn crowded_side(n: usize, list: &[u32], work: &[u32]) -> u32
+    requires { ⌜ Mapped n (now list) (now work) ⌝ }
+    ensures { λ r. ⌜ r ≡ crowdedSide (now (list .entry)) ⌝ }
+{
+    let mut p = 0;
+    while p < list.len() {
+        if is_crowded(n, list, work, p) {
+            return halfedge::code_at(p);
+        }
+        p += 1;
+    }
+    0
+}
+
+// The origin of side s.
+pub fn origin_of(list: &[u32], s: u32) -> u32
+    requires { ⌜ Side (now list) s × (elements (now list) ≤ 1_000_000) ⌝ }
+    ensures { λ r. ⌜ r ≡ origin (now (list .entry)) s ⌝ }
+{
+    let a = 4 * (wide(s / 8) - 1);
+    let e = a + 4;
+    halfedge::corner(halfedge::row(&list[a..e]), s % 8)
+}
+
+// Another side runs alike with the side that begins at place p.
+fn is_alike(n: usize, list: &[u32], work: &[u32], p: usize) -> bool
+    requires { ⌜ Mapped n (now list) (now work) × (p < length (now list)) ⌝ }
+    ensures { λ r. ⌜ Means r (AlikeAt (now (list .entry)) p) ⌝ }
+{
+    let t = work[n + p];
+    if t == 0 {
+        return false;
+    }
+    let s = halfedge::code_at(p);
+    if t == s {
+        return false;
+    }
+    if origin_of(list, t) != origin_of(list, s) {
+        return false;
+    }
+    true
+}
+
+// Check 7, where check 6 found nothing: the least side that another one runs alike with; 0 where there is none.
+pub fn alike_side(n: usize, list: &[u32], work: &[u32]) -> u32
+    requires { ⌜ Mapped n (now list) (now work) × (crowdedSide (now list) ≡ 0) ⌝ }
+    ensures { λ r. ⌜ r ≡ alikeSide (now (list .entry)) ⌝ }
+{
+    let mut p = 0;
+    while p < list.len() {
+        if is_alike(n, list, work, p) {
+            return halfedge::code_at(p);
+        }
+        p += 1;
+    }
+    0
+}
