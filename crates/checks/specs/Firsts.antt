@@ -99,3 +99,10 @@ module _ (n : ℕ) (L w : List ℕ) (firsts : Firsts n L w) where
       (vertex-is n (λ u. eqb (firstSide L (λ s. eqb (origin L s) u)) 0) 0
       (FirstVertex.nobody refl
       (λ u a b. not-T (eqb (firstSide L (λ s. eqb (origin L s) u)) 0) (λ t. f (u - 1) (omega arith) (firsts u a b ∙ means-eq _ 0 .says t)))))
+
+-- an entry that isn't 0 is a vertex
+pub entry-vertex : (n : ℕ) (L : List ℕ) → Fit n L → (p x : ℕ) → p < length L → x ≡ at L p → (x ≡ 0 → ⊥) → (1 ≤ x) × (x ≤ n)
+entry-vertex n L fit p x h e d =
+    let a = side-at n L fit p h (λ z. d (e ∙ z)) in
+    let q = entry-at n L fit p a in
+    (omega (arith, fit .from (sideAt p) a), omega (arith, fit .to (sideAt p) a))

@@ -1,47 +1,51 @@
+-- `checks::alike_side` meets its contract: no such side begins below p.
+-- Assumes nothing.
+use mathlib.Core.Path.{_≡_, sym, ap, _∙_}
+use mathlib.Core.Bool.{Bool, not}
+use mathlib.Core.List.{List}
+use Prim.Native.Nat.{ℕ, _+_, _-_, _≤_, _<_}
+use native.Mathlib.Omega.{arith}
+use borrow.Author.Needs.{needs}
+use lib.Dec.{T, T-not}
+use lib.ListN.{length}
+use Rattle.rules.specs.Elements.{Side, sideAt}
+use Rattle.siblings.specs.Siblings.{sibling}
+use Rattle.checks.specs.Maps.{alike-found, alike-later, alike-nowhere, NotAlike, two-by-two}
 use Rattle.checks.proofs.alike_side.Statement.{statement}
 use Rattle.checks.proofs.alike_side.Tie as tie
-use Rattle.checks.proofs.alike_side.Reads as reads
-use Rattle.checks.proofs.alike_side.Lts as lts
-use Rattle.checks.proofs.is_alike.Reads as is-alike-reads
-use Rattle.halfedge.proofs.code_at.Reads as code-at-reads
 
 abbrev Inv-loop : tie.InvT-loop
-Inv-loop n list work p₀ p = ?
+Inv-loop n list work p₀ p = NotAlike list p × (p ≤ length list)
 
 abbrev μ-loop : tie.MeasureT-loop
-μ-loop n list work p₀ p = ?
+μ-loop n list work p₀ p = length list - p
 
--- src/lib.rt:145:5
+two : (c : tie.Start Inv-loop μ-loop) (s : ℕ) → Side (c .args .list .now) s → sibling (c .args .list .now) (sibling (c .args .list .now) s) ≡ s
+two c = two-by-two (c .args .n) (c .args .list .now) (c .pre .0 .fit) (c .pre .1)
+
 loop-holds : tie.Need-loop-holds Inv-loop μ-loop
-loop-holds c = ?
+loop-holds c = ((λ s a h. absurd (omega arith)), omega arith)
 
--- src/lib.rt:146:12
 is-alike-requires : tie.Need-is-alike-requires Inv-loop μ-loop
-is-alike-requires c κs = ?
+is-alike-requires c κs = (c .before .before .before .before .pre .0, omega arith)
 
--- src/lib.rt:147:13
 code-at-requires : tie.Need-code-at-requires Inv-loop μ-loop
-code-at-requires c κs = ?
+code-at-requires c κs = omega (arith, c .before .before .before .before .before .before .pre .0 .fit .size, c .before .before .before .before .before .before .pre .0 .fit .fours)
 
--- src/lib.rt:147:13
 returns : tie.Need-returns Inv-loop μ-loop
-returns c = ?
+returns c = c .code-at .ensures ∙ alike-found (c .before .before .before .before .before .before .before .args .n) (c .before .before .before .before .before .before .before .args .list .now) (two (c .before .before .before .before .before .before .before)) (c .before .before .before .before .loop .p) (c .before .before .before .before .loop .inv .0) (c .before .before .is-alike .ensures .says (rw (c .before .if1 .taken) tt))
 
--- src/lib.rt:149:9
 add-p : tie.Need-add-p Inv-loop μ-loop
-add-p c = ?
+add-p c = search needs
 
--- src/lib.rt:145:5
 loop-less : tie.Need-loop-less Inv-loop μ-loop
-loop-less c = ?
+loop-less c = omega arith
 
--- src/lib.rt:145:5
 loop-again : tie.Need-loop-again Inv-loop μ-loop
-loop-again c = ?
+loop-again c = (alike-later (c .before .before .before .before .before .before .args .n) (c .before .before .before .before .before .before .args .list .now) (two (c .before .before .before .before .before .before)) (c .before .before .before .loop .p) (c .before .before .before .loop .inv .0) (λ x. T-not (c .before .is-alike .result) (rw (c .if1 .left) tt) (c .before .is-alike .ensures .shows x)), omega arith)
 
--- src/lib.rt:140:1
 returns-2 : tie.Need-returns-2 Inv-loop μ-loop
-returns-2 c = ?
+returns-2 c = alike-nowhere (c .before .before .before .before .args .n) (c .before .before .before .before .args .list .now) (two (c .before .before .before .before)) (c .before .loop .p) (omega arith) (c .before .loop .inv .0)
 
 pub alike-side-spec : {M : Type 1} → statement M
 alike-side-spec =

@@ -1,50 +1,61 @@
+-- `checks::is_alike` meets its contract.
+-- Assumes nothing.
+use mathlib.Core.Path.{_≡_, refl, ap, sym, _∙_}
+use Prim.Native.Nat.{ℕ, _+_, _<_}
+use native.Mathlib.Omega.{arith}
 use borrow.Author.Needs.{needs}
+use lib.ListN.{length}
+use Rattle.lists.specs.Search.{at}
+use Rattle.rules.specs.Elements.{Side, sideAt, origin}
+use Rattle.siblings.specs.Siblings.{sibling}
+use Rattle.siblings.specs.Uses.{sibling-side}
+use Rattle.checks.specs.Maps.{map-at, map-side, map-none}
 use Rattle.checks.proofs.is_alike.Statement.{statement}
 use Rattle.checks.proofs.is_alike.Tie as tie
-use Rattle.checks.proofs.is_alike.Reads as reads
-use Rattle.checks.proofs.is_alike.Lts as lts
-use Rattle.checks.proofs.origin_of.Reads as origin-of-reads
-use Rattle.halfedge.proofs.code_at.Reads as code-at-reads
 
--- src/lib.rt:125:18
+there : (c : tie.Else1) → Side (c .before .before .before .before .args .list .now) (sideAt (c .before .before .before .before .args .p))
+there c = map-side (c .before .before .before .before .args .n) (c .before .before .before .before .args .list .now) (c .before .before .before .before .args .work .now) (c .before .before .before .before .pre .0) (c .before .before .before .before .args .p) (c .before .before .before .before .pre .1) (c .if1 .left)
+
+-- what was read at the side's place is its sibling
+read : (c : tie.Else1) → at (c .before .before .before .before .args .work .now) (c .before .before .before .before .args .n + c .before .before .before .before .args .p) ≡ sibling (c .before .before .before .before .args .list .now) (sideAt (c .before .before .before .before .args .p))
+read c = map-at (c .before .before .before .before .args .n) (c .before .before .before .before .args .list .now) (c .before .before .before .before .args .work .now) (c .before .before .before .before .pre .0) (c .before .before .before .before .args .p) (c .before .before .before .before .pre .1) (there c)
+
+-- the two origins
+first : (c : tie.After-origin-of2) → c .before .origin-of .result ≡ origin (c .before .before .before .before .before .before .before .before .args .list .now) (sibling (c .before .before .before .before .before .before .before .before .args .list .now) (sideAt (c .before .before .before .before .before .before .before .before .args .p)))
+first c = c .before .origin-of .ensures ∙ ap (origin (c .before .before .before .before .before .before .before .before .args .list .now)) (read (c .before .before .before .before))
+
+second : (c : tie.After-origin-of2) → c .origin-of2 .result ≡ origin (c .before .before .before .before .before .before .before .before .args .list .now) (sideAt (c .before .before .before .before .before .before .before .before .args .p))
+second c = c .origin-of2 .ensures ∙ ap (origin (c .before .before .before .before .before .before .before .before .args .list .now)) (c .before .before .before .code-at .ensures)
+
 add-t : tie.Need-add-t
 add-t c = search needs
 
--- src/lib.rt:125:13
 mul-t : tie.Need-mul-t
 mul-t c = search needs
 
--- src/lib.rt:125:13
 shared-slice-read-t : tie.Need-shared-slice-read-t
 shared-slice-read-t c = search needs
 
--- src/lib.rt:127:9
 returns : tie.Need-returns
-returns c = ?
+returns c = record { says = λ t. absurd t; shows = λ (a, d, o). map-none (c .before .before .before .before .args .n) (c .before .before .before .before .args .list .now) (c .before .before .before .before .args .work .now) (c .before .before .before .before .pre .0) (c .before .before .before .before .args .p) (c .before .before .before .before .pre .1) (c .if1 .taken) a }
 
--- src/lib.rt:129:9
 code-at-requires : tie.Need-code-at-requires
 code-at-requires c κs = search needs
 
--- src/lib.rt:131:9
 returns-2 : tie.Need-returns-2
-returns-2 c = ?
+returns-2 c = record { says = λ t. absurd t; shows = λ (a, d, o). d (sym (read (c .before .before)) ∙ c .if2 .taken ∙ c .before .code-at .ensures) }
 
--- src/lib.rt:133:8
 origin-of-requires : tie.Need-origin-of-requires
-origin-of-requires c κs = ?
+origin-of-requires c κs = (rw (read (c .before .before)) (sibling-side (c .before .before .before .before .before .before .args .list .now) (sideAt (c .before .before .before .before .before .before .args .p)) (there (c .before .before))), c .before .before .before .before .before .before .pre .0 .fit .size)
 
--- src/lib.rt:133:30
 origin-of-requires-2 : tie.Need-origin-of-requires-2
-origin-of-requires-2 c κs = ?
+origin-of-requires-2 c κs = (rw (c .before .before .code-at .ensures) (there (c .before .before .before)), c .before .before .before .before .before .before .before .pre .0 .fit .size)
 
--- src/lib.rt:134:9
 returns-3 : tie.Need-returns-3
-returns-3 c = ?
+returns-3 c = record { says = λ t. absurd t; shows = λ (a, d, o). c .if3 .taken (first (c .before) ∙ o ∙ sym (second (c .before))) }
 
--- src/lib.rt:121:1
 returns-4 : tie.Need-returns-4
-returns-4 c = ?
+returns-4 c = record { says = λ t. (there (c .before .before .before .before .before), (λ e. c .before .before .before .if2 .left (read (c .before .before .before .before .before) ∙ e ∙ sym (c .before .before .before .before .code-at .ensures))), sym (first (c .before)) ∙ c .if3 .left ∙ second (c .before)); shows = λ x. tt }
 
 pub is-alike-spec : {M : Type 1} → statement M
 is-alike-spec =

@@ -1,54 +1,68 @@
+-- `checks::is_crowded` meets its contract.
+-- Assumes nothing.
+use mathlib.Core.Path.{_≡_, refl, ap, sym, _∙_}
+use Prim.Native.Nat.{ℕ, _+_, _*_, _<_}
+use native.Mathlib.Omega.{arith}
 use borrow.Author.Needs.{needs}
+use lib.ListN.{length}
+use Rattle.lists.specs.Search.{at}
+use Rattle.rules.specs.Elements.{Side, slot, sideAt}
+use Rattle.theory.specs.Sides.{slot-below}
+use Rattle.siblings.specs.Siblings.{sibling}
+use Rattle.siblings.specs.Uses.{sibling-side}
+use Rattle.checks.specs.Maps.{map-at, map-side, map-none, map-twice}
 use Rattle.checks.proofs.is_crowded.Statement.{statement}
 use Rattle.checks.proofs.is_crowded.Tie as tie
-use Rattle.checks.proofs.is_crowded.Reads as reads
-use Rattle.checks.proofs.is_crowded.Lts as lts
-use Rattle.halfedge.proofs.code_at.Reads as code-at-reads
-use Rattle.halfedge.proofs.slot_of.Reads as slot-of-reads
 
--- src/lib.rt:85:18
+-- what was read at the side's place is its sibling
+there : (c : tie.After-slot-of) → Side (c .before .before .before .before .before .args .list .now) (sideAt (c .before .before .before .before .before .args .p))
+there c = map-side (c .before .before .before .before .before .args .n) (c .before .before .before .before .before .args .list .now) (c .before .before .before .before .before .args .work .now) (c .before .before .before .before .before .pre .0) (c .before .before .before .before .before .args .p) (c .before .before .before .before .before .pre .1) (c .before .if1 .left)
+
+read : (c : tie.After-slot-of) → at (c .before .before .before .before .before .args .work .now) (c .before .before .before .before .before .args .n + c .before .before .before .before .before .args .p) ≡ sibling (c .before .before .before .before .before .args .list .now) (sideAt (c .before .before .before .before .before .args .p))
+read c = map-at (c .before .before .before .before .before .args .n) (c .before .before .before .before .before .args .list .now) (c .before .before .before .before .before .args .work .now) (c .before .before .before .before .before .pre .0) (c .before .before .before .before .before .args .p) (c .before .before .before .before .before .pre .1) (there c)
+
+place : (c : tie.After-slot-of) → c .before .before .before .before .before .args .n + c .slot-of .result < length (c .before .before .before .before .before .args .work .now)
+place c =
+    let b = slot-below (c .before .before .before .before .before .args .list .now) (sibling (c .before .before .before .before .before .args .list .now) (sideAt (c .before .before .before .before .before .args .p))) (sibling-side (c .before .before .before .before .before .args .list .now) (sideAt (c .before .before .before .before .before .args .p)) (there c)) in
+    omega (arith, c .slot-of .ensures ∙ ap slot (read c), c .before .before .before .before .before .pre .0 .room)
+
+twice : (c : tie.After-slot-of) → at (c .before .before .before .before .before .args .work .now) (c .before .before .before .before .before .args .n + c .slot-of .result) ≡ sibling (c .before .before .before .before .before .args .list .now) (sibling (c .before .before .before .before .before .args .list .now) (sideAt (c .before .before .before .before .before .args .p)))
+twice c =
+    ap (λ (i : ℕ). at (c .before .before .before .before .before .args .work .now) (c .before .before .before .before .before .args .n + i)) (c .slot-of .ensures)
+    ∙ map-twice (c .before .before .before .before .before .args .n) (c .before .before .before .before .before .args .list .now) (c .before .before .before .before .before .args .work .now) (c .before .before .before .before .before .pre .0) (c .before .before .before .before .before .args .p) (c .before .before .before .before .before .pre .1) _ refl (c .before .if1 .left)
+
 add-t : tie.Need-add-t
 add-t c = search needs
 
--- src/lib.rt:85:13
 mul-t : tie.Need-mul-t
 mul-t c = search needs
 
--- src/lib.rt:85:13
 shared-slice-read-t : tie.Need-shared-slice-read-t
 shared-slice-read-t c = search needs
 
--- src/lib.rt:87:9
 returns : tie.Need-returns
-returns c = ?
+returns c = record { says = λ t. absurd t; shows = λ (a, d). map-none (c .before .before .before .before .args .n) (c .before .before .before .before .args .list .now) (c .before .before .before .before .args .work .now) (c .before .before .before .before .pre .0) (c .before .before .before .before .args .p) (c .before .before .before .before .pre .1) (c .if1 .taken) a }
 
--- src/lib.rt:89:17
 slot-of-requires : tie.Need-slot-of-requires
 slot-of-requires c κs = search needs
 
--- src/lib.rt:89:13
 add-if2 : tie.Need-add-if2
-add-if2 c = ?
+add-if2 c = omega (arith, place c)
 
--- src/lib.rt:89:8
 mul-if2 : tie.Need-mul-if2
-mul-if2 c = ?
+mul-if2 c = omega (arith, place c)
 
--- src/lib.rt:89:8
 shared-slice-read-if2 : tie.Need-shared-slice-read-if2
-shared-slice-read-if2 c = ?
+shared-slice-read-if2 c = omega (arith, place (c .before))
 
--- src/lib.rt:89:42
 code-at-requires : tie.Need-code-at-requires
 code-at-requires c κs = search needs
 
--- src/lib.rt:90:9
 returns-2 : tie.Need-returns-2
-returns-2 c = ?
+returns-2 c = record { says = λ t. absurd t; shows = λ (a, d). d (sym (twice (c .before .before .before)) ∙ c .if2 .taken ∙ c .before .code-at .ensures) }
 
--- src/lib.rt:81:1
 returns-3 : tie.Need-returns-3
-returns-3 c = ?
+returns-3 c = record { says = λ t. (there (c .before .before .before), λ e. c .if2 .left (twice (c .before .before .before) ∙ e ∙ sym (c .before .code-at .ensures))); shows = λ x. tt }
 
 pub is-crowded-spec : {M : Type 1} → statement M
 is-crowded-spec =

@@ -1,55 +1,57 @@
+-- `checks::origin_of` meets its contract.
+-- Assumes nothing.
+use mathlib.Core.Path.{_≡_, refl, ap, _∙_}
+use mathlib.Core.List.{List}
+use Prim.Native.Nat.{ℕ, _+_, _*_, _-_, _/_, _%_, _≤_}
+use native.Mathlib.Omega.{arith}
 use borrow.Author.Needs.{needs}
+use lib.ListN.{length}
+use Rattle.halfedge.specs.Rows.{cornerOf}
+use Rattle.theory.specs.Sides.{SideFacts, side-facts}
+
+use Rattle.checks.specs.Maps.{origin-read}
 use Rattle.checks.proofs.origin_of.Statement.{statement}
 use Rattle.checks.proofs.origin_of.Tie as tie
-use Rattle.checks.proofs.origin_of.Reads as reads
-use Rattle.checks.proofs.origin_of.Lts as lts
-use Rattle.checks.proofs.wide.Reads as wide-reads
-use Rattle.halfedge.proofs.corner.Reads as corner-reads
-use Rattle.halfedge.proofs.row.Reads as row-reads
 
--- src/lib.rt:115:18
+facts : (c : tie.After-wide) → SideFacts (c .before .before .args .list .now) (c .before .before .args .s)
+facts c = side-facts (c .before .before .args .list .now) (c .before .before .args .s) (c .before .before .pre .0)
+
 wide-requires : tie.Need-wide-requires
 wide-requires c κs = search needs
 
--- src/lib.rt:115:18
 sub-a : tie.Need-sub-a
-sub-a c = ?
+sub-a c = omega (arith, facts c, c .wide .ensures)
 
--- src/lib.rt:115:13
 mul-a : tie.Need-mul-a
 mul-a c = search needs
 
--- src/lib.rt:116:13
 add-e : tie.Need-add-e
 add-e c = search needs
 
--- src/lib.rt:117:36
 mul-row : tie.Need-mul-row
 mul-row c = search needs
 
--- src/lib.rt:117:36
 sub-row : tie.Need-sub-row
 sub-row c = search needs
 
--- src/lib.rt:117:36
 part-row-start : tie.Need-part-row-start
 part-row-start c = search needs
 
--- src/lib.rt:117:36
 part-row-end : tie.Need-part-row-end
-part-row-end c = ?
+part-row-end c = let h : 4 * (c .wide .result - 1) + 4 ≤ length (c .before .before .args .list .now) = omega (arith, facts c, c .wide .ensures) in search needs
 
--- src/lib.rt:117:22
 row-requires : tie.Need-row-requires
 row-requires c κs = search needs
 
--- src/lib.rt:117:5
 corner-requires : tie.Need-corner-requires
 corner-requires c κs = search needs
 
--- src/lib.rt:111:1
 returns : tie.Need-returns
-returns c = ?
+returns c =
+    let a = 4 * (c .before .before .before .wide .result - 1) in
+    c .corner .ensures
+    ∙ ap (λ (row : List ℕ). cornerOf row (c .before .before .before .before .before .args .s % 8)) (c .before .row .ensures)
+    ∙ origin-read (c .before .before .before .before .before .args .list .now) (c .before .before .before .before .before .args .s) a (a + 4) (c .before .before .before .before .before .pre .0) (ap (λ (f : ℕ). 4 * (f - 1)) (c .before .before .before .wide .ensures)) refl
 
 pub origin-of-spec : {M : Type 1} → statement M
 origin-of-spec =

@@ -1,42 +1,44 @@
+-- `checks::put_first` meets its contract.
+-- Assumes nothing.
+use mathlib.Core.Path.{_≡_, ap, sym, _∙_}
+use mathlib.Core.List.{List}
+use Prim.Native.Nat.{ℕ, _-_, _≤_}
+use native.Mathlib.Omega.{arith}
 use borrow.Author.Needs.{needs}
+use lib.ListN.{set}
+use Rattle.lists.specs.Stores.{Kept, kept-itself, kept-set}
+use Rattle.checks.specs.Firsts.{FirstsFrom, firsts-skip, firsts-put, entry-vertex}
 use Rattle.checks.proofs.put_first.Statement.{statement}
 use Rattle.checks.proofs.put_first.Tie as tie
-use Rattle.checks.proofs.put_first.Reads as reads
-use Rattle.checks.proofs.put_first.Lts as lts
-use Rattle.checks.proofs.wide.Reads as wide-reads
-use Rattle.halfedge.proofs.code_at.Reads as code-at-reads
 
--- src/lib.rt:27:9
+vertex : (c : tie.After-code-at) → (1 ≤ c .before .before .before .before .before .args .x) × (c .before .before .before .before .before .args .x ≤ c .before .before .before .before .before .args .n)
+vertex c = entry-vertex (c .before .before .before .before .before .args .n) (c .before .before .before .before .before .args .list .now) (c .before .before .before .before .before .pre .0) (c .before .before .before .before .before .args .p) (c .before .before .before .before .before .args .x) (c .before .before .before .before .before .pre .2) (c .before .before .before .before .before .pre .3) (c .before .before .if1 .left)
+
 returns : tie.Need-returns
-returns c = ?
+returns c = (kept-itself (c .before .before .before .args .n) (c .before .before .before .args .work .now), firsts-skip (c .before .before .before .args .n) (c .before .before .before .args .list .now) (c .before .before .before .args .work .now) (c .before .before .before .pre .0) (c .before .before .before .pre .1) (c .before .before .before .args .p) (c .before .before .before .pre .2) (c .before .before .before .pre .4) (sym (c .before .before .before .pre .3) ∙ c .if1 .taken))
 
--- src/lib.rt:29:13
 wide-requires : tie.Need-wide-requires
 wide-requires c κs = search needs
 
--- src/lib.rt:29:13
 sub-i : tie.Need-sub-i
 sub-i c = search needs
 
--- src/lib.rt:30:15
 code-at-requires : tie.Need-code-at-requires
 code-at-requires c κs = search needs
 
--- src/lib.rt:30:5
 mul-work : tie.Need-mul-work
 mul-work c = search needs
 
--- src/lib.rt:30:5
 slice-write-work : tie.Need-slice-write-work
-slice-write-work c = ?
+slice-write-work c = omega (arith, vertex c, c .before .wide .ensures, c .before .before .before .before .before .pre .1)
 
--- src/lib.rt:22:1
 same-length : tie.Need-same-length
 same-length c = search needs
 
--- src/lib.rt:22:1
 returns-2 : tie.Need-returns-2
-returns-2 c = ?
+returns-2 c = rw (c .before .wide .ensures, c .code-at .ensures)
+    (kept-set (c .before .before .before .before .before .args .x - 1) _ (kept-itself (c .before .before .before .before .before .args .n) (c .before .before .before .before .before .args .work .now)) (omega (arith, vertex c)),
+    firsts-put (c .before .before .before .before .before .args .n) (c .before .before .before .before .before .args .list .now) (c .before .before .before .before .before .args .work .now) (c .before .before .before .before .before .pre .0) (c .before .before .before .before .before .pre .1) (c .before .before .before .before .before .args .p) (c .before .before .before .before .before .pre .2) (c .before .before .before .before .before .pre .4) (c .before .before .before .before .before .args .x) (c .before .before .before .before .before .pre .3) (c .before .before .if1 .left))
 
 pub put-first-spec : {M : Type 1} → statement M
 put-first-spec =

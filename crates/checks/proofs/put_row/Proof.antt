@@ -1,86 +1,78 @@
+-- `checks::put_row` meets its contract: four places, from the last to the first.
+-- Assumes nothing.
+use mathlib.Core.Path.{_≡_, refl, ap, sym, _∙_}
+use mathlib.Core.List.{List}
+use Prim.Native.Nat.{ℕ, _+_, _≤_, _<_}
+use native.Mathlib.Omega.{arith}
 use borrow.Author.Needs.{needs}
+use lib.ListN.{length}
+use Rattle.lists.specs.Search.{at}
+use Rattle.lists.specs.Stores.{kept-on}
+use Rattle.halfedge.specs.Rows.{part-at}
 use Rattle.checks.proofs.put_row.Statement.{statement}
 use Rattle.checks.proofs.put_row.Tie as tie
-use Rattle.checks.proofs.put_row.Reads as reads
-use Rattle.checks.proofs.put_row.Lts as lts
-use Rattle.checks.proofs.put_first.Reads as put-first-reads
-use Rattle.halfedge.proofs.row.Reads as row-reads
 
--- src/lib.rt:37:13
+-- the row's entries are the list's
+entry : (c : tie.After-row) (j : ℕ) → j < 4 → at (c .row .result) j ≡ at (c .before .before .before .before .args .list .now) (c .before .before .before .before .args .a + j)
+entry c j h =
+    ap (λ (row : List ℕ). at row j) (c .row .ensures) ∙ part-at (c .before .before .before .before .args .list .now) (c .before .before .before .before .args .a) (c .before .before .before .before .args .a + 4) j refl h
+
 add-e : tie.Need-add-e
 add-e c = search needs
 
--- src/lib.rt:38:29
 mul-row : tie.Need-mul-row
 mul-row c = search needs
 
--- src/lib.rt:38:29
 sub-row : tie.Need-sub-row
 sub-row c = search needs
 
--- src/lib.rt:38:29
 part-row-start : tie.Need-part-row-start
 part-row-start c = search needs
 
--- src/lib.rt:38:29
 part-row-end : tie.Need-part-row-end
 part-row-end c = search needs
 
--- src/lib.rt:38:15
 row-requires : tie.Need-row-requires
 row-requires c κs = search needs
 
--- src/lib.rt:39:30
 add-put-first : tie.Need-add-put-first
 add-put-first c = search needs
 
--- src/lib.rt:39:37
 array-read-put-first : tie.Need-array-read-put-first
 array-read-put-first c = search needs
 
--- src/lib.rt:39:5
 put-first-requires : tie.Need-put-first-requires
-put-first-requires c κs = ?
+put-first-requires c κs = (c .before .before .before .before .before .pre .0, c .before .before .before .before .before .pre .1, omega (arith, c .before .before .before .before .before .pre .2), entry (c .before) 3 (omega arith), (let e : c .before .before .before .before .before .args .a + 3 + 1 ≡ c .before .before .before .before .before .args .a + 4 = omega arith in rw e (c .before .before .before .before .before .pre .3)))
 
--- src/lib.rt:40:30
 add-put-first-2 : tie.Need-add-put-first-2
 add-put-first-2 c = search needs
 
--- src/lib.rt:40:37
 array-read-put-first-2 : tie.Need-array-read-put-first-2
 array-read-put-first-2 c = search needs
 
--- src/lib.rt:40:5
 put-first-requires-2 : tie.Need-put-first-requires-2
-put-first-requires-2 c κs = ?
+put-first-requires-2 c κs = (c .before .before .before .before .before .before .before .before .before .pre .0, omega (arith, c .before .before .before .before .before .before .before .before .before .pre .1, c .before .before .before .put-first .ensures .0 .long), omega (arith, c .before .before .before .before .before .before .before .before .before .pre .2), entry (c .before .before .before .before .before) 2 (omega arith), (let e : c .before .before .before .before .before .before .before .before .before .args .a + 2 + 1 ≡ c .before .before .before .before .before .before .before .before .before .args .a + 3 = omega arith in rw e (c .before .before .before .put-first .ensures .1)))
 
--- src/lib.rt:41:30
 add-put-first-3 : tie.Need-add-put-first-3
 add-put-first-3 c = search needs
 
--- src/lib.rt:41:37
 array-read-put-first-3 : tie.Need-array-read-put-first-3
 array-read-put-first-3 c = search needs
 
--- src/lib.rt:41:5
 put-first-requires-3 : tie.Need-put-first-requires-3
-put-first-requires-3 c κs = ?
+put-first-requires-3 c κs = (c .before .before .before .before .before .before .before .before .before .before .before .before .before .pre .0, omega (arith, c .before .before .before .before .before .before .before .before .before .before .before .before .before .pre .1, c .before .before .before .before .before .before .before .put-first .ensures .0 .long, c .before .before .before .put-first2 .ensures .0 .long), omega (arith, c .before .before .before .before .before .before .before .before .before .before .before .before .before .pre .2), entry (c .before .before .before .before .before .before .before .before .before) 1 (omega arith), (let e : c .before .before .before .before .before .before .before .before .before .before .before .before .before .args .a + 1 + 1 ≡ c .before .before .before .before .before .before .before .before .before .before .before .before .before .args .a + 2 = omega arith in rw e (c .before .before .before .put-first2 .ensures .1)))
 
--- src/lib.rt:42:33
 array-read-put-first-4 : tie.Need-array-read-put-first-4
 array-read-put-first-4 c = search needs
 
--- src/lib.rt:42:5
 put-first-requires-4 : tie.Need-put-first-requires-4
-put-first-requires-4 c κs = ?
+put-first-requires-4 c κs = (c .before .before .before .before .before .before .before .before .before .before .before .before .before .before .before .before .before .pre .0, omega (arith, c .before .before .before .before .before .before .before .before .before .before .before .before .before .before .before .before .before .pre .1, c .before .before .before .before .before .before .before .before .before .before .before .put-first .ensures .0 .long, c .before .before .before .before .before .before .before .put-first2 .ensures .0 .long, c .before .before .before .put-first3 .ensures .0 .long), omega (arith, c .before .before .before .before .before .before .before .before .before .before .before .before .before .before .before .before .before .pre .2), entry (c .before .before .before .before .before .before .before .before .before .before .before .before .before) 0 (omega arith) ∙ (let e : c .before .before .before .before .before .before .before .before .before .before .before .before .before .before .before .before .before .args .a + 0 ≡ c .before .before .before .before .before .before .before .before .before .before .before .before .before .before .before .before .before .args .a = omega arith in ap (at (c .before .before .before .before .before .before .before .before .before .before .before .before .before .before .before .before .before .args .list .now)) e), c .before .before .before .put-first3 .ensures .1)
 
--- src/lib.rt:33:1
 same-length : tie.Need-same-length
 same-length c = search needs
 
--- src/lib.rt:33:1
 returns : tie.Need-returns
-returns c = ?
+returns c = (kept-on (kept-on (kept-on (c .before .before .before .before .before .before .before .before .before .before .before .before .before .before .put-first .ensures .0) (c .before .before .before .before .before .before .before .before .before .before .put-first2 .ensures .0)) (c .before .before .before .before .before .before .put-first3 .ensures .0)) (c .before .before .put-first4 .ensures .0), c .before .before .put-first4 .ensures .1)
 
 pub put-row-spec : {M : Type 1} → statement M
 put-row-spec =

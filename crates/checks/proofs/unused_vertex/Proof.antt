@@ -1,54 +1,51 @@
+-- `checks::unused_vertex` meets its contract: the vertices up to v have an entry.
+-- Assumes nothing.
+use mathlib.Core.Path.{_≡_, ap, sym, _∙_}
+use Prim.Native.Nat.{ℕ, _+_, _-_, _≤_, _<_}
+use native.Mathlib.Omega.{arith}
+use borrow.Author.Count.{below-more}
+use borrow.Author.Needs.{needs}
+use lib.ListN.{length}
+use Rattle.lists.specs.Search.{at}
+use Rattle.checks.specs.Firsts.{unused-found, unused-none}
 use Rattle.checks.proofs.unused_vertex.Statement.{statement}
 use Rattle.checks.proofs.unused_vertex.Tie as tie
-use Rattle.checks.proofs.unused_vertex.Reads as reads
-use Rattle.checks.proofs.unused_vertex.Lts as lts
-use Rattle.checks.proofs.wide.Reads as wide-reads
 
 abbrev Inv-loop : tie.InvT-loop
-Inv-loop n work v₀ v = ?
+Inv-loop n work v₀ v = (v ≤ n) × ((u : ℕ) → u < v → at work u ≡ 0 → ⊥)
 
 abbrev μ-loop : tie.MeasureT-loop
-μ-loop n work v₀ v = ?
+μ-loop n work v₀ v = n - v
 
--- src/lib.rt:71:5
 loop-holds : tie.Need-loop-holds Inv-loop μ-loop
-loop-holds c = ?
+loop-holds c = (omega arith, λ u h. absurd (omega arith))
 
--- src/lib.rt:72:17
 wide-requires : tie.Need-wide-requires Inv-loop μ-loop
-wide-requires c κs = ?
+wide-requires c κs = tt
 
--- src/lib.rt:72:12
 mul-if1 : tie.Need-mul-if1 Inv-loop μ-loop
-mul-if1 c = ?
+mul-if1 c = omega (arith, c .wide .ensures, c .before .before .before .before .pre)
 
--- src/lib.rt:72:12
 shared-slice-read-if1 : tie.Need-shared-slice-read-if1 Inv-loop μ-loop
-shared-slice-read-if1 c = ?
+shared-slice-read-if1 c = omega (arith, c .before .wide .ensures, c .before .before .before .before .before .pre)
 
--- src/lib.rt:73:20
 add-result : tie.Need-add-result Inv-loop μ-loop
-add-result c = ?
+add-result c = search needs
 
--- src/lib.rt:73:13
 returns : tie.Need-returns Inv-loop μ-loop
-returns c = ?
+returns c = λ L k. unused-found (c .before .before .before .before .before .before .args .n) L (c .before .before .before .before .before .before .args .work .now) k (c .before .before .before .before .loop .v) (omega arith) (rw (c .before .before .wide .ensures) at (c .if1 .taken)) (c .before .before .before .before .loop .inv .1)
 
--- src/lib.rt:75:9
 add-v : tie.Need-add-v Inv-loop μ-loop
-add-v c = ?
+add-v c = search needs
 
--- src/lib.rt:71:5
 loop-less : tie.Need-loop-less Inv-loop μ-loop
-loop-less c = ?
+loop-less c = omega arith
 
--- src/lib.rt:71:5
 loop-again : tie.Need-loop-again Inv-loop μ-loop
-loop-again c = ?
+loop-again c = (omega arith, below-more _ _ (c .before .before .before .before .loop .inv .1) (rw (c .before .before .wide .ensures) at (c .if1 .left)))
 
--- src/lib.rt:66:1
 returns-2 : tie.Need-returns-2 Inv-loop μ-loop
-returns-2 c = ?
+returns-2 c = λ L k. unused-none (c .before .before .before .args .n) L (c .before .before .before .args .work .now) k (λ u h. c .before .loop .inv .1 u (omega arith))
 
 pub unused-vertex-spec : {M : Type 1} → statement M
 unused-vertex-spec =
