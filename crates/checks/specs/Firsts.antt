@@ -39,6 +39,7 @@ module _ (n : ℕ) (L w : List ℕ) (fit : Fit n L) (room : n ≤ length w) (p :
     where
       later : (s : ℕ) → Side L s → p ≤ slot s → p + 1 ≤ slot s
       later s c h = elim (lt-or-eq p (slot s) (omega arith)) [ inl l ↦ omega arith | inr q ↦ absurd (no-side-at n L fit p e (rw (ap sideAt q ∙ sideAt-slot L s c) c)) ]
+
       go : FirstFrom L (p + 1) v (at w (v - 1)) → FirstFrom L p v (at w (v - 1))
       go (none z f) = none z (λ s (c, o) h. f s (c, o) (later s c h))
       go (some x h f) = some x (omega arith) (λ s (c, o) l. f s (c, o) (later s c l))
@@ -49,8 +50,10 @@ module _ (n : ℕ) (L w : List ℕ) (fit : Fit n L) (room : n ≤ length w) (p :
     where
       here : Side L (sideAt p)
       here = side-at n L fit p inside (λ z. d (e ∙ z))
+
       from-here : origin L (sideAt p) ≡ x
       from-here = sym (entry-at n L fit p here) ∙ sym e
+
       go : (v ≡ x) ⊎ (v ≡ x → ⊥) → FirstFrom L p v (at (set w (x - 1) (sideAt p)) (v - 1))
       go (inl q) =
           let same : at (set w (x - 1) (sideAt p)) (v - 1) ≡ sideAt p = ap (λ (y : ℕ). at (set w (x - 1) (sideAt p)) (y - 1)) q ∙ at-same w (x - 1) (sideAt p) (omega arith) in
@@ -62,9 +65,11 @@ module _ (n : ℕ) (L w : List ℕ) (fit : Fit n L) (room : n ≤ length w) (p :
           -- a side at p has another origin
           later : (s : ℕ) → SideAt L v s → p ≤ slot s → p + 1 ≤ slot s
           later s (c, o) h =
-              elim (lt-or-eq p (slot s) (omega arith))
-              [ inl l ↦ omega arith
-              | inr z ↦ absurd (q (sym o ∙ ap (origin L) (sym (ap sideAt z ∙ sideAt-slot L s c)) ∙ from-here)) ]
+              elim (lt-or-eq p (slot s) (omega arith)) [
+                | inl l ↦ omega arith
+                | inr z ↦ absurd (q (sym o ∙ ap (origin L) (sym (ap sideAt z ∙ sideAt-slot L s c)) ∙ from-here))
+              ]
+
           keep : FirstFrom L (p + 1) v (at w (v - 1)) → FirstFrom L p v (at w (v - 1))
           keep (none z f) = none z (λ s c h. f s c (later s c h))
           keep (some y h f) = some y (omega arith) (λ s c l. f s c (later s c l))

@@ -1,11 +1,11 @@
 -- Stores in a list of numbers, and what a list keeps of another.
 -- Assumes nothing.
-use mathlib.Core.Path.{_≡_, refl, _∙_}
-use mathlib.Core.List.{List}
-use Prim.Native.Nat.{ℕ, _≤_, _<_}
+use mathlib.Core.Path.{_≡_, refl, ap, _∙_}
+use mathlib.Core.List.{List, _++_}
+use Prim.Native.Nat.{ℕ, _+_, _-_, _≤_, _<_}
 use native.Mathlib.Omega.{arith}
-use lib.ListN.{length, set, length-set}
-use lib.Seq.{getD-set-same, getD-set-other}
+use lib.ListN.{length, set, drop, length-set, length-append, length-drop, List·getD-append}
+use lib.Seq.{getD-set-same, getD-set-other, getD-append-add, getD-drop}
 use Rattle.lists.specs.Search.{at}
 
 pub at-same : (W : List ℕ) (i x : ℕ) → i < length W → at (set W i x) i ≡ x
@@ -34,3 +34,18 @@ kept-set {W = W} i x p h =
 
 pub kept-later : {k m : ℕ} {U W : List ℕ} → Kept k U W → k ≤ m → Kept m U W
 kept-later p h = record { long = p .long; entries = λ j l. p .entries j (omega arith) }
+
+-- the first n entries replaced by ys
+module _ (n : ℕ) (w ys : List ℕ) (inside : n ≤ length w) (many : length ys ≡ n) where
+  pub front-kept : Kept n w (ys ++ drop (n - 0) w)
+  front-kept =
+      record {
+        long = simp (length-append, length-drop) (omega arith);
+        entries = λ j h.
+            let e : j ≡ length ys + (j - n) = omega arith in
+            let f : n - 0 + (j - n) ≡ j = omega arith in
+            ap (at (ys ++ drop (n - 0) w)) e ∙ getD-append-add ys (drop (n - 0) w) (j - n) 0 ∙ getD-drop (n - 0) w (j - n) 0 ∙ ap (at w) f;
+      }
+
+  pub front-at : (i : ℕ) → i < n → at (ys ++ drop (n - 0) w) i ≡ at ys i
+  front-at i h = List·getD-append ys (drop (n - 0) w) 0 i (omega arith)

@@ -8,7 +8,6 @@ use borrow.Author.Needs.{needs}
 use lib.ListN.{length}
 use Rattle.halfedge.specs.Rows.{cornerOf}
 use Rattle.theory.specs.Sides.{SideFacts, side-facts}
-
 use Rattle.checks.specs.Maps.{origin-read}
 use Rattle.checks.proofs.origin_of.Statement.{statement}
 use Rattle.checks.proofs.origin_of.Tie as tie

@@ -36,9 +36,10 @@ same-length : tie.Need-same-length
 same-length c = search needs
 
 returns-2 : tie.Need-returns-2
-returns-2 c = rw (c .before .wide .ensures, c .code-at .ensures)
-    (kept-set (c .before .before .before .before .before .args .x - 1) _ (kept-itself (c .before .before .before .before .before .args .n) (c .before .before .before .before .before .args .work .now)) (omega (arith, vertex c)),
-    firsts-put (c .before .before .before .before .before .args .n) (c .before .before .before .before .before .args .list .now) (c .before .before .before .before .before .args .work .now) (c .before .before .before .before .before .pre .0) (c .before .before .before .before .before .pre .1) (c .before .before .before .before .before .args .p) (c .before .before .before .before .before .pre .2) (c .before .before .before .before .before .pre .4) (c .before .before .before .before .before .args .x) (c .before .before .before .before .before .pre .3) (c .before .before .if1 .left))
+returns-2 c = rw (c .before .wide .ensures, c .code-at .ensures) (
+  kept-set (c .before .before .before .before .before .args .x - 1) _ (kept-itself (c .before .before .before .before .before .args .n) (c .before .before .before .before .before .args .work .now)) (omega (arith, vertex c)),
+  firsts-put (c .before .before .before .before .before .args .n) (c .before .before .before .before .before .args .list .now) (c .before .before .before .before .before .args .work .now) (c .before .before .before .before .before .pre .0) (c .before .before .before .before .before .pre .1) (c .before .before .before .before .before .args .p) (c .before .before .before .before .before .pre .2) (c .before .before .before .before .before .pre .4) (c .before .before .before .before .before .args .x) (c .before .before .before .before .before .pre .3) (c .before .before .if1 .left),
+)
 
 pub put-first-spec : {M : Type 1} → statement M
 put-first-spec =
