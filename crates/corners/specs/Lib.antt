@@ -1,3 +1,4 @@
 pub mod Faults
 pub mod RowLaws
 pub mod Scan
+pub mod Found
