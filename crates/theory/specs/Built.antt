@@ -34,7 +34,7 @@ checks-pass true true a s t = refl
 checks-pass true false a s t = absurd t
 checks-pass false y a s t = absurd s
 
-borders-bound : (L : List ℕ) → borders L ≤ length L
+pub borders-bound : (L : List ℕ) → borders L ≤ length L
 unfolding borders countSides
 borders-bound L = count-bound (sideWith L (isBorder L)) (length L)
 

@@ -376,7 +376,7 @@ module _ (n : ℕ) (L : List ℕ) where
   unfolding repeatedCorner repeated earlier
   no-repeated = means-none L repeated
 
-  means-sizes : Means (sizesFit n L) ((n ≤ maxVertex) × ((elements L ≤ maxElement) × (length L ≡ 4 * elements L)))
+  pub means-sizes : Means (sizesFit n L) ((n ≤ maxVertex) × ((elements L ≤ maxElement) × (length L ≡ 4 * elements L)))
   unfolding sizesFit
   means-sizes = means-both (means-le n maxVertex) (means-both (means-le (elements L) maxElement) (means-eq (length L) (4 * elements L)))
 

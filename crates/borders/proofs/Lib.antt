@@ -1,0 +1,4 @@
+pub mod Rows
+pub mod Starting
+pub mod Stepping
+pub mod Ending

@@ -1,0 +1,99 @@
+-- The numbering begins: what the checks say of the list, and the work with B2e's places cleared.
+-- Assumes nothing.
+use mathlib.Core.Path.{_≡_, refl, ap, sym, _∙_}
+use mathlib.Core.Bool.{not}
+use mathlib.Core.List.{List, _++_}
+use Prim.Native.Nat.{ℕ, _+_, _-_, _≤_, _<_}
+use native.Mathlib.Omega.{arith}
+use lib.Dec.{eqb}
+use lib.ListN.{length, take, drop, replicate, length-append, length-take, length-drop, length-replicate, List·getD-append}
+use lib.Seq.{getD-take, getD-drop, drop-at, length-take-le}
+use Rattle.lists.specs.Tests.{both}
+use Rattle.lists.specs.TestLaws.{means-eq}
+use Rattle.lists.specs.Search.{at, count, upto}
+use Rattle.lists.specs.SearchLaws.{at-blank}
+use Rattle.lists.specs.Parts.{part, length-part, put-take}
+use Rattle.rules.specs.Elements.{Side, slot, origin, firstSide}
+use Rattle.rules.specs.Pairing.{alike}
+use Rattle.rules.specs.Refusals.{unusedVertex, alikeSide}
+use Rattle.theory.specs.Sides.{First, nobody, somebody, first-side, means-none, means-no-vertex, slot-below}
+use Rattle.siblings.specs.Uses.{means-sibling-alike, partner-sibling, partner-none}
+use Rattle.checks.specs.Maps.{two-by-two}
+use Rattle.borders.specs.Numbers.{Ready, Matched, inner, Numbering}
+
+-- k places from a on replaced by zeros
+module _ (a k : ℕ) (w ys : List ℕ) (inside : a + k ≤ length w) (blank : ys ≡ replicate k 0) where
+  abbrev blanked : List ℕ
+  blanked = take a w ++ (ys ++ drop k (drop a w))
+
+  long : length ys ≡ k
+  long = ap length blank ∙ length-replicate k 0
+
+  pub blank-length : length blanked ≡ length w
+  blank-length = simp (length-append, length-take, length-drop) (omega (arith, long))
+
+  pub blank-before : (i : ℕ) → i < a → at blanked i ≡ at w i
+  blank-before i h =
+      sym (getD-take a blanked i 0 h)
+      ∙ ap (λ (u : List ℕ). at u i) (put-take a w ys (omega arith) k)
+      ∙ getD-take a w i 0 h
+
+  pub blank-here : (j : ℕ) → j < k → at blanked (a + j) ≡ 0
+  blank-here j h =
+      sym (getD-drop a blanked j 0)
+      ∙ ap (λ (u : List ℕ). at u j) (drop-at (take a w) (ys ++ drop k (drop a w)) a (length-take-le a w (omega arith)))
+      ∙ List·getD-append ys (drop k (drop a w)) 0 j (omega (arith, long))
+      ∙ ap (λ (u : List ℕ). at u j) blank
+      ∙ at-blank k j
+
+module _ (n : ℕ) (L w : List ℕ) (r : Ready n L w) where
+  pub matched : Matched n L
+  unfolding alikeSide
+  matched =
+      record {
+        fit = r .mapped .fit;
+        lone = λ s a e. partner-none L s a n (r .mapped .fit) e;
+        other = λ s a d.
+            let two = two-by-two n L (r .mapped .fit) (r .uncrowded) s a in
+            partner-sibling L s a two n (r .mapped .fit)
+            (λ o.
+            means-none L (λ s. not (eqb (firstSide L (λ t. both (not (eqb s t)) (alike L s t))) 0)) .says (means-eq _ 0 .shows (r .apart)) s a
+            (means-sibling-alike L s a two .shows (d, o)));
+      }
+
+  first-of : (v : ℕ) → 1 ≤ v → v ≤ n → Side L (firstSide L (λ s. eqb (origin L s) v))
+  unfolding unusedVertex
+  first-of v a b = go (first-side L (λ s. eqb (origin L s) v))
+    where
+      go : First L (λ s. eqb (origin L s) v) (firstSide L (λ s. eqb (origin L s) v)) → Side L (firstSide L (λ s. eqb (origin L s) v))
+      go (nobody e f) =
+          absurd
+          (means-no-vertex n (λ u. eqb (firstSide L (λ s. eqb (origin L s) u)) 0) .says (means-eq _ 0 .shows (r .used)) v a b
+          (means-eq _ 0 .shows e))
+      go (somebody c t f) = c
+
+  -- w′ is w with B2e's places cleared
+  module _ (w′ : List ℕ) (same : length w′ ≡ length w) (kept : (i : ℕ) → i < n + length L → at w′ i ≡ at w i) (clear : (j : ℕ) → j < length L → at w′ (n + length L + j) ≡ 0) where
+    unnumbered : Numbering n L 0 0 0 w′
+    unfolding count upto
+    unnumbered =
+        record {
+          number = refl;
+          sides = refl;
+          done = λ q h. absurd (omega arith);
+          ahead = λ s a h. kept (n + slot s) (omega (arith, slot-below L s a)) ∙ r .mapped .siblings s a;
+          empty = λ q h i f. kept (n + q) (omega arith) ∙ r .mapped .empty q i f;
+          border = clear;
+          vertices = λ v a b.
+              let e : at w′ (v - 1) ≡ firstSide L (λ s. eqb (origin L s) v) = kept (v - 1) (omega arith) ∙ r .firsts v a b in
+              inner (λ s i h. omega arith) (rw e (first-of v a b)) e;
+          long = same ∙ r .long;
+        }
+
+  pub cleared : (k : ℕ) (ys : List ℕ) → k ≡ length L → ys ≡ replicate (length (part (n + length L) k w)) 0 → Numbering n L 0 0 0 (take (n + length L) w ++ (ys ++ drop k (drop (n + length L) w)))
+  cleared k ys e b =
+      let a = n + length L in
+      let inside : a + k ≤ length w = omega (arith, r .long, r .mapped .fit .fours) in
+      let blank : ys ≡ replicate k 0 = b ∙ ap (λ (i : ℕ). replicate i 0) (length-part a k w inside) in
+      unnumbered (take a w ++ (ys ++ drop k (drop a w))) (blank-length a k w ys inside blank) (blank-before a k w ys inside blank)
+      (λ j h. blank-here a k w ys inside blank j (omega arith))

@@ -1,0 +1,91 @@
+-- `borders::put_border` meets its contract.
+-- Assumes nothing.
+use mathlib.Core.Path.{_≡_, ap, _∙_}
+use native.Mathlib.Omega.{arith}
+use borrow.Author.Needs.{needs}
+use lib.ListN.{length-set}
+use Rattle.rules.specs.Elements.{sideAt, destination}
+use Rattle.borders.proofs.Stepping.{put-length}
+use Rattle.borders.proofs.put_border.Statement.{statement}
+use Rattle.borders.proofs.put_border.Tie as tie
+
+ends : (c : tie.After-wide2) → let a = c .before .before .before .before .before .before .before .args in c .wide2 .result ≡ destination (a .list .now) (sideAt (a .p))
+ends c =
+    c .wide2 .ensures
+    ∙ c .before .destination .ensures
+    ∙ ap (destination (c .before .before .before .before .before .before .before .args .list .now)) (c .before .before .before .before .code-at .ensures)
+
+code-at-requires : tie.Need-code-at-requires
+code-at-requires c κs = search needs
+
+add-border : tie.Need-add-border
+add-border c = search needs
+
+mul-border : tie.Need-mul-border
+mul-border c = search needs
+
+add-work : tie.Need-add-work
+add-work c = search needs
+
+mul-work : tie.Need-mul-work
+mul-work c = search needs
+
+slice-write-work : tie.Need-slice-write-work
+slice-write-work c = search needs
+
+add-work-2 : tie.Need-add-work-2
+add-work-2 c = search needs
+
+wide-requires : tie.Need-wide-requires
+wide-requires c κs = search needs
+
+add-work-3 : tie.Need-add-work-3
+add-work-3 c = search needs
+
+mul-work-2 : tie.Need-mul-work-2
+mul-work-2 c = search needs
+
+slice-write-work-2 : tie.Need-slice-write-work-2
+slice-write-work-2 c = simp length-set (omega (arith, c .wide .ensures))
+
+destination-requires : tie.Need-destination-requires
+destination-requires c κs = rw (c .before .before .code-at .ensures) (c .before .before .before .before .before .pre .1 .0)
+
+wide-requires-2 : tie.Need-wide-requires-2
+wide-requires-2 c κs = search needs
+
+sub-put-vertex : tie.Need-sub-put-vertex
+sub-put-vertex c = omega (arith, ends c)
+
+put-vertex-requires : tie.Need-put-vertex-requires
+put-vertex-requires c κs = simp length-set (omega (arith, ends c))
+
+same-length : tie.Need-same-length
+same-length c = put-length (c .before .before .put-vertex .ensures) ∙ simp length-set
+
+returns : tie.Need-returns
+returns c =
+    let w = c .before .before .before in
+    rw (ends w, w .before .before .before .wide .ensures, w .before .before .before .before .code-at .ensures) at (c .before .before .put-vertex .ensures)
+
+pub put-border-spec : {M : Type 1} → statement M
+put-border-spec =
+    tie.close
+    (tie.spec
+    code-at-requires
+    add-border
+    mul-border
+    add-work
+    mul-work
+    slice-write-work
+    add-work-2
+    wide-requires
+    add-work-3
+    mul-work-2
+    slice-write-work-2
+    destination-requires
+    wide-requires-2
+    sub-put-vertex
+    put-vertex-requires
+    same-length
+    returns)

@@ -1,0 +1,123 @@
+// The border sides of a list whose siblings are partners, numbered in order of code, and the three tables with them.
+//
+// The work holds for each vertex its least side, which becomes V2e; for each place of the list the sibling, which becomes E2e; and then
+// B2e, as many places again.
+ghost use mathlib.Core.Path.{_≡_};
+ghost use Prim.Native.Nat.{_+_, _*_, _-_, _/_, _≤_, _<_};
+ghost use lib.ListN.{length};
+ghost use Rattle.rules.specs.Elements.{elements, row, Side, destination, sideAt};
+ghost use Rattle.halfedge.specs.Rows.{rowOf};
+ghost use Rattle.borders.specs.Numbers.{Ready, Numbered, Matched, Numbering, Put, entered};
+
+// How many border sides there are, and how many sides.
+pub struct Counts {
+    pub borders: u32,
+    pub sides: u32,
+}
+
+pub fn number_borders(n: usize, list: &[u32], work: &mut [u32]) -> Counts
+    requires { ⌜ Ready n (now list) (now work) ⌝ }
+    ensures { λ r. ⌜ Numbered n (now (list .entry)) (r .borders) (r .sides) (now (work .entry)) (now (work .exit)) ⌝ }
+{
+    let start = n + list.len();
+    let end = start + list.len();
+    buffers::clear(&mut work[start..end]);
+    number(n, list, work)
+}
+
+// Goes over the places of the list.
+fn number(n: usize, list: &[u32], work: &mut [u32]) -> Counts
+    requires { ⌜ Matched n (now list) ⌝ }
+    requires { ⌜ Numbering n (now list) 0 0 0 (now work) ⌝ }
+    ensures { λ r. ⌜ Numbering n (now (list .entry)) (length (now (list .entry))) (r .borders) (r .sides) (now (work .exit)) ⌝ }
+{
+    let mut borders = 0;
+    let mut sides = 0;
+    let mut p = 0;
+    while p < list.len() {
+        let counts = number_place(n, list, work, p, borders, sides);
+        borders = counts.borders;
+        sides = counts.sides;
+        p += 1;
+    }
+    Counts { borders, sides }
+}
+
+// Counts the side at place p, if there is one. A side that is its own sibling is a border side.
+fn number_place(
+    n: usize,
+    list: &[u32],
+    work: &mut [u32],
+    p: usize,
+    borders: u32,
+    sides: u32,
+) -> Counts
+    requires { ⌜ Matched n (now list) ⌝ }
+    requires { ⌜ p < length (now list) ⌝ }
+    requires { ⌜ Numbering n (now list) p borders sides (now work) ⌝ }
+    ensures { λ r. ⌜ Numbering n (now (list .entry)) (p + 1) (r .borders) (r .sides) (now (work .exit)) ⌝ }
+{
+    let sibling = work[n + p];
+    if sibling == 0 {
+        return Counts { borders, sides };
+    }
+    let s = halfedge::code_at(p);
+    if sibling != s {
+        return Counts {
+            borders,
+            sides: sides + 1,
+        };
+    }
+    put_border(n, list, work, p, borders);
+    Counts {
+        borders: borders + 1,
+        sides: sides + 1,
+    }
+}
+
+// Gives the border side at place p the number after k.
+fn put_border(n: usize, list: &[u32], work: &mut [u32], p: usize, k: u32)
+    requires { ⌜ (p < length (now list)) × (k ≤ p) × (length (now list) ≤ 4_000_000) × (n + 2 * length (now list) ≤ length (now work)) ⌝ }
+    requires { ⌜ Side (now list) (sideAt p) × (1 ≤ destination (now list) (sideAt p)) × (destination (now list) (sideAt p) ≤ n) ⌝ }
+    ensures { λ _. ⌜ Put (destination (now (list .entry)) (sideAt p) - 1) (8 * (k + 1)) (entered n (now (list .entry)) p k (now (work .entry))) (now (work .exit)) ⌝ }
+{
+    let s = halfedge::code_at(p);
+    let border = 8 * (k + 1);
+    work[n + p] = border;
+    work[n + list.len() + wide(k)] = s;
+    put_vertex(work, wide(destination(list, s)) - 1, border);
+}
+
+// Puts a border into a V2e entry, unless it has a border already.
+fn put_vertex(work: &mut [u32], i: usize, border: u32)
+    requires { ⌜ i < length (now work) ⌝ }
+    ensures { λ _. ⌜ Put i border (now (work .entry)) (now (work .exit)) ⌝ }
+{
+    if work[i] % 8 != 0 {
+        work[i] = border;
+    }
+}
+
+fn destination(list: &[u32], s: u32) -> u32
+    requires { ⌜ Side (now list) s ⌝ }
+    ensures { λ r. ⌜ r ≡ destination (now (list .entry)) s ⌝ }
+{
+    let row = row_of(list, s);
+    halfedge::corner(row, halfedge::next_side(row, s % 8))
+}
+
+// The row of the element of side s.
+fn row_of(list: &[u32], s: u32) -> [u32; 4]
+    requires { ⌜ (1 ≤ s / 8) × (s / 8 ≤ elements (now list)) ⌝ }
+    ensures { λ r. ⌜ r ≡ rowOf (row (now (list .entry)) (s / 8)) ⌝ }
+{
+    let start = wide(4 * (s / 8 - 1));
+    let end = start + 4;
+    halfedge::row(&list[start..end])
+}
+
+fn wide(x: u32) -> usize
+    ensures { λ r. ⌜ r ≡ x ⌝ }
+{
+    x as usize
+}
