@@ -1,17 +1,19 @@
 -- What the scratch buffer holds after checks 3 to 8.
 -- Assumes nothing.
 use mathlib.Core.Path.{_≡_, refl, ap, sym, _∙_}
+use mathlib.Core.Bool.{true}
 use mathlib.Core.List.{List}
-use Prim.Native.Nat.{ℕ, _+_, _*_, _≤_, _<_}
+use Prim.Native.Nat.{ℕ, _+_, _*_, _/_, _≤_, _<_}
 use native.Mathlib.Omega.{arith}
 use lib.Dec.{T, eqb}
 use lib.ListN.{length, take, drop}
 use lib.Seq.{take-take}
 use Rattle.lists.specs.Search.{at}
+use Rattle.lists.specs.SearchLaws.{count-bound}
 use Rattle.lists.specs.TestLaws.{both-pass, means-eq}
 use Rattle.lists.specs.Parts.{part, part-take}
 use Rattle.lists.specs.Stores.{Kept}
-use Rattle.rules.specs.Elements.{elements, element, number, sideAt, Side, slot, firstVertex}
+use Rattle.rules.specs.Elements.{elements, element, number, sideAt, Side, slot, sideWith, firstVertex, countSides}
 use Rattle.rules.specs.Pairing.{sizesFit, unfitCorner, repeatedCorner, rowsFit, Pairing}
 use Rattle.rules.specs.Tables.{partner, borders, edges, b2e, e2e, v2e}
 use Rattle.rules.specs.Recovery.{walkTo, walk}
@@ -128,3 +130,18 @@ fit-rows n L t e f =
 pub refuses : (n : ℕ) (L : List ℕ) (stated a : Answer) (r p q : ℕ) (w w′ : List ℕ) → a ≡ refused r p q → stated ≡ refused r p q → length w′ ≡ length w → Tabulated n L stated a w w′
 refuses n L stated a r p q w w′ e f l =
     record { answer = e ∙ sym f; holds = λ k c g. (let z : _≡_ {A = ℕ} 0 1 = cc in absurd (omega arith)); long = l }
+
+pub sides-bound : (L : List ℕ) → countSides L (λ s. true) ≤ length L
+unfolding countSides
+sides-bound L = count-bound (sideWith L (λ s. true)) (length L)
+
+-- k and the number of edges
+pub counted : (L : List ℕ) (k c : ℕ) → k ≡ borders L → c ≡ countSides L (λ s. true) → gives k ((c + k) / 2) ≡ gives (borders L) (edges L)
+unfolding edges
+counted L k c e f =
+    ap (λ (i : ℕ). gives i ((c + i) / 2)) e ∙ ap (λ (j : ℕ). gives (borders L) ((j + borders L) / 2)) f
+
+-- the same answer, stated with the checks before it, of the buffer at first
+pub restated : (n : ℕ) (L : List ℕ) (stated stated′ a : Answer) (w w₀ w′ : List ℕ) → stated′ ≡ stated → length w ≡ length w₀ → Tabulated n L stated a w w′ → Tabulated n L stated′ a w₀ w′
+restated n L stated stated′ a w w₀ w′ e l x =
+    record { answer = x .answer ∙ sym e; holds = x .holds; long = x .long ∙ l }

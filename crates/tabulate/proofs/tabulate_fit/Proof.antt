@@ -1,96 +1,149 @@
+-- `tabulate::tabulate_fit` meets its contract.
+-- Assumes nothing.
+use mathlib.Core.Path.{_≡_, refl, ap, sym, _∙_}
+use mathlib.Core.List.{List}
+use Prim.Native.Nat.{ℕ, _+_, _*_, _≤_}
+use native.Mathlib.Omega.{arith}
 use borrow.Author.Needs.{needs}
+use lib.ListN.{length}
+use Rattle.lists.specs.Stores.{Kept}
+use Rattle.rules.specs.Elements.{elements, element, number}
+use Rattle.rules.specs.Refusals.{Answer, refused, unusedVertex, crowdedSide, alikeSide, sideCheck, vertexCheck}
+use Rattle.theory.specs.Sides.{Fit}
+use Rattle.theory.specs.Answers.{side-clear, side-refuses, vertex-clear, vertex-refuses}
+use Rattle.siblings.specs.Siblings.{Grouped}
+use Rattle.checks.specs.Firsts.{Firsts}
+use Rattle.tabulate.specs.Results.{pairedAnswer, Tabulated, room, mapped, still-long, refuses, restated}
 use Rattle.tabulate.proofs.tabulate_fit.Statement.{statement}
 use Rattle.tabulate.proofs.tabulate_fit.Tie as tie
-use Rattle.tabulate.proofs.tabulate_fit.Reads as reads
-use Rattle.tabulate.proofs.tabulate_fit.Lts as lts
-use Rattle.checks.proofs.alike_side.Reads as alike-side-reads
-use Rattle.checks.proofs.crowded_side.Reads as crowded-side-reads
-use Rattle.checks.proofs.first_sides.Reads as first-sides-reads
-use Rattle.checks.proofs.unused_vertex.Reads as unused-vertex-reads
-use Rattle.siblings.proofs.siblings.Reads as siblings-reads
-use Rattle.tabulate.proofs.refusal_at.Reads as refusal-at-reads
-use Rattle.tabulate.proofs.tabulate_paired.Reads as tabulate-paired-reads
-use Rattle.tabulate.proofs.wide.Reads as wide-reads
 
--- src/lib.rt:61:24
+abbrev Firsted : Type 0
+Firsted = tie.After-first-sides
+
+abbrev n : Firsted → ℕ
+n c = c .before .before .before .before .before .before .before .before .before .before .args .n
+
+abbrev list : Firsted → List ℕ
+list c = c .before .before .before .before .before .before .before .before .before .before .args .list .now
+
+abbrev entry : Firsted → List ℕ
+entry c = c .before .before .before .before .before .before .before .before .before .before .args .work .now
+
+rows : (c : Firsted) → Fit (n c) (list c)
+rows c = c .before .before .before .before .before .before .before .before .before .before .pre .0
+
+long : (c : Firsted) → length (entry c) ≡ n c + 12 * elements (list c)
+long c = c .before .before .before .before .before .before .before .before .before .before .pre .1
+
+abbrev grouped-work : Firsted → List ℕ
+grouped-work c = c .before .before .before .before .before .siblings .last .1 .1 .0
+
+abbrev first-work : Firsted → List ℕ
+first-work c = c .first-sides .last .1 .1 .0
+
+grouped : (c : Firsted) → Grouped (n c) (list c) (entry c) (grouped-work c)
+grouped c = rw (c .before .before .before .before .before .before .before .wide .ensures) at (c .before .before .before .before .before .siblings .ensures)
+
+kept : (c : Firsted) → Kept (n c) (grouped-work c) (first-work c)
+kept c = rw (c .before .before .wide2 .ensures) at (c .first-sides .ensures .0)
+
+firsts : (c : Firsted) → Firsts (n c) (list c) (first-work c)
+firsts c = rw (c .before .before .wide2 .ensures) at (c .first-sides .ensures .1)
+
+still : (c : Firsted) → length (first-work c) ≡ n c + 12 * elements (list c)
+still c = still-long (n c) (list c) (entry c) (rows c) (long c) (grouped-work c) (first-work c) (grouped c) (kept c)
+
+same-long : (c : Firsted) → length (first-work c) ≡ length (entry c)
+same-long c = still c ∙ sym (long c)
+
+unused : (c : tie.After-unused-vertex) → c .unused-vertex .result ≡ unusedVertex (n (c .before .before .before .before)) (list (c .before .before .before .before))
+unused c = c .unused-vertex .ensures (list (c .before .before .before .before)) (firsts (c .before .before .before .before))
+
+-- check 5 found nothing; checks 5 and 6 found nothing
+used-on : (c : tie.Else1) {rest : Answer} → vertexCheck 5 (unusedVertex (n (c .before .before .before .before .before)) (list (c .before .before .before .before .before))) rest ≡ rest
+used-on c = vertex-clear 5 (unusedVertex (n (c .before .before .before .before .before)) (list (c .before .before .before .before .before))) _ (sym (unused (c .before)) ∙ c .if1 .left)
+
+apart-on : (c : tie.Else2) {rest : Answer} → vertexCheck 5 (unusedVertex (n (c .before .before .before .before .before .before .before .before .before)) (list (c .before .before .before .before .before .before .before .before .before))) (sideCheck 6 (crowdedSide (list (c .before .before .before .before .before .before .before .before .before))) rest) ≡ rest
+apart-on c =
+    used-on (c .before .before .before .before) ∙ side-clear 6 (crowdedSide (list (c .before .before .before .before .before .before .before .before .before))) _ (sym (c .before .crowded-side .ensures) ∙ c .if2 .left)
+
 wide-requires : tie.Need-wide-requires
 wide-requires c κs = search needs
 
--- src/lib.rt:61:5
 siblings-requires : tie.Need-siblings-requires
-siblings-requires c κs = ?
+siblings-requires c κs = rw (c .before .wide .ensures) (room (c .before .before .before .before .args .n) (c .before .before .before .before .args .list .now) (c .before .before .before .before .args .work .now) (c .before .before .before .before .pre .0) (c .before .before .before .before .pre .1))
 
--- src/lib.rt:62:25
 wide-requires-2 : tie.Need-wide-requires-2
 wide-requires-2 c κs = search needs
 
--- src/lib.rt:62:5
 first-sides-requires : tie.Need-first-sides-requires
-first-sides-requires c κs = ?
+first-sides-requires c κs = rw (c .before .wide2 .ensures) (c .before .before .before .before .before .before .before .before .before .pre .0, omega (arith, c .before .before .before .before .siblings .ensures .kept .long, c .before .before .before .before .before .before .before .before .before .pre .1))
 
--- src/lib.rt:63:9
 unused-vertex-requires : tie.Need-unused-vertex-requires
-unused-vertex-requires c κs = search needs
+unused-vertex-requires c κs = omega (arith, still (c .before .before .before), c .before .before .before .before .before .before .before .before .before .before .before .before .before .pre .1)
 
--- src/lib.rt:65:9
 same-length : tie.Need-same-length
 same-length c = search needs
 
--- src/lib.rt:65:9
 returns : tie.Need-returns
-returns c = ?
+returns c = 
+    let v = c .before .unused-vertex .result in
+    refuses (n (c .before .before .before .before .before)) (list (c .before .before .before .before .before)) _ _ 5 v 0 (entry (c .before .before .before .before .before)) (first-work (c .before .before .before .before .before)) refl
+    (rw (unused (c .before)) (vertex-refuses 5 (unusedVertex (n (c .before .before .before .before .before)) (list (c .before .before .before .before .before))) _ (λ e. c .if1 .taken (unused (c .before) ∙ e)))) (same-long (c .before .before .before .before .before))
 
--- src/lib.rt:71:34
 wide-requires-3 : tie.Need-wide-requires-3
 wide-requires-3 c κs = search needs
 
--- src/lib.rt:71:9
 crowded-side-requires : tie.Need-crowded-side-requires
-crowded-side-requires c κs = ?
+crowded-side-requires c κs = rw (c .before .wide3 .ensures) (mapped (n (c .before .before .before .before .before .before .before)) (list (c .before .before .before .before .before .before .before)) (entry (c .before .before .before .before .before .before .before)) (rows (c .before .before .before .before .before .before .before)) (long (c .before .before .before .before .before .before .before)) (grouped-work (c .before .before .before .before .before .before .before)) (first-work (c .before .before .before .before .before .before .before)) (grouped (c .before .before .before .before .before .before .before)) (kept (c .before .before .before .before .before .before .before)))
 
--- src/lib.rt:73:9
 refusal-at-requires : tie.Need-refusal-at-requires
 refusal-at-requires c κs = search needs
 
--- src/lib.rt:73:9
 same-length-2 : tie.Need-same-length-2
 same-length-2 c = search needs
 
--- src/lib.rt:73:9
 returns-2 : tie.Need-returns-2
-returns-2 c = ?
+returns-2 c = 
+    let s = c .before .before .crowded-side .result in
+    refuses (n (c .before .before .before .before .before .before .before .before .before .before)) (list (c .before .before .before .before .before .before .before .before .before .before)) _ _ 6 (element s) (number s) (entry (c .before .before .before .before .before .before .before .before .before .before)) (first-work (c .before .before .before .before .before .before .before .before .before .before)) (c .refusal-at .ensures)
+    (used-on (c .before .before .before .before .before) ∙ rw (c .before .before .crowded-side .ensures) (side-refuses 6 (crowdedSide (list (c .before .before .before .before .before .before .before .before .before .before))) _ (λ e. c .before .if2 .taken (c .before .before .crowded-side .ensures ∙ e)))) (same-long (c .before .before .before .before .before .before .before .before .before .before))
 
--- src/lib.rt:75:32
 wide-requires-4 : tie.Need-wide-requires-4
 wide-requires-4 c κs = search needs
 
--- src/lib.rt:75:9
 alike-side-requires : tie.Need-alike-side-requires
-alike-side-requires c κs = ?
+alike-side-requires c κs = rw (c .before .wide4 .ensures) (mapped (n (c .before .before .before .before .before .before .before .before .before .before .before)) (list (c .before .before .before .before .before .before .before .before .before .before .before)) (entry (c .before .before .before .before .before .before .before .before .before .before .before)) (rows (c .before .before .before .before .before .before .before .before .before .before .before)) (long (c .before .before .before .before .before .before .before .before .before .before .before)) (grouped-work (c .before .before .before .before .before .before .before .before .before .before .before)) (first-work (c .before .before .before .before .before .before .before .before .before .before .before)) (grouped (c .before .before .before .before .before .before .before .before .before .before .before)) (kept (c .before .before .before .before .before .before .before .before .before .before .before)), sym (c .before .before .before .crowded-side .ensures) ∙ c .before .before .if2 .left)
 
--- src/lib.rt:77:9
 refusal-at-requires-2 : tie.Need-refusal-at-requires-2
 refusal-at-requires-2 c κs = search needs
 
--- src/lib.rt:77:9
 same-length-3 : tie.Need-same-length-3
 same-length-3 c = search needs
 
--- src/lib.rt:77:9
 returns-3 : tie.Need-returns-3
-returns-3 c = ?
+returns-3 c = 
+    let s = c .before .before .alike-side .result in
+    refuses (n (c .before .before .before .before .before .before .before .before .before .before .before .before .before .before)) (list (c .before .before .before .before .before .before .before .before .before .before .before .before .before .before)) _ _ 7 (element s) (number s) (entry (c .before .before .before .before .before .before .before .before .before .before .before .before .before .before)) (first-work (c .before .before .before .before .before .before .before .before .before .before .before .before .before .before)) (c .refusal-at2 .ensures)
+    (apart-on (c .before .before .before .before .before) ∙ rw (c .before .before .alike-side .ensures) (side-refuses 7 (alikeSide (list (c .before .before .before .before .before .before .before .before .before .before .before .before .before .before))) _ (λ e. c .before .if3 .taken (c .before .before .alike-side .ensures ∙ e)))) (same-long (c .before .before .before .before .before .before .before .before .before .before .before .before .before .before))
 
--- src/lib.rt:79:5
 tabulate-paired-requires : tie.Need-tabulate-paired-requires
-tabulate-paired-requires c κs = ?
+tabulate-paired-requires c κs = 
+    record {
+      mapped = mapped (n (c .before .before .before .before .before .before .before .before .before .before .before .before .before .before)) (list (c .before .before .before .before .before .before .before .before .before .before .before .before .before .before)) (entry (c .before .before .before .before .before .before .before .before .before .before .before .before .before .before)) (rows (c .before .before .before .before .before .before .before .before .before .before .before .before .before .before)) (long (c .before .before .before .before .before .before .before .before .before .before .before .before .before .before)) (grouped-work (c .before .before .before .before .before .before .before .before .before .before .before .before .before .before)) (first-work (c .before .before .before .before .before .before .before .before .before .before .before .before .before .before)) (grouped (c .before .before .before .before .before .before .before .before .before .before .before .before .before .before)) (kept (c .before .before .before .before .before .before .before .before .before .before .before .before .before .before));
+      firsts = firsts (c .before .before .before .before .before .before .before .before .before .before .before .before .before .before);
+      used = sym (unused (c .before .before .before .before .before .before .before .before .before .before)) ∙ c .before .before .before .before .before .before .before .before .before .if1 .left;
+      uncrowded = sym (c .before .before .before .before .before .before .crowded-side .ensures) ∙ c .before .before .before .before .before .if2 .left;
+      apart = sym (c .before .before .alike-side .ensures) ∙ c .before .if3 .left;
+      long = still (c .before .before .before .before .before .before .before .before .before .before .before .before .before .before) }
 
--- src/lib.rt:57:1
 same-length-4 : tie.Need-same-length-4
 same-length-4 c = search needs
 
--- src/lib.rt:57:1
 returns-4 : tie.Need-returns-4
-returns-4 c = ?
+returns-4 c = 
+    restated (n (c .before .before .before .before .before .before .before .before .before .before .before .before .before .before .before .before .before)) (list (c .before .before .before .before .before .before .before .before .before .before .before .before .before .before .before .before .before)) (pairedAnswer (n (c .before .before .before .before .before .before .before .before .before .before .before .before .before .before .before .before .before)) (list (c .before .before .before .before .before .before .before .before .before .before .before .before .before .before .before .before .before))) _ _ (first-work (c .before .before .before .before .before .before .before .before .before .before .before .before .before .before .before .before .before)) (entry (c .before .before .before .before .before .before .before .before .before .before .before .before .before .before .before .before .before)) (c .before .before .tabulate-paired .last .1 .1 .0)
+    (apart-on (c .before .before .before .before .before .before .before .before) ∙ side-clear 7 (alikeSide (list (c .before .before .before .before .before .before .before .before .before .before .before .before .before .before .before .before .before))) _ (sym (c .before .before .before .before .before .alike-side .ensures) ∙ c .before .before .before .before .if3 .left)) (same-long (c .before .before .before .before .before .before .before .before .before .before .before .before .before .before .before .before .before)) (c .before .before .tabulate-paired .ensures)
 
 pub tabulate-fit-spec : {M : Type 1} → statement M
 tabulate-fit-spec =
