@@ -83,7 +83,8 @@ module _ (n : ℕ) (L w : List ℕ) (r : Ready n L w) (k c : ℕ) (w₁ : List �
           room = omega (arith, y .long, x .long, r .long, fit .fours);
           empty = λ p h e.
               ap (λ (X : List ℕ). at X p) walked
-              ∙ walk-walked n L (the-pairing n L fit (r .apart)) .outside p (λ s a q. no-side-at n L fit p e (rw (ap sideAt (sym q) ∙ sideAt-slot L s a) a)) }
+              ∙ walk-walked n L (the-pairing n L fit (r .apart)) .outside p (λ s a q. no-side-at n L fit p e (rw (ap sideAt (sym q) ∙ sideAt-slot L s a) a));
+        }
 
     pub walk-missed : firstVertex n (missed L (drop (n + 8 * elements L) w₂)) ≡ unorderedVertex n L
     unfolding unorderedVertex
@@ -95,11 +96,12 @@ module _ (n : ℕ) (L w : List ℕ) (r : Ready n L w) (k c : ℕ) (w₁ : List �
         let l₁ : o ≤ length w₁ = omega (arith, x .long, r .long) in
         let l₂ : o ≤ length w₂ = omega (arith, y .long, x .long, r .long) in
         let same : (a k : ℕ) → a + k ≤ o → part a k w₂ ≡ part a k w₁ =
-            λ a k h. sym (part-take a k o w₂ h l₂) ∙ ap (part a k) (y .kept) ∙ part-take a k o w₁ h l₁ in
+        λ a k h. sym (part-take a k o w₂ h l₂) ∙ ap (part a k) (y .kept) ∙ part-take a k o w₁ h l₁ in
         record {
           vertices = same 0 n (omega arith) ∙ x .vertices;
           opposites = same n (4 * elements L) (omega arith) ∙ x .opposites;
-          border = same (n + 4 * elements L) (borders L) (omega (arith, borders-bound L, fit .fours)) ∙ x .border }
+          border = same (n + 4 * elements L) (borders L) (omega (arith, borders-bound L, fit .fours)) ∙ x .border;
+        }
 
 -- what the sibling map and the least sides leave for the borders
 module _ (n : ℕ) (L w : List ℕ) (fit : Fit n L) (long : length w ≡ n + 12 * elements L) where
@@ -116,7 +118,8 @@ module _ (n : ℕ) (L w : List ℕ) (fit : Fit n L) (long : length w ≡ n + 12 
           fit = fit;
           room = omega (arith, still-long, fit .fours);
           siblings = λ s a. y .entries (n + slot s) (omega arith) ∙ x .siblings s a;
-          empty = λ p h d. y .entries (n + p) (omega arith) ∙ x .empty p h d }
+          empty = λ p h d. y .entries (n + p) (omega arith) ∙ x .empty p h d;
+        }
 
 -- checks 3 and 4 found nothing: the rows are fit
 pub fit-rows : (n : ℕ) (L : List ℕ) → T (sizesFit n L) → unfitCorner n L ≡ 0 → repeatedCorner L ≡ 0 → Fit n L

@@ -8,7 +8,6 @@ ghost use Rattle.theory.specs.Sides.{Fit};
 ghost use Rattle.answer.specs.Numbers.{numbers};
 ghost use Rattle.borders.specs.Numbers.{Ready};
 ghost use Rattle.tabulate.specs.Results.{Sized, fitAnswer, pairedAnswer, Tabulated};
-
 use answer::Answer;
 use corners::Fault;
 

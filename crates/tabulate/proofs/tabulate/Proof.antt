@@ -1,55 +1,66 @@
+-- `tabulate::tabulate` meets its contract.
+-- Assumes nothing.
+use mathlib.Core.Path.{_≡_, refl, ap, sym, _∙_}
+use mathlib.Core.List.{List}
+use Prim.Native.Nat.{ℕ}
 use borrow.Author.Needs.{needs}
+use Rattle.rules.specs.Elements.{element, number}
+use Rattle.rules.specs.Pairing.{unfitCorner, repeatedCorner}
+use Rattle.rules.specs.Refusals.{refused, listAnswer, sideCheck}
+use Rattle.theory.specs.Sides.{means-sizes}
+use Rattle.theory.specs.Answers.{side-clear, side-refuses}
+use Rattle.corners.specs.Found.{found-unfit, found-repeated, found-nothing}
+use Rattle.tabulate.specs.Results.{fitAnswer, fit-rows, refuses, restated}
 use Rattle.tabulate.proofs.tabulate.Statement.{statement}
 use Rattle.tabulate.proofs.tabulate.Tie as tie
-use Rattle.tabulate.proofs.tabulate.Reads as reads
-use Rattle.tabulate.proofs.tabulate.Lts as lts
-use Rattle.corners.proofs.first_fault.Reads as first-fault-reads
-use Rattle.tabulate.proofs.refusal_at.Reads as refusal-at-reads
-use Rattle.tabulate.proofs.tabulate_fit.Reads as tabulate-fit-reads
 
--- src/lib.rt:86:9
+nothing : (c : tie.After-enum-told) → (unfitCorner (c .before .before .before .before .before .args .n) (c .before .before .before .before .before .args .list .now) ≡ 0) × (repeatedCorner (c .before .before .before .before .before .args .list .now) ≡ 0)
+nothing c = found-nothing (c .before .before .before .before .before .args .n) (c .before .before .before .before .before .args .list .now) (c .before .before .first-fault .result) (c .before .before .first-fault .ensures) (c .enum-told .given .1)
+
 first-fault-requires : tie.Need-first-fault-requires
-first-fault-requires c κs = ?
+first-fault-requires c κs = let (a, (b, d)) = means-sizes (c .before .before .args .n) (c .before .before .args .list .now) .says (c .before .before .pre .sizes) in (d, b)
 
--- src/lib.rt:88:22
 enum-known-fault : tie.Need-enum-known-fault
 enum-known-fault c = search needs
 
--- src/lib.rt:88:28
 refusal-at-requires : tie.Need-refusal-at-requires
 refusal-at-requires c κs = search needs
 
--- src/lib.rt:89:25
 enum-known-fault-2 : tie.Need-enum-known-fault-2
 enum-known-fault-2 c = search needs
 
--- src/lib.rt:89:31
 refusal-at-requires-2 : tie.Need-refusal-at-requires-2
 refusal-at-requires-2 c κs = search needs
 
--- src/lib.rt:90:49
 enum-told : tie.Need-enum-told
 enum-told c = search needs
 
--- src/lib.rt:90:27
 tabulate-fit-requires : tie.Need-tabulate-fit-requires
-tabulate-fit-requires c κs = ?
+tabulate-fit-requires c κs = let (a, b) = nothing (c .before) in (fit-rows (c .before .before .before .before .before .before .args .n) (c .before .before .before .before .before .before .args .list .now) (c .before .before .before .before .before .before .pre .sizes) a b, c .before .before .before .before .before .before .pre .long)
 
--- src/lib.rt:82:1
 returns : tie.Need-returns
-returns c = ?
+unfolding listAnswer
+returns c =
+    let (d, e) = found-unfit (c .before .before .before .before .before .before .before .args .n) (c .before .before .before .before .before .before .before .args .list .now) (c .before .before .before .before .first-fault .result) (c .before .before .before .before .first-fault .ensures) _ (c .before .before .fault .given .1) in
+    refuses (c .before .before .before .before .before .before .before .args .n) (c .before .before .before .before .before .before .before .args .list .now) _ _ 3 _ _ (c .before .before .before .before .before .before .before .args .work .now) (c .before .before .before .before .before .before .before .args .work .now) (c .refusal-at .ensures)
+    (side-refuses 3 (unfitCorner (c .before .before .before .before .before .before .before .args .n) (c .before .before .before .before .before .before .before .args .list .now)) _ d ∙ ap (λ (s : ℕ). refused 3 (element s) (number s)) e) refl
 
--- src/lib.rt:82:1
 returns-2 : tie.Need-returns-2
-returns-2 c = ?
+unfolding listAnswer
+returns-2 c =
+    let (z, d, e) = found-repeated (c .before .before .before .before .before .before .before .args .n) (c .before .before .before .before .before .before .before .args .list .now) (c .before .before .before .before .first-fault .result) (c .before .before .before .before .first-fault .ensures) _ (c .before .before .fault2 .given .1) in
+    refuses (c .before .before .before .before .before .before .before .args .n) (c .before .before .before .before .before .before .before .args .list .now) _ _ 4 _ _ (c .before .before .before .before .before .before .before .args .work .now) (c .before .before .before .before .before .before .before .args .work .now) (c .refusal-at2 .ensures)
+    (side-clear 3 (unfitCorner (c .before .before .before .before .before .before .before .args .n) (c .before .before .before .before .before .before .before .args .list .now)) _ z ∙ side-refuses 4 (repeatedCorner (c .before .before .before .before .before .before .before .args .list .now)) _ d ∙ ap (λ (s : ℕ). refused 4 (element s) (number s)) e) refl
 
--- src/lib.rt:82:1
 same-length : tie.Need-same-length
 same-length c = search needs
 
--- src/lib.rt:82:1
 returns-3 : tie.Need-returns-3
-returns-3 c = ?
+unfolding listAnswer
+returns-3 c =
+    let (a, b) = nothing (c .before .before .before .before) in
+    restated (c .before .before .before .before .before .before .before .before .before .args .n) (c .before .before .before .before .before .before .before .before .before .args .list .now) (fitAnswer (c .before .before .before .before .before .before .before .before .before .args .n) (c .before .before .before .before .before .before .before .before .before .args .list .now)) _ _ (c .before .before .before .before .before .before .before .before .before .args .work .now) (c .before .before .before .before .before .before .before .before .before .args .work .now) (c .before .before .tabulate-fit .last .1 .1 .0)
+    (side-clear 3 (unfitCorner (c .before .before .before .before .before .before .before .before .before .args .n) (c .before .before .before .before .before .before .before .before .before .args .list .now)) _ a ∙ side-clear 4 (repeatedCorner (c .before .before .before .before .before .before .before .before .before .args .list .now)) _ b) refl (c .before .before .tabulate-fit .ensures)
 
 pub tabulate-spec : {M : Type 1} → statement M
 tabulate-spec =

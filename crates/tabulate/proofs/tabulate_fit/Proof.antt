@@ -86,7 +86,7 @@ same-length : tie.Need-same-length
 same-length c = search needs
 
 returns : tie.Need-returns
-returns c = 
+returns c =
     let v = c .before .unused-vertex .result in
     refuses (n (c .before .before .before .before .before)) (list (c .before .before .before .before .before)) _ _ 5 v 0 (entry (c .before .before .before .before .before)) (first-work (c .before .before .before .before .before)) refl
     (rw (unused (c .before)) (vertex-refuses 5 (unusedVertex (n (c .before .before .before .before .before)) (list (c .before .before .before .before .before))) _ (λ e. c .if1 .taken (unused (c .before) ∙ e)))) (same-long (c .before .before .before .before .before))
@@ -104,7 +104,7 @@ same-length-2 : tie.Need-same-length-2
 same-length-2 c = search needs
 
 returns-2 : tie.Need-returns-2
-returns-2 c = 
+returns-2 c =
     let s = c .before .before .crowded-side .result in
     refuses (n (c .before .before .before .before .before .before .before .before .before .before)) (list (c .before .before .before .before .before .before .before .before .before .before)) _ _ 6 (element s) (number s) (entry (c .before .before .before .before .before .before .before .before .before .before)) (first-work (c .before .before .before .before .before .before .before .before .before .before)) (c .refusal-at .ensures)
     (used-on (c .before .before .before .before .before) ∙ rw (c .before .before .crowded-side .ensures) (side-refuses 6 (crowdedSide (list (c .before .before .before .before .before .before .before .before .before .before))) _ (λ e. c .before .if2 .taken (c .before .before .crowded-side .ensures ∙ e)))) (same-long (c .before .before .before .before .before .before .before .before .before .before))
@@ -122,26 +122,27 @@ same-length-3 : tie.Need-same-length-3
 same-length-3 c = search needs
 
 returns-3 : tie.Need-returns-3
-returns-3 c = 
+returns-3 c =
     let s = c .before .before .alike-side .result in
     refuses (n (c .before .before .before .before .before .before .before .before .before .before .before .before .before .before)) (list (c .before .before .before .before .before .before .before .before .before .before .before .before .before .before)) _ _ 7 (element s) (number s) (entry (c .before .before .before .before .before .before .before .before .before .before .before .before .before .before)) (first-work (c .before .before .before .before .before .before .before .before .before .before .before .before .before .before)) (c .refusal-at2 .ensures)
     (apart-on (c .before .before .before .before .before) ∙ rw (c .before .before .alike-side .ensures) (side-refuses 7 (alikeSide (list (c .before .before .before .before .before .before .before .before .before .before .before .before .before .before))) _ (λ e. c .before .if3 .taken (c .before .before .alike-side .ensures ∙ e)))) (same-long (c .before .before .before .before .before .before .before .before .before .before .before .before .before .before))
 
 tabulate-paired-requires : tie.Need-tabulate-paired-requires
-tabulate-paired-requires c κs = 
+tabulate-paired-requires c κs =
     record {
       mapped = mapped (n (c .before .before .before .before .before .before .before .before .before .before .before .before .before .before)) (list (c .before .before .before .before .before .before .before .before .before .before .before .before .before .before)) (entry (c .before .before .before .before .before .before .before .before .before .before .before .before .before .before)) (rows (c .before .before .before .before .before .before .before .before .before .before .before .before .before .before)) (long (c .before .before .before .before .before .before .before .before .before .before .before .before .before .before)) (grouped-work (c .before .before .before .before .before .before .before .before .before .before .before .before .before .before)) (first-work (c .before .before .before .before .before .before .before .before .before .before .before .before .before .before)) (grouped (c .before .before .before .before .before .before .before .before .before .before .before .before .before .before)) (kept (c .before .before .before .before .before .before .before .before .before .before .before .before .before .before));
       firsts = firsts (c .before .before .before .before .before .before .before .before .before .before .before .before .before .before);
       used = sym (unused (c .before .before .before .before .before .before .before .before .before .before)) ∙ c .before .before .before .before .before .before .before .before .before .if1 .left;
       uncrowded = sym (c .before .before .before .before .before .before .crowded-side .ensures) ∙ c .before .before .before .before .before .if2 .left;
       apart = sym (c .before .before .alike-side .ensures) ∙ c .before .if3 .left;
-      long = still (c .before .before .before .before .before .before .before .before .before .before .before .before .before .before) }
+      long = still (c .before .before .before .before .before .before .before .before .before .before .before .before .before .before);
+    }
 
 same-length-4 : tie.Need-same-length-4
 same-length-4 c = search needs
 
 returns-4 : tie.Need-returns-4
-returns-4 c = 
+returns-4 c =
     restated (n (c .before .before .before .before .before .before .before .before .before .before .before .before .before .before .before .before .before)) (list (c .before .before .before .before .before .before .before .before .before .before .before .before .before .before .before .before .before)) (pairedAnswer (n (c .before .before .before .before .before .before .before .before .before .before .before .before .before .before .before .before .before)) (list (c .before .before .before .before .before .before .before .before .before .before .before .before .before .before .before .before .before))) _ _ (first-work (c .before .before .before .before .before .before .before .before .before .before .before .before .before .before .before .before .before)) (entry (c .before .before .before .before .before .before .before .before .before .before .before .before .before .before .before .before .before)) (c .before .before .tabulate-paired .last .1 .1 .0)
     (apart-on (c .before .before .before .before .before .before .before .before) ∙ side-clear 7 (alikeSide (list (c .before .before .before .before .before .before .before .before .before .before .before .before .before .before .before .before .before))) _ (sym (c .before .before .before .before .before .alike-side .ensures) ∙ c .before .before .before .before .if3 .left)) (same-long (c .before .before .before .before .before .before .before .before .before .before .before .before .before .before .before .before .before)) (c .before .before .tabulate-paired .ensures)
 

@@ -82,7 +82,7 @@ same-length : tie.Need-same-length
 same-length c = search needs
 
 returns : tie.Need-returns
-returns c = 
+returns c =
     refuses (n (c .before .before .before .before .before .before .before .before .before .before .before)) (list (c .before .before .before .before .before .before .before .before .before .before .before)) _ _ 8 (c .before .unordered-vertex .result) 0 (entry (c .before .before .before .before .before .before .before .before .before .before .before)) (left (c .before .before .before .before .before .before)) refl
     (rw (found (c .before)) (vertex-refuses 8 (unorderedVertex (n (c .before .before .before .before .before .before .before .before .before .before .before)) (list (c .before .before .before .before .before .before .before .before .before .before .before))) _ (λ e. c .if1 .taken (found (c .before) ∙ e)))) (same-long (c .before .before .before .before .before .before))
 
@@ -93,15 +93,16 @@ same-length-2 : tie.Need-same-length-2
 same-length-2 c = search needs
 
 returns-2 : tie.Need-returns-2
-returns-2 c = 
+returns-2 c =
     let x = numbered (c .before .before .before .before .before .before .before .before .before .before .before) in
     let L = list (c .before .before .before .before .before .before .before .before .before .before .before) in
     record {
       answer =
-        counted L _ _ (x .number) (x .sides)
-        ∙ sym (vertex-clear 8 (unorderedVertex (n (c .before .before .before .before .before .before .before .before .before .before .before)) L) (gives (borders L) (edges L)) (sym (found (c .before)) ∙ c .if1 .left));
+          counted L _ _ (x .number) (x .sides)
+          ∙ sym (vertex-clear 8 (unorderedVertex (n (c .before .before .before .before .before .before .before .before .before .before .before)) L) (gives (borders L) (edges L)) (sym (found (c .before)) ∙ c .if1 .left));
       holds = λ k e g. walk-holds (n (c .before .before .before .before .before .before .before .before .before .before .before)) L (entry (c .before .before .before .before .before .before .before .before .before .before .before)) (ready (c .before .before .before .before .before .before .before .before .before .before .before)) _ _ (tabled (c .before .before .before .before .before .before .before .before .before .before .before)) x (left (c .before .before .before .before .before .before)) (walking (c .before .before .before .before .before .before));
-      long = same-long (c .before .before .before .before .before .before) }
+      long = same-long (c .before .before .before .before .before .before);
+    }
 
 pub tabulate-paired-spec : {M : Type 1} → statement M
 tabulate-paired-spec =
