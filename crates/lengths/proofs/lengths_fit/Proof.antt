@@ -1,0 +1,47 @@
+-- `lengths::lengths_fit` meets its contract: each way out goes by the tests before it.
+-- Assumes nothing.
+use mathlib.Core.Path.{_≡_, ap}
+use Prim.Native.Nat.{ℕ, _+_, _*_, _/_}
+use native.Mathlib.Omega.{arith}
+use borrow.Author.Needs.{needs}
+use borrow.Author.Tests.{eq-eqb, ne-eqb}
+use lib.Dec.{leb}
+use Rattle.lengths.proofs.lengths_fit.Statement.{statement}
+use Rattle.lengths.proofs.lengths_fit.Tie as tie
+
+wide-requires : tie.Need-wide-requires
+wide-requires c κs = search needs
+
+returns : tie.Need-returns
+returns c = let h : c .before .before .args .v2e ≡ c .before .before .args .n → ⊥ = λ e. omega arith in simp (ne-eqb _ _ h)
+
+mul-if2 : tie.Need-mul-if2
+mul-if2 c = search needs
+
+returns-2 : tie.Need-returns-2
+returns-2 c = let h : c .before .before .before .args .v2e ≡ c .before .before .before .args .n = omega arith in simp (eq-eqb _ _ h, ne-eqb _ _ (c .if2 .taken))
+
+wide-requires-2 : tie.Need-wide-requires-2
+wide-requires-2 c κs = search needs
+
+mul-result : tie.Need-mul-result
+mul-result c = search needs
+
+add-result : tie.Need-add-result
+add-result c = search needs
+
+returns-3 : tie.Need-returns-3
+returns-3 c = let h : c .before .before .before .before .args .v2e ≡ c .before .before .before .before .args .n = omega arith in simp (eq-eqb _ _ h, eq-eqb _ _ (c .before .if2 .left)) (ap (λ (i : ℕ). leb (i + 16 * (c .before .before .before .before .args .first / 4)) (c .before .before .before .before .args .work)) (c .wide2 .ensures))
+
+pub lengths-fit-spec : {M : Type 1} → statement M
+lengths-fit-spec =
+    tie.close
+    (tie.spec
+    wide-requires
+    returns
+    mul-if2
+    returns-2
+    wide-requires-2
+    mul-result
+    add-result
+    returns-3)
