@@ -1,0 +1,68 @@
+// Building: an element list to V2e, E2e and B2e.
+ghost use mathlib.Core.Path.{_≡_};
+ghost use mathlib.Core.Bool.{true};
+ghost use Prim.Native.Nat.{_+_, _*_, _≤_};
+ghost use lib.ListN.{length};
+ghost use Rattle.rules.specs.Elements.{elements};
+ghost use Rattle.rules.specs.Refusals.{callSizes, callLengths};
+ghost use Rattle.answer.specs.Numbers.{numbers};
+ghost use Rattle.tabulate.specs.Results.{Holds};
+ghost use Rattle.build.specs.Building.{Built, Copied};
+use answer::Answer;
+
+fn wide(x: u32) -> usize
+    ensures { λ r. ⌜ r ≡ x ⌝ }
+{
+    x as usize
+}
+
+// The tables are copied out of the work buffer.
+fn commit(
+    n: usize,
+    m: usize,
+    k: usize,
+    v2e: &mut [u32],
+    e2e: &mut [u32],
+    b2e: &mut [u32],
+    work: &[u32],
+)
+    requires { ⌜ (n + 4 * m + k ≤ length (now work)) × (length (now v2e) ≡ n) × (length (now e2e) ≡ 4 * m) × (k ≤ length (now b2e)) × (n ≤ 1_000_000) × (m ≤ 1_000_000) ⌝ }
+    ensures { λ r. ⌜ Copied n m k (now (work .entry)) (now (b2e .entry)) (now (v2e .exit)) (now (e2e .exit)) (now (b2e .exit)) ⌝ }
+{
+    let a = n + 4 * m;
+    let e = a + k;
+    buffers::copy(&work[0..n], v2e);
+    buffers::copy(&work[n..a], e2e);
+    buffers::copy(&work[a..e], b2e);
+}
+
+// Checks 3 to 9 and the tables, where the lengths are fit. The work buffer isn't cleared yet.
+fn build_fit(
+    n: u32,
+    list: &[u32],
+    v2e: &mut [u32],
+    e2e: &mut [u32],
+    b2e: &mut [u32],
+    work: &mut [u32],
+) -> Answer
+    requires { ⌜ (callSizes n (now list) (now e2e) ≡ true) × (callLengths n (now list) (now e2e) (now v2e) (now work) ≡ true) ⌝ }
+    ensures { λ r. ⌜ Built n (now (list .entry)) (numbers r) (now (v2e .entry)) (now (e2e .entry)) (now (b2e .entry)) (now (v2e .exit)) (now (e2e .exit)) (now (b2e .exit)) ⌝ }
+    ensures { λ r. ⌜ length (now (work .exit)) ≡ length (now (work .entry)) ⌝ }
+{
+    let m = list.len() / 4;
+    let end = wide(n) + 12 * m;
+    let t = tabulate::tabulate(n, list, &mut work[0..end]);
+    let Answer::Gives { first, second: _ } = t else {
+        return t;
+    };
+    let k = wide(first);
+    if b2e.len() < k {
+        return Answer::Refused {
+            number: 9,
+            first,
+            second: 0,
+        };
+    }
+    commit(wide(n), m, k, v2e, e2e, b2e, work);
+    t
+}
