@@ -7,7 +7,7 @@ use mathlib.Core.List.{List, _++_, append-nil}
 use Prim.Native.Nat.{ℕ, _+_, _*_, _-_, _/_, _≤_, _<_}
 use native.Mathlib.Omega.{arith}
 use lib.Dec.{T, leb, eqb}
-use lib.ListN.{length, take, drop, drop-of-length-le, length-take, length-append}
+use lib.ListN.{length, take, drop, replicate, drop-of-length-le, length-take, length-append}
 use lib.Seq.{take-append-seam}
 use Rattle.lists.specs.Tests.{both}
 use Rattle.lists.specs.TestLaws.{passes, means-eq, means-le, zero-or}
@@ -16,7 +16,7 @@ use Rattle.lists.specs.Parts.{part, part-take}
 use Rattle.rules.specs.Elements.{elements}
 use Rattle.rules.specs.Pairing.{sizesFit, unfitCorner, repeatedCorner}
 use Rattle.rules.specs.Tables.{borders, edges, b2e, e2e, v2e}
-use Rattle.rules.specs.Refusals.{Answer, gives, refused, Buffers, callSizes, callLengths, roomCheck, listAnswer, after, onto, sideCheck, vertexCheck, unusedVertex, crowdedSide, alikeSide, unorderedVertex}
+use Rattle.rules.specs.Refusals.{Answer, gives, refused, Buffers, callSizes, callLengths, lengthChecks, workAfter, buildAnswer, buildLeaves, roomCheck, listAnswer, after, onto, sideCheck, vertexCheck, unusedVertex, crowdedSide, alikeSide, unorderedVertex}
 use Rattle.theory.specs.Answers.{room-enough, side-clear, side-refuses, vertex-clear, vertex-refuses}
 use Rattle.tabulate.specs.Results.{Sized, Holds, Tabulated}
 
@@ -130,3 +130,37 @@ counts-are n L k e g =
     (clear-vertex 5 (unusedVertex n L) k e _
     (clear-side 4 (repeatedCorner L) k e _ (clear-side 3 (unfitCorner n L) k e _ g))))) in
     cc
+
+-- the four buffers
+abbrev pub lent : List ℕ → List ℕ → List ℕ → List ℕ → Buffers
+lent V2e E2e B2e work = record { vertices = V2e; opposites = E2e; border = B2e; work = work }
+
+-- the whole call: refused by checks 1 or 2, or as the later checks say
+module _ (n : ℕ) (L V2e E2e B2e work : List ℕ) where
+  abbrev w : Buffers
+  w = record { vertices = V2e; opposites = E2e; border = B2e; work = work }
+
+  refused-leaves : (r : ℕ) → buildAnswer n L w ≡ refused r 0 0 → workAfter (callSizes n L E2e) (callLengths n L E2e V2e work) work ≡ work → w ≡ buildLeaves n L w
+  unfolding buildLeaves after
+  refused-leaves r e f =
+      sym (ap (λ (a : Answer). lent (after a (v2e n L) V2e) (after a (e2e L) E2e) (after a (onto (b2e L) B2e) B2e) (workAfter (callSizes n L E2e) (callLengths n L E2e V2e work) work)) e
+      ∙ ap (lent V2e E2e B2e) f)
+
+  pub unsized : callSizes n L E2e ≡ false → (refused 1 0 0 ≡ buildAnswer n L w) × (w ≡ buildLeaves n L w)
+  unfolding buildAnswer lengthChecks workAfter
+  unsized e =
+      let a : buildAnswer n L w ≡ refused 1 0 0 = rw (e, lengthChecks) in
+      (sym a, refused-leaves 1 a (rw (e, workAfter)))
+
+  pub unlengthened : callSizes n L E2e ≡ true → callLengths n L E2e V2e work ≡ false → (refused 2 0 0 ≡ buildAnswer n L w) × (w ≡ buildLeaves n L w)
+  unfolding buildAnswer lengthChecks workAfter
+  unlengthened e f =
+      let a : buildAnswer n L w ≡ refused 2 0 0 = rw (e, f, lengthChecks) in
+      (sym a, refused-leaves 2 a (rw (e, f, workAfter)))
+
+  pub built : (a : Answer) (V2e′ E2e′ B2e′ work′ : List ℕ) → callSizes n L E2e ≡ true → callLengths n L E2e V2e work ≡ true → Built n L a V2e E2e B2e V2e′ E2e′ B2e′ → work′ ≡ replicate (length work) 0 → (a ≡ buildAnswer n L w) × (lent V2e′ E2e′ B2e′ work′ ≡ buildLeaves n L w)
+  unfolding buildAnswer buildLeaves lengthChecks workAfter
+  built a V2e′ E2e′ B2e′ work′ e f x z =
+      let g : a ≡ buildAnswer n L w = x .answer ∙ sym (rw (e, f, lengthChecks)) in
+      let y : workAfter (callSizes n L E2e) (callLengths n L E2e V2e work) work ≡ replicate (length work) 0 = rw (e, f, workAfter) in
+      (g, λ i. record { vertices = (x .vertices ∙ ap (λ (v : Answer). after v (v2e n L) V2e) g) i; opposites = (x .opposites ∙ ap (λ (v : Answer). after v (e2e L) E2e) g) i; border = (x .border ∙ ap (λ (v : Answer). after v (onto (b2e L) B2e) B2e) g) i; work = (z ∙ sym y) i })

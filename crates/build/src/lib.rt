@@ -4,10 +4,10 @@ ghost use mathlib.Core.Bool.{true};
 ghost use Prim.Native.Nat.{_+_, _*_, _≤_};
 ghost use lib.ListN.{length};
 ghost use Rattle.rules.specs.Elements.{elements};
-ghost use Rattle.rules.specs.Refusals.{callSizes, callLengths};
+ghost use Rattle.rules.specs.Refusals.{callSizes, callLengths, buildAnswer, buildLeaves};
 ghost use Rattle.answer.specs.Numbers.{numbers};
 ghost use Rattle.tabulate.specs.Results.{Holds};
-ghost use Rattle.build.specs.Building.{Built, Copied};
+ghost use Rattle.build.specs.Building.{Built, Copied, lent};
 use answer::Answer;
 
 fn wide(x: u32) -> usize
@@ -65,4 +65,36 @@ fn build_fit(
     }
     commit(wide(n), m, k, v2e, e2e, b2e, work);
     t
+}
+
+// V2e, E2e and the first k entries of B2e of the list, with k and the number of edges; or a refusal, which leaves the tables as they
+// were. The work buffer is all zero afterwards, but after refusals 1 and 2, which leave it as it was.
+pub fn build(
+    n: u32,
+    list: &[u32],
+    v2e: &mut [u32],
+    e2e: &mut [u32],
+    b2e: &mut [u32],
+    work: &mut [u32],
+) -> Answer
+    ensures { λ r. ⌜ numbers r ≡ buildAnswer n (now (list .entry)) (lent (now (v2e .entry)) (now (e2e .entry)) (now (b2e .entry)) (now (work .entry))) ⌝ }
+    ensures { λ r. ⌜ lent (now (v2e .exit)) (now (e2e .exit)) (now (b2e .exit)) (now (work .exit)) ≡ buildLeaves n (now (list .entry)) (lent (now (v2e .entry)) (now (e2e .entry)) (now (b2e .entry)) (now (work .entry))) ⌝ }
+{
+    if !lengths::sizes_fit(n, list.len(), e2e.len()) {
+        return Answer::Refused {
+            number: 1,
+            first: 0,
+            second: 0,
+        };
+    }
+    if !lengths::lengths_fit(n, list.len(), e2e.len(), v2e.len(), work.len()) {
+        return Answer::Refused {
+            number: 2,
+            first: 0,
+            second: 0,
+        };
+    }
+    let a = build_fit(n, list, v2e, e2e, b2e, work);
+    buffers::clear(work);
+    a
 }
