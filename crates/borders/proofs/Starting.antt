@@ -12,6 +12,7 @@ use Rattle.lists.specs.Tests.{both}
 use Rattle.lists.specs.TestLaws.{means-eq}
 use Rattle.lists.specs.Search.{at, count, upto}
 use Rattle.lists.specs.SearchLaws.{at-blank}
+use Rattle.lists.specs.Changes.{blank-length, blank-before, blank-here}
 use Rattle.lists.specs.Parts.{part, length-part, put-take}
 use Rattle.rules.specs.Elements.{Side, slot, origin, firstSide}
 use Rattle.rules.specs.Pairing.{alike}
@@ -20,31 +21,6 @@ use Rattle.theory.specs.Sides.{First, nobody, somebody, first-side, means-none,
 use Rattle.siblings.specs.Uses.{means-sibling-alike, partner-sibling, partner-none}
 use Rattle.checks.specs.Maps.{two-by-two}
 use Rattle.borders.specs.Numbers.{Ready, Matched, inner, Numbering}
-
--- k places from a on replaced by zeros
-module _ (a k : ℕ) (w ys : List ℕ) (inside : a + k ≤ length w) (blank : ys ≡ replicate k 0) where
-  abbrev blanked : List ℕ
-  blanked = take a w ++ (ys ++ drop k (drop a w))
-
-  long : length ys ≡ k
-  long = ap length blank ∙ length-replicate k 0
-
-  pub blank-length : length blanked ≡ length w
-  blank-length = simp (length-append, length-take, length-drop) (omega (arith, long))
-
-  pub blank-before : (i : ℕ) → i < a → at blanked i ≡ at w i
-  blank-before i h =
-      sym (getD-take a blanked i 0 h)
-      ∙ ap (λ (u : List ℕ). at u i) (put-take a w ys (omega arith) k)
-      ∙ getD-take a w i 0 h
-
-  pub blank-here : (j : ℕ) → j < k → at blanked (a + j) ≡ 0
-  blank-here j h =
-      sym (getD-drop a blanked j 0)
-      ∙ ap (λ (u : List ℕ). at u j) (drop-at (take a w) (ys ++ drop k (drop a w)) a (length-take-le a w (omega arith)))
-      ∙ List·getD-append ys (drop k (drop a w)) 0 j (omega (arith, long))
-      ∙ ap (λ (u : List ℕ). at u j) blank
-      ∙ at-blank k j
 
 module _ (n : ℕ) (L w : List ℕ) (r : Ready n L w) where
   pub matched : Matched n L

@@ -13,6 +13,7 @@ use lib.Seq.{getD-at}
 use Rattle.lists.specs.TestLaws.{Test, pass, fail, test, decide, passes, both-pass, means-eq}
 use Rattle.lists.specs.Search.{at, count, upto}
 use Rattle.lists.specs.SearchLaws.{lt-or-eq, le-not-lt, le-or-lt, count-pass, count-fail, count-bound, upto-pass, upto-fail, length-upto}
+use Rattle.lists.specs.Changes.{at-snoc-other}
 use Rattle.lists.specs.Stores.{at-same, at-other}
 use Rattle.rules.specs.Elements.{isSide, Side, slot, destination, next, sideAt, sideWith}
 use Rattle.rules.specs.Tables.{partner, isBorder, borderNumber, e2e}
@@ -22,30 +23,23 @@ use Rattle.siblings.specs.Siblings.{sibling}
 use Rattle.siblings.specs.Uses.{sibling-side}
 use Rattle.borders.specs.Numbers.{Matched, Into, Entry, rim, inner, Numbering, Put, kept, put, entered}
 
--- an entry put after the last changes no other
-pub at-snoc-other : (xs : List ℕ) (x i : ℕ) → (i ≡ length xs → ⊥) → at (xs ++ (x ∷ [])) i ≡ at xs i
-at-snoc-other xs x i d = go (le-or-lt (length xs) i)
-  where
-    go : (length xs ≤ i) ⊎ (i < length xs) → at (xs ++ (x ∷ [])) i ≡ at xs i
-    go (inl h) =
-        let past : length (xs ++ (x ∷ [])) ≤ i = rw (length-append xs (x ∷ [])) (omega arith) in
-        List·getD-eq-default (xs ++ (x ∷ [])) 0 past ∙ sym (List·getD-eq-default xs 0 h)
-    go (inr h) = List·getD-append xs (x ∷ []) 0 i h
-
 pub put-length : {i x : ℕ} {w w′ : List ℕ} → Put i x w w′ → length w′ ≡ length w
 put-length (kept e f) = ap length f
 put-length {i} {x} {w} (put e f) = ap length f ∙ length-set w i x
 
-module _ (n : ℕ) (L : List ℕ) (m : Matched n L) (p k c : ℕ) (w : List ℕ) (s : Numbering n L p k c w) (inside : p < length L) where
+module _ {n : ℕ} {L : List ℕ} (m : Matched n L) {p k c : ℕ} {w : List ℕ} (s : Numbering n L p k c w) (inside : p < length L) where
   abbrev isBorderAt : ℕ → Bool
   isBorderAt = sideWith L (isBorder L)
 
+  abbrev isSideAt : ℕ → Bool
+  isSideAt = sideWith L (λ t. true)
+
   -- the counts fit
   pub few : (k ≤ p) × (c ≤ p)
-  few = ((rw (s .number) (count-bound isBorderAt p)), (rw (s .sides) (count-bound (sideWith L (λ t. true)) p)))
+  few = ((rw (s .number) (count-bound isBorderAt p)), (rw (s .sides) (count-bound isSideAt p)))
 
-  pub sides-inside : (length L ≤ 4_000_000) × (n + 2 * length L ≤ length w) × (n ≤ 1_000_000)
-  sides-inside = omega (arith, m .fit .fours, m .fit .size, m .fit .vertices, s .long)
+  pub room : (length L ≤ 4_000_000) × (n + 2 * length L ≤ length w) × (n ≤ 1_000_000)
+  room = omega (arith, m .fit .fours, m .fit .size, m .fit .vertices, s .long)
 
   -- what stands at p is 0 where there is no side, and else the side's sibling
   sibling-at : Side L (sideAt p) → at w (n + p) ≡ sibling L (sideAt p)
@@ -67,11 +61,17 @@ module _ (n : ℕ) (L : List ℕ) (m : Matched n L) (p k c : ℕ) (w : List ℕ)
   here : (t : ℕ) → Side L t → slot t ≡ p → t ≡ sideAt p
   here t a e = sym (sideAt-slot L t a) ∙ ap sideAt e
 
-  side-count : Side L (sideAt p) → c + 1 ≡ count (sideWith L (λ t. true)) (p + 1)
+  side-count : Side L (sideAt p) → c + 1 ≡ count isSideAt (p + 1)
   side-count a =
       add-one c
       ∙ ap suc (s .sides)
-      ∙ sym (ap (count (sideWith L (λ t. true))) (add-one p) ∙ count-pass (sideWith L (λ t. true)) p (both-pass (isSide L (sideAt p)) true a tt))
+      ∙ sym (ap (count isSideAt) (add-one p) ∙ count-pass isSideAt p (both-pass (isSide L (sideAt p)) true a tt))
+
+  -- the entry of a vertex where no border side from p ends
+  later : {v x : ℕ} → ((t : ℕ) → Into L v t → slot t ≡ p → ⊥) → Entry L p v x → Entry L (p + 1) v x
+  later g (rim t i h f e) = rim t i (omega arith) f e
+  later g (inner f a e) =
+      inner (λ t i h. elim (lt-or-eq (slot t) p (omega arith)) [ inl l ↦ f t i l | inr q ↦ g t i q ]) a e
 
   -- no border side begins at p, and its E2e entry stands
   module _ (free : Side L (sideAt p) → partner L (sideAt p) ≡ 0 → ⊥) (entry : at w (n + p) ≡ at (e2e L) p) where
@@ -87,12 +87,7 @@ module _ (n : ℕ) (L : List ℕ) (m : Matched n L) (p k c : ℕ) (w : List ℕ)
         let e = here t (i .side) q in
         free (subst (Side L) e (i .side)) (ap (partner L) (sym e) ∙ i .border)
 
-    later : {v x : ℕ} → Entry L p v x → Entry L (p + 1) v x
-    later (rim t i h f e) = rim t i (omega arith) f e
-    later {v} (inner f a e) =
-        inner (λ t i h. elim (lt-or-eq (slot t) p (omega arith)) [ inl l ↦ f t i l | inr q ↦ not-here v t i q ]) a e
-
-    numbering-on : (c′ : ℕ) → c′ ≡ count (sideWith L (λ t. true)) (p + 1) → Numbering n L (p + 1) k c′ w
+    numbering-on : (c′ : ℕ) → c′ ≡ count isSideAt (p + 1) → Numbering n L (p + 1) k c′ w
     numbering-on c′ sides =
         record {
           number = s .number ∙ sym (ap (count isBorderAt) (add-one p) ∙ count-fail isBorderAt p no-border);
@@ -105,7 +100,7 @@ module _ (n : ℕ) (L : List ℕ) (m : Matched n L) (p k c : ℕ) (w : List ℕ)
           border = λ j h.
               s .border j h
               ∙ ap (λ (xs : List ℕ). at xs j) (sym (ap (upto isBorderAt sideAt) (add-one p) ∙ upto-fail isBorderAt sideAt p no-border));
-          vertices = λ v a b. later (s .vertices v a b);
+          vertices = λ v a b. later (not-here v) (s .vertices v a b);
           long = s .long;
         }
 
@@ -115,7 +110,7 @@ module _ (n : ℕ) (L : List ℕ) (m : Matched n L) (p k c : ℕ) (w : List ℕ)
       let none = not-T (isSide L (sideAt p)) (side-not e) in
       numbering-on (λ a z. side-not e a) (e ∙ sym (e2e-empty L p none)) c
       (s .sides
-      ∙ sym (ap (count (sideWith L (λ t. true))) (add-one p) ∙ count-fail (sideWith L (λ t. true)) p (not-T (sideWith L (λ t. true) p) (λ t. side-not e (passes (isSide L (sideAt p)) true t .0)))))
+      ∙ sym (ap (count isSideAt) (add-one p) ∙ count-fail isSideAt p (not-T (isSideAt p) (λ t. side-not e (passes (isSide L (sideAt p)) true t .0)))))
 
   -- the side at p is paired
   pub paired-on : (at w (n + p) ≡ 0 → ⊥) → (at w (n + p) ≡ sideAt p → ⊥) → Numbering n L (p + 1) k (c + 1) w
@@ -142,25 +137,25 @@ module _ (n : ℕ) (L : List ℕ) (m : Matched n L) (p k c : ℕ) (w : List ℕ)
     own-number = ap (λ (q : ℕ). count isBorderAt q + 1) (slot-sideAt p) ∙ ap (λ (i : ℕ). i + 1) (sym (s .number))
 
     abbrev both-entered : List ℕ
-    both-entered = entered n L p k w
+    both-entered = entered n L p (k + 1) w
 
     entered-e2e : at both-entered (n + p) ≡ 8 * (k + 1)
     entered-e2e =
-        at-other (set w (n + p) (8 * (k + 1))) (n + length L + k) (sideAt p) (n + p) (λ e. omega arith)
-        ∙ at-same w (n + p) (8 * (k + 1)) (omega (arith, sides-inside))
+        at-other (set w (n + p) (8 * (k + 1))) (n + length L + (k + 1) - 1) (sideAt p) (n + p) (λ e. omega arith)
+        ∙ at-same w (n + p) (8 * (k + 1)) (omega (arith, room))
 
-    entered-b2e : at both-entered (n + length L + k) ≡ sideAt p
+    entered-b2e : at both-entered (n + length L + (k + 1) - 1) ≡ sideAt p
     entered-b2e =
-        at-same (set w (n + p) (8 * (k + 1))) (n + length L + k) (sideAt p)
-        (rw (length-set w (n + p) (8 * (k + 1))) (omega (arith, sides-inside, few)))
+        at-same (set w (n + p) (8 * (k + 1))) (n + length L + (k + 1) - 1) (sideAt p)
+        (rw (length-set w (n + p) (8 * (k + 1))) (omega (arith, room, few)))
 
-    entered-rest : (j : ℕ) → (j ≡ n + p → ⊥) → (j ≡ n + length L + k → ⊥) → at both-entered j ≡ at w j
+    entered-rest : (j : ℕ) → (j ≡ n + p → ⊥) → (j ≡ n + length L + (k + 1) - 1 → ⊥) → at both-entered j ≡ at w j
     entered-rest j d e =
-        at-other (set w (n + p) (8 * (k + 1))) (n + length L + k) (sideAt p) j e ∙ at-other w (n + p) (8 * (k + 1)) j d
+        at-other (set w (n + p) (8 * (k + 1))) (n + length L + (k + 1) - 1) (sideAt p) j e ∙ at-other w (n + p) (8 * (k + 1)) j d
 
     entered-long : length both-entered ≡ length w
     entered-long =
-        length-set (set w (n + p) (8 * (k + 1))) (n + length L + k) (sideAt p) ∙ length-set w (n + p) (8 * (k + 1))
+        length-set (set w (n + p) (8 * (k + 1))) (n + length L + (k + 1) - 1) (sideAt p) ∙ length-set w (n + p) (8 * (k + 1))
 
     listed : upto isBorderAt sideAt (p + 1) ≡ upto isBorderAt sideAt p ++ (sideAt p ∷ [])
     listed = ap (upto isBorderAt sideAt) (add-one p) ∙ upto-pass isBorderAt sideAt p border-here
@@ -173,7 +168,8 @@ module _ (n : ℕ) (L : List ℕ) (m : Matched n L) (p k c : ℕ) (w : List ℕ)
       where
         go : (j ≡ k) ⊎ (j ≡ k → ⊥) → at both-entered (n + length L + j) ≡ at (upto isBorderAt sideAt p ++ (sideAt p ∷ [])) j
         go (inl e) =
-            ap (λ (i : ℕ). at both-entered (n + length L + i)) e
+            let i : n + length L + j ≡ n + length L + (k + 1) - 1 = omega arith in
+            ap (at both-entered) i
             ∙ entered-b2e
             ∙ sym (getD-at (upto isBorderAt sideAt p) (sideAt p) [] 0 j (last ∙ sym e))
         go (inr d) =
@@ -181,7 +177,7 @@ module _ (n : ℕ) (L : List ℕ) (m : Matched n L) (p k c : ℕ) (w : List ℕ)
             ∙ s .border j h
             ∙ sym (at-snoc-other (upto isBorderAt sideAt p) (sideAt p) j (λ e. d (e ∙ last)))
 
-    module _ (w′ : List ℕ) (q : Put (destination L (sideAt p) - 1) (8 * (k + 1)) both-entered w′) where
+    module _ {w′ : List ℕ} (q : Put (destination L (sideAt p) - 1) (8 * (k + 1)) both-entered w′) where
       off : (j : ℕ) → (j ≡ destination L (sideAt p) - 1 → ⊥) → at w′ j ≡ at both-entered j
       off j d = go q
         where
@@ -211,22 +207,14 @@ module _ (n : ℕ) (L : List ℕ) (m : Matched n L) (p k c : ℕ) (w : List ℕ)
               rim (sideAt p) (record { side = a; border = lone; ends = sym at-v }) (rw (slot-sideAt p) (omega arith))
               (λ t i. rw (slot-sideAt p) (le-not-lt p (slot t) (λ h. g t i h)))
               (ap (λ (u : List ℕ). at u (v - 1)) f
-              ∙ at-same both-entered (v - 1) (8 * (k + 1)) (rw entered-long (omega (arith, ends-fit, sides-inside)))
+              ∙ at-same both-entered (v - 1) (8 * (k + 1)) (rw entered-long (omega (arith, ends-fit, room)))
               ∙ ap (λ (b : ℕ). 8 * b) (sym own-number))
 
       -- and of any other
       other-entry : (v : ℕ) → 1 ≤ v → v ≤ n → (v ≡ destination L (sideAt p) → ⊥) → Entry L p v (at w (v - 1)) → Entry L (p + 1) v (at w′ (v - 1))
       other-entry v l h d x =
           let e : at w′ (v - 1) ≡ at w (v - 1) = off (v - 1) (λ e. d (omega (arith, ends-fit))) ∙ entered-rest (v - 1) (λ e. omega arith) (λ e. omega arith) in
-          rw e (go x)
-        where
-          elsewhere : (t : ℕ) → Into L v t → slot t ≡ p → ⊥
-          elsewhere t i e = d (sym (i .ends) ∙ ap (destination L) (here t (i .side) e))
-
-          go : {x : ℕ} → Entry L p v x → Entry L (p + 1) v x
-          go (rim t i h g x) = rim t i (omega arith) g x
-          go (inner g b x) =
-              inner (λ t i h. elim (lt-or-eq (slot t) p (omega arith)) [ inl l ↦ g t i l | inr e ↦ elsewhere t i e ]) b x
+          rw e (later (λ t i q. d (sym (i .ends) ∙ ap (destination L) (here t (i .side) q))) x)
 
       vertex-on : (v : ℕ) → 1 ≤ v → v ≤ n → Entry L (p + 1) v (at w′ (v - 1))
       vertex-on v l h = go (decide (means-eq v (destination L (sideAt p))))

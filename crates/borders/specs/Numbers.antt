@@ -70,6 +70,6 @@ pub data Put (i x : ℕ) (w w′ : List ℕ) : Type 0 where
   kept : at w i % 8 ≡ 0 → w′ ≡ w → Put i x w w′
   put : (at w i % 8 ≡ 0 → ⊥) → w′ ≡ set w i x → Put i x w w′
 
--- the E2e and the B2e entry of the border side at p, with the number after k
+-- the E2e and the B2e entry of the border side at p, whose number is b
 abbrev pub entered : ℕ → List ℕ → ℕ → ℕ → List ℕ → List ℕ
-entered n L p k w = set (set w (n + p) (8 * (k + 1))) (n + length L + k) (sideAt p)
+entered n L p b w = set (set w (n + p) (8 * b)) (n + length L + b - 1) (sideAt p)

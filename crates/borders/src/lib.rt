@@ -61,30 +61,28 @@ fn number_place(
     if sibling == 0 {
         return Counts { borders, sides };
     }
-    let s = halfedge::code_at(p);
-    if sibling != s {
-        return Counts {
-            borders,
-            sides: sides + 1,
-        };
+    let c = sides + 1;
+    if sibling != halfedge::code_at(p) {
+        return Counts { borders, sides: c };
     }
-    put_border(n, list, work, p, borders);
+    let b = borders + 1;
+    put_border(n, list, work, p, b);
     Counts {
-        borders: borders + 1,
-        sides: sides + 1,
+        borders: b,
+        sides: c,
     }
 }
 
-// Gives the border side at place p the number after k.
-fn put_border(n: usize, list: &[u32], work: &mut [u32], p: usize, k: u32)
-    requires { ⌜ (p < length (now list)) × (k ≤ p) × (length (now list) ≤ 4_000_000) × (n + 2 * length (now list) ≤ length (now work)) ⌝ }
+// Gives the border side at place p the number b.
+fn put_border(n: usize, list: &[u32], work: &mut [u32], p: usize, b: u32)
+    requires { ⌜ (p < length (now list)) × (1 ≤ b) × (b ≤ p + 1) × (length (now list) ≤ 4_000_000) × (n + 2 * length (now list) ≤ length (now work)) ⌝ }
     requires { ⌜ Side (now list) (sideAt p) × (1 ≤ destination (now list) (sideAt p)) × (destination (now list) (sideAt p) ≤ n) ⌝ }
-    ensures { λ _. ⌜ Put (destination (now (list .entry)) (sideAt p) - 1) (8 * (k + 1)) (entered n (now (list .entry)) p k (now (work .entry))) (now (work .exit)) ⌝ }
+    ensures { λ _. ⌜ Put (destination (now (list .entry)) (sideAt p) - 1) (8 * b) (entered n (now (list .entry)) p b (now (work .entry))) (now (work .exit)) ⌝ }
 {
     let s = halfedge::code_at(p);
-    let border = 8 * (k + 1);
+    let border = 8 * b;
     work[n + p] = border;
-    work[n + list.len() + wide(k)] = s;
+    work[n + list.len() + wide(b) - 1] = s;
     put_vertex(work, wide(destination(list, s)) - 1, border);
 }
 
@@ -103,7 +101,8 @@ fn destination(list: &[u32], s: u32) -> u32
     ensures { λ r. ⌜ r ≡ destination (now (list .entry)) s ⌝ }
 {
     let row = row_of(list, s);
-    halfedge::corner(row, halfedge::next_side(row, s % 8))
+    let i = halfedge::next_side(row, s % 8);
+    halfedge::corner(row, i)
 }
 
 // The row of the element of side s.

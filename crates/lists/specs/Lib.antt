@@ -6,3 +6,5 @@ pub mod Distinct
 pub mod Parts
 pub mod Stores
 pub mod CountLaws
+pub mod Steps
+pub mod Changes

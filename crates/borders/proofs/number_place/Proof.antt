@@ -6,19 +6,19 @@ use native.Mathlib.Omega.{arith}
 use borrow.Author.Needs.{needs}
 use Rattle.lists.specs.Search.{at}
 use Rattle.rules.specs.Elements.{sideAt, Side}
-use Rattle.borders.proofs.Stepping.{few, sides-inside, side-here, ends-fit, none-on, paired-on, border-on}
+use Rattle.borders.proofs.Stepping.{few, room, side-here, ends-fit, none-on, paired-on, border-on}
 use Rattle.borders.proofs.number_place.Statement.{statement}
 use Rattle.borders.proofs.number_place.Tie as tie
 
 counts : (s : tie.Start) → (s .args .borders ≤ s .args .p) × (s .args .sides ≤ s .args .p) × (s .args .p < 4_000_000)
 counts s =
-    let f = few (s .args .n) (s .args .list .now) (s .pre .0) (s .args .p) (s .args .borders) (s .args .sides) (s .args .work .now) (s .pre .1 .1) (s .pre .1 .0) in
-    let b = sides-inside (s .args .n) (s .args .list .now) (s .pre .0) (s .args .p) (s .args .borders) (s .args .sides) (s .args .work .now) (s .pre .1 .1) (s .pre .1 .0) in (f .0, f .1, omega (arith, s .pre .1 .0))
+    let f = few (s .pre .0) (s .pre .1 .1) (s .pre .1 .0) in
+    let r = room (s .pre .0) (s .pre .1 .1) (s .pre .1 .0) in (f .0, f .1, omega (arith, s .pre .1 .0))
 
 -- the side at p, which is its own sibling
 side : (c : tie.Else2) → let a = c .before .before .before .before .before .before .args in Side (a .list .now) (sideAt (a .p))
 side c =
-    let p = c .before .before .before .before .before .before in side-here (p .args .n) (p .args .list .now) (p .pre .0) (p .args .p) (p .args .borders) (p .args .sides) (p .args .work .now) (p .pre .1 .1) (p .pre .1 .0) (c .before .before .if1 .left)
+    let p = c .before .before .before .before .before .before in side-here (p .pre .0) (p .pre .1 .1) (p .pre .1 .0) (c .before .before .if1 .left)
 
 own : (c : tie.Else2) → let a = c .before .before .before .before .before .before .args in at (a .work .now) (a .n + a .p) ≡ sideAt (a .p)
 own c = c .if2 .left ∙ c .before .code-at .ensures
@@ -33,32 +33,29 @@ slice-read-sibling : tie.Need-slice-read-sibling
 slice-read-sibling c = search needs
 
 returns : tie.Need-returns
-returns c = let p = c .before .before .before .before in none-on (p .args .n) (p .args .list .now) (p .pre .0) (p .args .p) (p .args .borders) (p .args .sides) (p .args .work .now) (p .pre .1 .1) (p .pre .1 .0) (c .if1 .taken)
+returns c = let p = c .before .before .before .before in none-on (p .pre .0) (p .pre .1 .1) (p .pre .1 .0) (c .if1 .taken)
+
+add-c : tie.Need-add-c
+add-c c = omega (arith, counts (c .before .before .before .before))
 
 code-at-requires : tie.Need-code-at-requires
 code-at-requires c κs = search needs
 
-add-t14 : tie.Need-add-t14
-add-t14 c = omega (arith, counts (c .before .before .before .before .before .before))
-
 returns-2 : tie.Need-returns-2
 returns-2 c =
     let p = c .before .before .before .before .before .before in
-    paired-on (p .args .n) (p .args .list .now) (p .pre .0) (p .args .p) (p .args .borders) (p .args .sides) (p .args .work .now) (p .pre .1 .1) (p .pre .1 .0) (c .before .before .if1 .left) (λ e. c .if2 .taken (e ∙ sym (c .before .code-at .ensures)))
+    paired-on (p .pre .0) (p .pre .1 .1) (p .pre .1 .0) (c .before .before .if1 .left) (λ e. c .if2 .taken (e ∙ sym (c .before .code-at .ensures)))
+
+add-b : tie.Need-add-b
+add-b c = omega (arith, counts (c .before .before .before .before .before .before))
 
 put-border-requires : tie.Need-put-border-requires
 put-border-requires c κs =
     let p = c .before .before .before .before .before .before .before in
     let e = c .before in
-    let b = sides-inside (p .args .n) (p .args .list .now) (p .pre .0) (p .args .p) (p .args .borders) (p .args .sides) (p .args .work .now) (p .pre .1 .1) (p .pre .1 .0) in
-    let f = ends-fit (p .args .n) (p .args .list .now) (p .pre .0) (p .args .p) (p .args .borders) (p .args .sides) (p .args .work .now) (p .pre .1 .1) (p .pre .1 .0) (side e) (own e) in
-    ((p .pre .1 .0, counts p .0, b .0, b .1), (side e, f .0, f .1))
-
-add-t12 : tie.Need-add-t12
-add-t12 c = omega (arith, counts (c .before .before .before .before .before .before .before .before .before .before))
-
-add-t18 : tie.Need-add-t18
-add-t18 c = omega (arith, counts (c .before .before .before .before .before .before .before .before .before .before))
+    let r = room (p .pre .0) (p .pre .1 .1) (p .pre .1 .0) in
+    let f = ends-fit (p .pre .0) (p .pre .1 .1) (p .pre .1 .0) (side e) (own e) in
+    ((p .pre .1 .0, (omega arith), omega (arith, counts p), r .0, r .1), (side e, f .0, f .1))
 
 same-length : tie.Need-same-length
 same-length c = search needs
@@ -67,7 +64,7 @@ returns-3 : tie.Need-returns-3
 returns-3 c =
     let p = c .before .before .before .before .before .before .before .before .before .before in
     let e = c .before .before .before .before in
-    border-on (p .args .n) (p .args .list .now) (p .pre .0) (p .args .p) (p .args .borders) (p .args .sides) (p .args .work .now) (p .pre .1 .1) (p .pre .1 .0) (side e) (own e) _ (c .before .before .put-border .ensures)
+    border-on (p .pre .0) (p .pre .1 .1) (p .pre .1 .0) (side e) (own e) (c .before .before .put-border .ensures)
 
 pub number-place-spec : {M : Type 1} → statement M
 number-place-spec =
@@ -77,11 +74,10 @@ number-place-spec =
     mul-sibling
     slice-read-sibling
     returns
+    add-c
     code-at-requires
-    add-t14
     returns-2
+    add-b
     put-border-requires
-    add-t12
-    add-t18
     same-length
     returns-3)

@@ -18,9 +18,6 @@ ends c =
 code-at-requires : tie.Need-code-at-requires
 code-at-requires c κs = search needs
 
-add-border : tie.Need-add-border
-add-border c = search needs
-
 mul-border : tie.Need-mul-border
 mul-border c = search needs
 
@@ -41,6 +38,9 @@ wide-requires c κs = search needs
 
 add-work-3 : tie.Need-add-work-3
 add-work-3 c = search needs
+
+sub-work : tie.Need-sub-work
+sub-work c = search needs
 
 mul-work-2 : tie.Need-mul-work-2
 mul-work-2 c = search needs
@@ -73,7 +73,6 @@ put-border-spec =
     tie.close
     (tie.spec
     code-at-requires
-    add-border
     mul-border
     add-work
     mul-work
@@ -81,6 +80,7 @@ put-border-spec =
     add-work-2
     wide-requires
     add-work-3
+    sub-work
     mul-work-2
     slice-write-work-2
     destination-requires

@@ -1,0 +1,359 @@
+// The text that the listing program reads and writes, document 01, "The listing program".
+ghost use mathlib.Core.List.{[], _∷_, _++_};
+ghost use mathlib.Core.Path.{_≡_};
+ghost use Prim.Native.Nat.{_+_, _*_, _-_, _≤_, _<_};
+ghost use lib.ListN.{length, drop};
+ghost use Rattle.lists.specs.Search.{at, tab};
+ghost use Rattle.rules.specs.Elements.{elements};
+ghost use Rattle.text.specs.Form.{digit, run, value, number, isField, place, mark, firstBadField, goodHead, firstBad, theN, theM, lineOfField, theNumber};
+ghost use Rattle.text.specs.Reading.{parsed, listAfter};
+ghost use Rattle.text.specs.Lines.{digits, joined, item, items, lineOf, rowLine, Written, Counts, shownLine, shownRefusal, shownTables};
+
+// What parse finds: a mesh's n and m; the first bad line; or rows that the list has no room for.
+pub enum Parsed {
+    Mesh { n: u32, m: u32 },
+    Bad { line: u32 },
+    Short,
+}
+
+// How many good fields come first, and where the next one starts.
+struct Reach {
+    fields: u32,
+    at: usize,
+}
+
+// Byte j; 0 past the end.
+fn byte(text: &[u8], j: usize) -> u8
+    ensures { λ r. ⌜ r ≡ at (now (text .entry)) j ⌝ }
+{
+    if j < text.len() {
+        return text[j];
+    }
+    0
+}
+
+fn is_digit_at(text: &[u8], j: usize) -> bool
+    ensures { λ r. ⌜ r ≡ digit (at (now (text .entry)) j) ⌝ }
+{
+    let b = byte(text, j);
+    if b < b'0' {
+        return false;
+    }
+    b <= b'9'
+}
+
+// How many digits stand from p on, at most 8.
+fn run(text: &[u8], p: usize) -> usize
+    requires { ⌜ p < 10000 ⌝ }
+    ensures { λ r. ⌜ r ≡ run (now (text .entry)) p ⌝ }
+    ensures { λ r. ⌜ r ≤ 8 ⌝ }
+{
+    let mut i = 0;
+    while i < 8 {
+        if !is_digit_at(text, p + i) {
+            return i;
+        }
+        i += 1;
+    }
+    i
+}
+
+// What a byte counts as a digit.
+fn digit_of(b: u8) -> u32
+    ensures { λ r. ⌜ r ≡ b - 48 ⌝ }
+    ensures { λ r. ⌜ r ≤ 207 ⌝ }
+{
+    if b < b'0' {
+        return 0;
+    }
+    (b - b'0') as u32
+}
+
+// The number that the k digits from p on write.
+fn value(text: &[u8], p: usize, k: usize) -> u32
+    requires { ⌜ p < 10000 ⌝ }
+    requires { ⌜ k ≤ 8 ⌝ }
+    ensures { λ r. ⌜ r ≡ value (now (text .entry)) p k ⌝ }
+{
+    let mut x: u32 = 0;
+    let mut i = 0;
+    while i < k {
+        let d = digit_of(byte(text, p + i));
+        x = 10 * x + d;
+        i += 1;
+    }
+    x
+}
+
+fn number(text: &[u8], p: usize) -> u32
+    requires { ⌜ p < 10000 ⌝ }
+    ensures { λ r. ⌜ r ≡ number (now (text .entry)) p ⌝ }
+{
+    value(text, p, run(text, p))
+}
+
+// The place after the field at p and its mark.
+fn next(text: &[u8], p: usize) -> usize
+    requires { ⌜ p < 10000 ⌝ }
+    ensures { λ r. ⌜ r ≡ p + run (now (text .entry)) p + 1 ⌝ }
+    ensures { λ r. ⌜ r ≤ p + 9 ⌝ }
+{
+    p + run(text, p) + 1
+}
+
+fn is_field(text: &[u8], p: usize, c: u8) -> bool
+    requires { ⌜ p < 10000 ⌝ }
+    ensures { λ r. ⌜ r ≡ isField (now (text .entry)) p c ⌝ }
+{
+    let k = run(text, p);
+    if k < 1 {
+        return false;
+    }
+    if 7 < k {
+        return false;
+    }
+    byte(text, p + k) == c
+}
+
+// The mark after field i: a newline after the last field of a line, else a comma.
+fn mark(i: u32) -> u8
+    ensures { λ r. ⌜ r ≡ mark i ⌝ }
+{
+    if i % 4 == 1 {
+        return b'\n';
+    }
+    b','
+}
+
+// Goes over the first `count` fields up to the first that is not good.
+fn go_over(text: &[u8], count: u32) -> Reach
+    requires { ⌜ count ≤ 802 ⌝ }
+    ensures { λ r. ⌜ (r .fields ≡ firstBadField (now (text .entry)) count) × (r .at ≡ place (now (text .entry)) (r .fields)) ⌝ }
+    ensures { λ r. ⌜ r .fields ≤ 802 ⌝ }
+{
+    let mut i: u32 = 0;
+    let mut at = 0;
+    while i < count {
+        if !is_field(text, at, mark(i)) {
+            return Reach { fields: i, at: at };
+        }
+        at = next(text, at);
+        i += 1;
+    }
+    Reach { fields: i, at: at }
+}
+
+fn the_n(text: &[u8]) -> u32
+    ensures { λ r. ⌜ r ≡ theN (now (text .entry)) ⌝ }
+{
+    number(text, 0)
+}
+
+fn the_m(text: &[u8]) -> u32
+    ensures { λ r. ⌜ r ≡ theM (now (text .entry)) ⌝ }
+{
+    number(text, next(text, 0))
+}
+
+fn is_good_head(text: &[u8]) -> bool
+    ensures { λ r. ⌜ r ≡ goodHead (now (text .entry)) ⌝ }
+{
+    let r = go_over(text, 2);
+    if r.fields != 2 {
+        return false;
+    }
+    if 200 < the_n(text) {
+        return false;
+    }
+    the_m(text) <= 200
+}
+
+// The line of field i.
+fn line_of(i: u32) -> u32
+    requires { ⌜ i ≤ 802 ⌝ }
+    ensures { λ r. ⌜ r ≡ lineOfField i ⌝ }
+{
+    (i + 2) / 4 + 1
+}
+
+fn first_bad(text: &[u8]) -> u32
+    ensures { λ r. ⌜ r ≡ firstBad (now (text .entry)) ⌝ }
+{
+    if !is_good_head(text) {
+        return 1;
+    }
+    let count = 4 * the_m(text) + 2;
+    let r = go_over(text, count);
+    if r.fields != count {
+        return line_of(r.fields);
+    }
+    if r.at != text.len() {
+        return line_of(r.fields);
+    }
+    0
+}
+
+// Writes the numbers of `count` fields after line 1 into the list.
+fn read_list(text: &[u8], list: &mut [u32], count: usize)
+    requires { ⌜ count ≤ 800 ⌝ }
+    requires { ⌜ count ≤ length (now list) ⌝ }
+    ensures { λ _. ⌜ now (list .exit) ≡ tab count (theNumber (now (text .entry))) ++ drop count (now (list .entry)) ⌝ }
+{
+    let mut at = next(text, next(text, 0));
+    let mut i = 0;
+    while i < count {
+        list[i] = number(text, at);
+        at = next(text, at);
+        i += 1;
+    }
+}
+
+// The mesh that a text in form gives; the list's first 4 m entries are then its rows.
+pub fn parse(text: &[u8], list: &mut [u32]) -> Parsed
+    ensures { λ r. ⌜ r ≡ parsed (now (text .entry)) (length (now (list .entry))) ⌝ }
+    ensures { λ r. ⌜ now (list .exit) ≡ listAfter r (now (text .entry)) (now (list .entry)) ⌝ }
+{
+    let bad = first_bad(text);
+    if bad != 0 {
+        return Parsed::Bad { line: bad };
+    }
+    let m = the_m(text);
+    let count = 4 * (m as usize);
+    if list.len() < count {
+        return Parsed::Short;
+    }
+    read_list(text, list, count);
+    Parsed::Mesh {
+        n: the_n(text),
+        m: m,
+    }
+}
+
+// Writes the byte b at place p. Each such call answers the next place.
+fn put_byte(out: &mut [u8], p: usize, b: u8) -> usize
+    requires { ⌜ p < length (now out) ⌝ }
+    ensures { λ r. ⌜ Written (now (out .entry)) p (b ∷ []) (now (out .exit)) r ⌝ }
+{
+    out[p] = b;
+    p + 1
+}
+
+fn put_digit(out: &mut [u8], p: usize, d: u32) -> usize
+    requires { ⌜ p < length (now out) ⌝ }
+    requires { ⌜ d < 10 ⌝ }
+    ensures { λ r. ⌜ Written (now (out .entry)) p ((48 + d) ∷ []) (now (out .exit)) r ⌝ }
+{
+    put_byte(out, p, (48 + d) as u8)
+}
+
+// Writes the digits of x.
+fn put_number(out: &mut [u8], p: usize, x: u32) -> usize
+    requires { ⌜ p + length (digits x) ≤ length (now out) ⌝ }
+    ensures { λ r. ⌜ Written (now (out .entry)) p (digits x) (now (out .exit)) r ⌝ }
+{
+    if x < 10 {
+        return put_digit(out, p, x);
+    }
+    let q = put_number(out, p, x / 10);
+    put_digit(out, q, x % 10)
+}
+
+// Writes a comma and the digits of number i.
+fn put_item(out: &mut [u8], p: usize, numbers: &[u32], i: usize) -> usize
+    requires { ⌜ p + 11 ≤ length (now out) ⌝ }
+    requires { ⌜ i < length (now numbers) ⌝ }
+    ensures { λ r. ⌜ Written (now (out .entry)) p (item (now (numbers .entry)) i) (now (out .exit)) r ⌝ }
+    ensures { λ r. ⌜ r ≤ p + 11 ⌝ }
+{
+    let q = put_byte(out, p, b',');
+    put_number(out, q, numbers[i])
+}
+
+// Writes a comma and the digits of each number.
+fn put_items(out: &mut [u8], at: usize, numbers: &[u32]) -> usize
+    requires { ⌜ at + 11 * length (now numbers) ≤ length (now out) ⌝ }
+    ensures { λ r. ⌜ Written (now (out .entry)) at (items (now (numbers .entry))) (now (out .exit)) r ⌝ }
+    ensures { λ r. ⌜ r ≤ at + 11 * length (now (numbers .entry)) ⌝ }
+{
+    let mut p = at;
+    let mut i = 0;
+    while i < numbers.len() {
+        p = put_item(out, p, numbers, i);
+        i += 1;
+    }
+    p
+}
+
+// Writes a letter, the numbers and a newline.
+fn put_line(out: &mut [u8], at: usize, letter: u8, numbers: &[u32]) -> usize
+    requires { ⌜ at + 11 * (length (now numbers) + 1) ≤ length (now out) ⌝ }
+    ensures { λ r. ⌜ Written (now (out .entry)) at (lineOf letter (now (numbers .entry))) (now (out .exit)) r ⌝ }
+    ensures { λ r. ⌜ r ≤ at + 11 * (length (now (numbers .entry)) + 1) ⌝ }
+{
+    let p = put_byte(out, at, letter);
+    let q = put_items(out, p, numbers);
+    put_byte(out, q, b'\n')
+}
+
+// Writes the line of element k + 1.
+fn put_row(out: &mut [u8], at: usize, e2e: &[u32], k: usize) -> usize
+    requires { ⌜ at + 55 ≤ length (now out) ⌝ }
+    requires { ⌜ k < elements (now e2e) ⌝ }
+    ensures { λ r. ⌜ Written (now (out .entry)) at (rowLine (now (e2e .entry)) k) (now (out .exit)) r ⌝ }
+    ensures { λ r. ⌜ r ≤ at + 55 ⌝ }
+{
+    let a = 4 * k;
+    let e = a + 4;
+    put_line(out, at, b'E', &e2e[a..e])
+}
+
+// Writes a line for each element.
+fn put_rows(out: &mut [u8], at: usize, e2e: &[u32]) -> usize
+    requires { ⌜ at + 55 * elements (now e2e) ≤ length (now out) ⌝ }
+    ensures { λ r. ⌜ Written (now (out .entry)) at (joined (rowLine (now (e2e .entry))) (elements (now (e2e .entry)))) (now (out .exit)) r ⌝ }
+    ensures { λ r. ⌜ r ≤ at + 55 * elements (now (e2e .entry)) ⌝ }
+{
+    let mut p = at;
+    let mut k = 0;
+    while k < e2e.len() / 4 {
+        p = put_row(out, p, e2e, k);
+        k += 1;
+    }
+    p
+}
+
+// Writes a letter and numbers as one line from place `at` on. Without room for the line it writes nothing.
+pub fn print_line(out: &mut [u8], at: usize, letter: u8, numbers: &[u32]) -> usize
+    ensures { λ r. ⌜ Written (now (out .entry)) at (shownLine (length (now (out .entry))) at letter (now (numbers .entry))) (now (out .exit)) r ⌝ }
+    ensures { λ r. ⌜ (at ≤ length (now (out .entry)) → r ≤ length (now (out .entry))) ⌝ }
+{
+    if out.len() < at {
+        return at;
+    }
+    if (out.len() - at) / 11 <= numbers.len() {
+        return at;
+    }
+    put_line(out, at, letter, numbers)
+}
+
+// Writes the line of a refusal at the start of `out`; nothing without room.
+pub fn print_refusal(out: &mut [u8], number: u32, first: u32, second: u32) -> usize
+    ensures { λ r. ⌜ Written (now (out .entry)) 0 (shownRefusal (length (now (out .entry))) number first second) (now (out .exit)) r ⌝ }
+    ensures { λ r. ⌜ Counts r (now (out .exit)) ⌝ }
+{
+    let numbers = [number, first, second];
+    print_line(out, 0, b'R', &numbers)
+}
+
+// Writes the lines of the three tables at the start of `out`; nothing without room.
+pub fn print_tables(out: &mut [u8], v2e: &[u32], e2e: &[u32], b2e: &[u32]) -> usize
+    ensures { λ r. ⌜ Written (now (out .entry)) 0 (shownTables (length (now (out .entry))) (now (v2e .entry)) (now (e2e .entry)) (now (b2e .entry))) (now (out .exit)) r ⌝ }
+    ensures { λ r. ⌜ Counts r (now (out .exit)) ⌝ }
+{
+    if out.len() / 11 <= v2e.len() + b2e.len() + 5 * (e2e.len() / 4) + 1 {
+        return 0;
+    }
+    let p = put_line(out, 0, b'V', v2e);
+    let q = put_rows(out, p, e2e);
+    put_line(out, q, b'B', b2e)
+}
