@@ -1,0 +1,11 @@
+pub mod Sided
+pub mod Admitted
+pub mod Readings
+pub mod Tested
+pub mod Following
+pub mod Standing
+pub mod Passes
+pub mod Listing
+pub mod Rings
+pub mod Walkers
+pub mod Lent

@@ -1,0 +1,40 @@
+-- `query::checks::sizes_fit` meets its contract: each way out goes by the tests before it.
+-- Assumes nothing.
+use Prim.Native.Nat.{_≤_, _<_, _/_}
+use Rattle.rules.specs.Elements.{maxVertex, maxElement}
+use borrow.Author.Needs.{needs}
+use borrow.Author.Tests.{le-leb, lt-leb, eq-eqb, ne-eqb}
+use native.Mathlib.Omega.{arith}
+use Rattle.query.proofs.checks.sizes_fit.Statement.{statement}
+use Rattle.query.proofs.checks.sizes_fit.Tie as tie
+
+returns : tie.Need-returns
+returns c = simp (lt-leb _ maxVertex (c .if1 .taken))
+
+wide-requires : tie.Need-wide-requires
+wide-requires c κs = search needs
+
+returns-2 : tie.Need-returns-2
+returns-2 c =
+    let h : maxElement < c .before .before .before .args .list / 4 = omega arith in
+    simp (le-leb _ maxVertex (c .before .before .if1 .left), lt-leb _ _ h)
+
+mul-if3 : tie.Need-mul-if3
+mul-if3 c = search needs
+
+returns-3 : tie.Need-returns-3
+returns-3 c =
+    let h : c .before .before .before .before .args .list / 4 ≤ maxElement = omega arith in
+    simp (le-leb _ maxVertex (c .before .before .before .if1 .left), le-leb _ _ h, ne-eqb _ _ (c .if3 .taken))
+
+mul-result : tie.Need-mul-result
+mul-result c = search needs
+
+returns-4 : tie.Need-returns-4
+returns-4 c =
+    let h : c .before .before .before .before .args .list / 4 ≤ maxElement = omega arith in
+    simp (le-leb _ maxVertex (c .before .before .before .if1 .left), le-leb _ _ h, eq-eqb _ _ (c .if3 .left))
+
+pub sizes-fit-spec : {M : Type 1} → statement M
+sizes-fit-spec =
+    tie.close (tie.spec returns wide-requires returns-2 mul-if3 returns-3 mul-result returns-4)

@@ -1,0 +1,4 @@
+pub mod Meshes
+pub mod Readings
+pub mod Walks
+pub mod Walkers

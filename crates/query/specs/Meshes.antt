@@ -1,0 +1,32 @@
+-- A query's mesh, and what the checks before its answer find.
+-- Assumes nothing.
+use mathlib.Core.Bool.{Bool}
+use mathlib.Core.List.{List}
+use mathlib.Core.Path.{_≡_}
+use Prim.Native.Nat.{ℕ, zero, suc, _*_, _≤_}
+use lib.Dec.{T}
+use lib.ListN.{length}
+use Rattle.rules.specs.Elements.{maxElement, elements}
+use Rattle.rules.specs.Refusals.{Answer, refused}
+use Rattle.rules.specs.Queries.{Mesh, asked, defined}
+
+abbrev pub mesh : ℕ → List ℕ → List ℕ → List ℕ → List ℕ → Mesh
+mesh n list v2e e2e b2e = record { n = n; list = list; vertices = v2e; opposites = e2e; border = b2e }
+
+-- what checks 1 and 2 leave
+pub record Fit (M : Mesh) : Type 0 where
+  pub vertices : length (M .vertices) ≡ M .n
+  pub opposites : length (M .opposites) ≡ length (M .list)
+  pub border : length (M .border) ≤ 4 * elements (M .list)
+  pub elements : elements (M .list) ≤ maxElement
+
+-- what is answered where the checks before it found r: 0 is nothing
+unfoldable pub settle : ℕ → Answer → Answer
+settle zero a = a
+settle (suc r) a = refused (suc r) 0 0
+
+-- r is what checks 1, 2 and 11 find, with the test `there` for 11
+pub record Admits (M : Mesh) (there : Bool) (r : ℕ) : Type 0 where
+  pub fit : r ≤ 0 → Fit M
+  pub found : r ≤ 0 → T there
+  pub settled : (a : Answer) → asked M (defined there a) ≡ settle r a

@@ -1,0 +1,89 @@
+// The queries that write a list.
+use super::checks::border_refusal;
+use super::checks::refuse;
+use super::checks::vertex_refusal;
+use super::reads::Read;
+use super::reads::prior_vertex;
+use super::reads::start_side;
+use super::walks::Walk;
+use super::walks::list_walk;
+use answer::Answer;
+ghost use mathlib.Core.Path.{_≡_};
+ghost use Rattle.answer.specs.Numbers.{numbers};
+ghost use Rattle.rules.specs.Queries.{ringAnswer, ringLeaves, neighboursAnswer, neighboursLeaves, borderLoopAnswer, borderLoopLeaves};
+ghost use Rattle.query.specs.Meshes.{mesh};
+
+// The elements about a vertex, in turn order.
+pub fn ring(
+    n: u32,
+    list: &[u32],
+    v2e: &[u32],
+    e2e: &[u32],
+    b2e: &[u32],
+    v: u32,
+    out: &mut [u32],
+) -> Answer
+    ensures { λ r. ⌜ numbers r ≡ ringAnswer (mesh n (now (list .entry)) (now (v2e .entry)) (now (e2e .entry)) (now (b2e .entry))) v (now (out .entry)) ⌝ }
+    ensures { λ _. ⌜ now (out .exit) ≡ ringLeaves (mesh n (now (list .entry)) (now (v2e .entry)) (now (e2e .entry)) (now (b2e .entry))) v (now (out .entry)) ⌝ }
+{
+    let refusal = vertex_refusal(n, list, v2e, e2e, b2e, v);
+    if 0 < refusal {
+        return refuse(refusal);
+    }
+    let begun = start_side(n, list, v2e, e2e, b2e, v);
+    let Read::Value(start) = begun else {
+        return refuse(12);
+    };
+    let limit = (list.len() / 4) as u32;
+    list_walk(Walk::Elements, n, list, v2e, e2e, b2e, limit, start, 0, out)
+}
+
+// The vertices joined to a vertex, in turn order.
+pub fn neighbours(
+    n: u32,
+    list: &[u32],
+    v2e: &[u32],
+    e2e: &[u32],
+    b2e: &[u32],
+    v: u32,
+    out: &mut [u32],
+) -> Answer
+    ensures { λ r. ⌜ numbers r ≡ neighboursAnswer (mesh n (now (list .entry)) (now (v2e .entry)) (now (e2e .entry)) (now (b2e .entry))) v (now (out .entry)) ⌝ }
+    ensures { λ _. ⌜ now (out .exit) ≡ neighboursLeaves (mesh n (now (list .entry)) (now (v2e .entry)) (now (e2e .entry)) (now (b2e .entry))) v (now (out .entry)) ⌝ }
+{
+    let refusal = vertex_refusal(n, list, v2e, e2e, b2e, v);
+    if 0 < refusal {
+        return refuse(refusal);
+    }
+    let begun = start_side(n, list, v2e, e2e, b2e, v);
+    let Read::Value(start) = begun else {
+        return refuse(12);
+    };
+    let earlier = prior_vertex(n, list, v2e, e2e, b2e, v);
+    let Read::Value(prior) = earlier else {
+        return refuse(12);
+    };
+    let limit = (list.len() / 4) as u32;
+    list_walk(Walk::Ends, n, list, v2e, e2e, b2e, limit, start, prior, out)
+}
+
+// The border numbers from b on, until b returns.
+pub fn border_loop(
+    n: u32,
+    list: &[u32],
+    v2e: &[u32],
+    e2e: &[u32],
+    b2e: &[u32],
+    b: u32,
+    out: &mut [u32],
+) -> Answer
+    ensures { λ r. ⌜ numbers r ≡ borderLoopAnswer (mesh n (now (list .entry)) (now (v2e .entry)) (now (e2e .entry)) (now (b2e .entry))) b (now (out .entry)) ⌝ }
+    ensures { λ _. ⌜ now (out .exit) ≡ borderLoopLeaves (mesh n (now (list .entry)) (now (v2e .entry)) (now (e2e .entry)) (now (b2e .entry))) b (now (out .entry)) ⌝ }
+{
+    let refusal = border_refusal(n, list, v2e, e2e, b2e, b);
+    if 0 < refusal {
+        return refuse(refusal);
+    }
+    let limit = b2e.len() as u32;
+    list_walk(Walk::Borders, n, list, v2e, e2e, b2e, limit, b, 0, out)
+}
