@@ -1,0 +1,87 @@
+-- What recovery leaves on its way.
+-- Assumes nothing.
+use mathlib.Core.Path.{_≡_, refl, ap, sym, subst, _∙_}
+use mathlib.Core.Bool.{Bool, true, false, not}
+use mathlib.Core.Logic.{_⊎_, inl, inr}
+use mathlib.Core.List.{List, _++_, append-nil}
+use Prim.Native.Nat.{ℕ, _+_, _*_, _-_, _/_, _≤_, _<_}
+use native.Mathlib.Omega.{arith}
+use lib.Dec.{T, leb, eqb, T-not, not-T}
+use lib.ListN.{length, take, drop, length-take, length-drop, length-append}
+use Rattle.lists.specs.Tests.{both, same}
+use Rattle.lists.specs.TestLaws.{Test, pass, fail, test, true-of, false-of, passes, both-pass, means-eq, means-le, zero-or}
+use Rattle.lists.specs.Parts.{part}
+use Rattle.rules.specs.Elements.{elements}
+use Rattle.rules.specs.Pairing.{sizesFit, unfitCorner, repeatedCorner, rowsFit}
+use Rattle.rules.specs.Tables.{borders, edges, e2e, v2e}
+use Rattle.rules.specs.Recovery.{walk}
+use Rattle.rules.specs.Refusals.{Answer, gives, refused, sideCheck, vertexCheck, unusedVertex, crowdedSide, alikeSide, unorderedVertex, listAnswer, accepts, recovers, callSizes, callLengths, lengthChecks, workAfter, after, onto, recoverAnswer, recoverList, recoverWork}
+use Rattle.theory.specs.Answers.{side-clear, side-refuses, vertex-clear, vertex-refuses, ordered-answer}
+use Rattle.theory.specs.Deciding.{means-accepted}
+
+-- the tables stand at the front
+pub record Filled (n : ℕ) (V2e E2e w w′ : List ℕ) : Type 0 where
+  pub vertices : take n w′ ≡ V2e
+  pub opposites : part n (length E2e) w′ ≡ E2e
+  pub long : length w′ ≡ length w
+
+-- after counts, and with the same tables
+abbrev pub agrees : Answer → List ℕ → List ℕ → List ℕ → List ℕ → Bool
+agrees (gives k e) V2e′ E2e′ V2e E2e = both (same V2e′ V2e) (same E2e′ E2e)
+agrees (refused r a b) V2e′ E2e′ V2e E2e = false
+
+-- checks 3 to 8 found nothing exactly where counts come
+zero-side : (r s k e : ℕ) (rest : Answer) → sideCheck r s rest ≡ gives k e → (s ≡ 0) × (rest ≡ gives k e)
+zero-side r s k e rest g = go (zero-or s)
+  where
+    go : (s ≡ 0) ⊎ (s ≡ 0 → ⊥) → (s ≡ 0) × (rest ≡ gives k e)
+    go (inl z) = (z, sym (side-clear r s rest z) ∙ g)
+    go (inr d) = let h = side-refuses r s rest d in let z : _≡_ {A = ℕ} 0 1 = cc in absurd (omega arith)
+
+zero-vertex : (r v k e : ℕ) (rest : Answer) → vertexCheck r v rest ≡ gives k e → (v ≡ 0) × (rest ≡ gives k e)
+zero-vertex r v k e rest g = go (zero-or v)
+  where
+    go : (v ≡ 0) ⊎ (v ≡ 0 → ⊥) → (v ≡ 0) × (rest ≡ gives k e)
+    go (inl z) = (z, sym (vertex-clear r v rest z) ∙ g)
+    go (inr d) = let h = vertex-refuses r v rest d in let z : _≡_ {A = ℕ} 0 1 = cc in absurd (omega arith)
+
+module _ (n : ℕ) (L : List ℕ) where
+  -- counts come exactly for an accepted list
+  pub counts-accepted : T (sizesFit n L) → (k e : ℕ) → listAnswer n L ≡ gives k e → T (accepts n L)
+  unfolding listAnswer accepts rowsFit
+  counts-accepted t k e g =
+      let (a, g₁) = zero-side 3 (unfitCorner n L) k e _ g in
+      let (b, g₂) = zero-side 4 (repeatedCorner L) k e _ g₁ in
+      let (c, g₃) = zero-vertex 5 (unusedVertex n L) k e _ g₂ in
+      let (d, g₄) = zero-side 6 (crowdedSide L) k e _ g₃ in
+      let (f, g₅) = zero-side 7 (alikeSide L) k e _ g₄ in
+      let (h, g₆) = zero-vertex 8 (unorderedVertex n L) k e _ g₅ in
+      both-pass (both (sizesFit n L) (both (eqb (unfitCorner n L) 0) (eqb (repeatedCorner L) 0))) _
+      (both-pass (sizesFit n L) _ t (both-pass (eqb (unfitCorner n L) 0) (eqb (repeatedCorner L) 0) (means-eq _ 0 .shows a) (means-eq _ 0 .shows b)))
+      (both-pass (eqb (unusedVertex n L) 0) _ (means-eq _ 0 .shows c)
+      (both-pass (eqb (crowdedSide L) 0) _ (means-eq _ 0 .shows d)
+      (both-pass (eqb (alikeSide L) 0) (eqb (unorderedVertex n L) 0) (means-eq _ 0 .shows f) (means-eq _ 0 .shows h))))
+
+  pub refusal-unaccepted : (r a b : ℕ) → listAnswer n L ≡ refused r a b → accepts n L ≡ false
+  refusal-unaccepted r a b g =
+      false-of (accepts n L)
+      (not-T (accepts n L)
+      (λ t.
+        let x = means-accepted n L .says t in
+        let h = ordered-answer n L (x .rows) (x .pairing) (x .ordered) in
+        let z : _≡_ {A = ℕ} 0 1 = cc in omega arith))
+
+  -- so the comparison decides recovery
+  pub agreement : (V2e E2e V2e′ E2e′ : List ℕ) → T (sizesFit n L) → walk V2e E2e ≡ L → ((k e : ℕ) → listAnswer n L ≡ gives k e → (V2e′ ≡ v2e n L) × (E2e′ ≡ e2e L)) → agrees (listAnswer n L) V2e′ E2e′ V2e E2e ≡ recovers n V2e E2e
+  unfolding recovers
+  agreement V2e E2e V2e′ E2e′ t w h = go (listAnswer n L) refl
+    where
+      whole : recovers n V2e E2e ≡ both (accepts n L) (both (same (v2e n L) V2e) (same (e2e L) E2e))
+      whole = ap (λ (X : List ℕ). both (accepts n X) (both (same (v2e n X) V2e) (same (e2e X) E2e))) w
+      go : (a : Answer) → listAnswer n L ≡ a → agrees a V2e′ E2e′ V2e E2e ≡ recovers n V2e E2e
+      go (gives k e) g =
+          let (p, q) = h k e g in
+          let y : accepts n L ≡ true = true-of (accepts n L) (counts-accepted t k e g) in
+          ap (λ (X : List ℕ). both (same X V2e) (same E2e′ E2e)) p ∙ ap (λ (X : List ℕ). both (same (v2e n L) V2e) (same X E2e)) q
+          ∙ sym (whole ∙ ap (λ (b : Bool). both b (both (same (v2e n L) V2e) (same (e2e L) E2e))) y)
+      go (refused r a b) g = sym (whole ∙ ap (λ (c : Bool). both c (both (same (v2e n L) V2e) (same (e2e L) E2e))) (refusal-unaccepted r a b g))
