@@ -10,7 +10,8 @@ use lib.Dec.{T, leb, eqb, T-not, not-T}
 use lib.ListN.{length, take, drop, length-take, length-drop, length-append}
 use Rattle.lists.specs.Tests.{both, same}
 use Rattle.lists.specs.TestLaws.{Test, pass, fail, test, true-of, false-of, passes, both-pass, means-eq, means-le, zero-or}
-use Rattle.lists.specs.Parts.{part}
+use lib.Seq.{take-at, take-append-seam}
+use Rattle.lists.specs.Parts.{part, put-take, put-drop, put-length}
 use Rattle.rules.specs.Elements.{elements}
 use Rattle.rules.specs.Pairing.{sizesFit, unfitCorner, repeatedCorner, rowsFit}
 use Rattle.rules.specs.Tables.{borders, edges, e2e, v2e}
@@ -67,9 +68,9 @@ module _ (n : ℕ) (L : List ℕ) where
       false-of (accepts n L)
       (not-T (accepts n L)
       (λ t.
-        let x = means-accepted n L .says t in
-        let h = ordered-answer n L (x .rows) (x .pairing) (x .ordered) in
-        let z : _≡_ {A = ℕ} 0 1 = cc in omega arith))
+      let x = means-accepted n L .says t in
+      let h = ordered-answer n L (x .rows) (x .pairing) (x .ordered) in
+      let z : _≡_ {A = ℕ} 0 1 = cc in omega arith))
 
   -- so the comparison decides recovery
   pub agreement : (V2e E2e V2e′ E2e′ : List ℕ) → T (sizesFit n L) → walk V2e E2e ≡ L → ((k e : ℕ) → listAnswer n L ≡ gives k e → (V2e′ ≡ v2e n L) × (E2e′ ≡ e2e L)) → agrees (listAnswer n L) V2e′ E2e′ V2e E2e ≡ recovers n V2e E2e
@@ -78,6 +79,7 @@ module _ (n : ℕ) (L : List ℕ) where
     where
       whole : recovers n V2e E2e ≡ both (accepts n L) (both (same (v2e n L) V2e) (same (e2e L) E2e))
       whole = ap (λ (X : List ℕ). both (accepts n X) (both (same (v2e n X) V2e) (same (e2e X) E2e))) w
+
       go : (a : Answer) → listAnswer n L ≡ a → agrees a V2e′ E2e′ V2e E2e ≡ recovers n V2e E2e
       go (gives k e) g =
           let (p, q) = h k e g in
@@ -85,3 +87,24 @@ module _ (n : ℕ) (L : List ℕ) where
           ap (λ (X : List ℕ). both (same X V2e) (same E2e′ E2e)) p ∙ ap (λ (X : List ℕ). both (same (v2e n L) V2e) (same X E2e)) q
           ∙ sym (whole ∙ ap (λ (b : Bool). both b (both (same (v2e n L) V2e) (same (e2e L) E2e))) y)
       go (refused r a b) g = sym (whole ∙ ap (λ (c : Bool). both c (both (same (v2e n L) V2e) (same (e2e L) E2e))) (refusal-unaccepted r a b g))
+
+-- the two tables copied in, one after the other
+pub filled : (n : ℕ) (V2e E2e w w₁ ys : List ℕ) → length V2e ≡ n → n + length E2e ≤ length w → w₁ ≡ onto V2e w → ys ≡ onto E2e (take (length w₁ - n) (drop n w₁)) → Filled n V2e E2e w (take n w₁ ++ (ys ++ drop (length w₁ - n) (drop n w₁)))
+unfolding onto
+filled n V2e E2e w w₁ ys l h e f =
+    let long : length w₁ ≡ length w = ap length e ∙ simp (length-append, length-drop) (omega arith) in
+    let room : n ≤ length w₁ = omega arith in
+    let many : length ys ≡ length w₁ - n = ap length f ∙ simp (length-append, length-drop, length-take, length-drop) (omega arith) in
+    record {
+      vertices = put-take n w₁ ys room (length w₁ - n) ∙ ap (take n) e ∙ take-at V2e (drop (length V2e) w) n l;
+      opposites = ap (take (length E2e)) (put-drop n w₁ ys room ∙ f) ∙ take-append-seam E2e _;
+      long = put-length n w₁ ys room many ∙ long;
+    }
+
+-- the comparison after counts
+module _ (a : Answer) (k e : ℕ) (is : a ≡ gives k e) (V2e′ E2e′ V2e E2e : List ℕ) where
+  pub differs-v : same V2e′ V2e ≡ false → false ≡ agrees a V2e′ E2e′ V2e E2e
+  differs-v f = sym (ap (λ (x : Answer). agrees x V2e′ E2e′ V2e E2e) is ∙ ap (λ (b : Bool). both b (same E2e′ E2e)) f)
+
+  pub compares : (r : Bool) → same V2e′ V2e ≡ true → r ≡ same E2e′ E2e → r ≡ agrees a V2e′ E2e′ V2e E2e
+  compares r f g = g ∙ sym (ap (λ (x : Answer). agrees x V2e′ E2e′ V2e E2e) is ∙ ap (λ (b : Bool). both b (same E2e′ E2e)) f)
