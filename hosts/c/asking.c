@@ -1,0 +1,265 @@
+#include "asking.h"
+
+#include <stdlib.h>
+#include <string.h>
+
+static struct slice noise[ROLES];
+
+void prepare_noise(struct dice *dice) {
+    for (int role = 0; role < ROLES; role++) {
+        size_t len = room_of((enum role)role);
+        noise[role] = (struct slice){malloc(len * sizeof(uint32_t)), len};
+        if (noise[role].at == NULL)
+            exit(2);
+        for (size_t i = 0; i < len; i++)
+            noise[role].at[i] = any_number(dice);
+    }
+}
+
+struct slice noise_of(enum role role, size_t len) {
+    return (struct slice){noise[role].at, len};
+}
+
+struct slice copied(struct slice from) {
+    struct slice copy = {malloc((from.len + 1) * sizeof(uint32_t)), from.len};
+    if (copy.at == NULL)
+        exit(2);
+    if (from.len != 0)
+        memcpy(copy.at, from.at, from.len * sizeof(uint32_t));
+    return copy;
+}
+
+struct mesh copied_tables(const struct mesh *t) {
+    return (struct mesh){t->n, copied(t->elements), copied(t->v2e), copied(t->e2e), copied(t->b2e)};
+}
+
+void drop_tables(struct mesh *t) {
+    free(t->elements.at);
+    free(t->v2e.at);
+    free(t->e2e.at);
+    free(t->b2e.at);
+}
+
+static size_t elements_of(const struct mesh *t) {
+    return t->elements.len / 4;
+}
+
+/* one past the codes that a damaged entry or a question may name */
+static uint32_t code_bound(const struct mesh *t) {
+    size_t m = elements_of(t), most = m > t->b2e.len ? m : t->b2e.len;
+    return (uint32_t)(8 * (most + 2));
+}
+
+static struct call empty_call(const struct exported *exported, uint32_t n) {
+    struct call call = {exported, n, 0, {{NULL, 0}}};
+    for (int role = 0; role < ROLES; role++)
+        call.given[role] = noise_of((enum role)role, role == RECORD ? RECORD_LENGTH : 0);
+    return call;
+}
+
+struct call build_of(const struct list *list, size_t b2e_len) {
+    struct call call = empty_call(&build_call, list->n);
+    call.given[ELEMENTS] = (struct slice){list->rows, 4 * list->m};
+    call.given[V2E] = noise_of(V2E, list->n);
+    call.given[E2E] = noise_of(E2E, 4 * list->m);
+    call.given[B2E] = noise_of(B2E, b2e_len);
+    call.given[WORK] = noise_of(WORK, list->n + 16 * list->m);
+    return call;
+}
+
+struct call recovery_of(const struct mesh *t) {
+    struct call call = empty_call(&recover_call, t->n);
+    call.given[ELEMENTS] = noise_of(ELEMENTS, t->elements.len);
+    call.given[V2E] = t->v2e;
+    call.given[E2E] = t->e2e;
+    call.given[WORK] = noise_of(WORK, t->n + 4 * t->e2e.len);
+    return call;
+}
+
+struct call query_of(const struct exported *exported, const struct mesh *t, uint32_t number) {
+    struct call call = empty_call(exported, t->n);
+    call.number = number;
+    call.given[ELEMENTS] = t->elements;
+    call.given[V2E] = t->v2e;
+    call.given[E2E] = t->e2e;
+    call.given[B2E] = t->b2e;
+    return call;
+}
+
+/* ---- asking ---- */
+
+static void ask_code(const struct mesh *t, uint32_t code) {
+    for (int i = 0; i < CODE_CALLS; i++) {
+        struct call call = query_of(&code_calls[i], t, code);
+        compare(&call, NULL);
+    }
+}
+
+void ask_list(const struct exported *exported, const struct mesh *t, uint32_t number) {
+    struct call call = query_of(exported, t, number);
+    struct answer answer = compare(&call, NULL);
+    if (answer.refusal != 13)
+        return;
+    for (uint32_t len = answer.first - 1; len <= answer.first + 2; len++) {
+        call.given[OUT] = noise_of(OUT, len);
+        compare(&call, NULL);
+    }
+}
+
+void ask_walker(const struct mesh *t, uint32_t v) {
+    struct call call = query_of(&start_call, t, v);
+    struct slice results[ROLES];
+    uint32_t record[RECORD_LENGTH];
+    if (compare(&call, results).refusal != 0)
+        return;
+    call.exported = &step_call;
+    call.given[RECORD] = (struct slice){record, RECORD_LENGTH};
+    for (int further = 0; further < 3;) {
+        memcpy(record, results[RECORD].at, sizeof record);
+        struct answer answer = compare(&call, results);
+        further += answer.refusal != 0 || answer.first == 0;
+    }
+}
+
+static void ask_vertex(const struct mesh *t, uint32_t v) {
+    struct call call = query_of(&vertex_test, t, v);
+    compare(&call, NULL);
+    for (int i = 0; i < VERTEX_LISTS; i++)
+        ask_list(&vertex_lists[i], t, v);
+    ask_walker(t, v);
+}
+
+static void ask_everything(const struct mesh *t) {
+    for (uint32_t code = 0; code < code_bound(t); code++)
+        ask_code(t, code);
+    for (uint32_t v = 0; v <= t->n + 1; v++)
+        ask_vertex(t, v);
+    for (uint32_t b = 0; b <= t->b2e.len + 1; b++)
+        ask_list(&border_list, t, b);
+}
+
+static uint32_t any_code(const struct mesh *t, struct dice *dice) {
+    return below(dice, 20) == 0 ? any_number(dice) : below(dice, code_bound(t));
+}
+
+/* A walker's record that no call made, mostly near to one that a call could have made. */
+static void ask_any_record(const struct mesh *t, struct dice *dice) {
+    uint32_t m = (uint32_t)elements_of(t);
+    uint32_t record[RECORD_LENGTH] = {any_code(t, dice), any_code(t, dice), below(dice, m + 2)};
+    if (below(dice, 8) == 0)
+        record[2] = any_number(dice);
+    if (below(dice, 8) == 0)
+        record[1] = 0;
+    if (below(dice, 4) == 0)
+        record[0] = record[1];
+    struct call call = query_of(&step_call, t, 0);
+    call.given[RECORD] = (struct slice){record, RECORD_LENGTH};
+    compare(&call, NULL);
+}
+
+void ask_something(const struct mesh *t, struct dice *dice, int times) {
+    while (times-- > 0) {
+        ask_code(t, any_code(t, dice));
+        ask_vertex(t, below(dice, 50) == 0 ? any_number(dice) : below(dice, t->n + 2));
+        ask_list(&border_list, t, below(dice, 50) == 0 ? any_number(dice) : below(dice, (uint32_t)t->b2e.len + 2));
+        ask_any_record(t, dice);
+    }
+}
+
+/* ---- what is done with a list ---- */
+
+int built(const struct list *list, struct mesh *t) {
+    struct call call = build_of(list, list->n + 3);
+    struct slice results[ROLES];
+    struct answer answer = compare(&call, results);
+    if (answer.refusal != 0)
+        return 0;
+    struct slice b2e = {results[B2E].at, answer.first};
+    *t = (struct mesh){list->n, copied(results[ELEMENTS]), copied(results[V2E]), copied(results[E2E]), copied(b2e)};
+    return 1;
+}
+
+/* Refusals 3 to 8 come before 9. */
+static void build_without_room(const struct list *list) {
+    struct call call = build_of(list, 0);
+    compare(&call, NULL);
+}
+
+/* B2e of other lengths, and more work space than needed. */
+static void build_with_other_room(const struct list *list, size_t k) {
+    for (size_t len = k > 0 ? k - 1 : 0; len <= k + 1; len++) {
+        struct call call = build_of(list, len);
+        call.given[WORK].len += len % 3;
+        compare(&call, NULL);
+    }
+    build_without_room(list);
+}
+
+void recover(const struct mesh *t) {
+    struct call call = recovery_of(t);
+    compare(&call, NULL);
+    call.given[WORK].len += 5;
+    compare(&call, NULL);
+}
+
+/* Recovery from tables that aren't quite these. Exchanged V2e entries can be those of another list. */
+static void recover_damaged(const struct mesh *t, struct dice *dice) {
+    struct mesh damaged = copied_tables(t);
+    uint32_t how = below(dice, 4);
+    if (how == 0 && t->n > 0) {
+        uint32_t a = below(dice, t->n), b = below(dice, t->n), kept = damaged.v2e.at[a];
+        damaged.v2e.at[a] = damaged.v2e.at[b];
+        damaged.v2e.at[b] = kept;
+    }
+    if (how == 1 || how == 3)
+        damage_table(damaged.v2e.at, damaged.v2e.len, code_bound(t), dice);
+    if (how == 2 || how == 3)
+        damage_table(damaged.e2e.at, damaged.e2e.len, code_bound(t), dice);
+    recover(&damaged);
+    drop_tables(&damaged);
+}
+
+static void ask_damaged(const struct mesh *t, struct dice *dice, int times) {
+    struct mesh damaged = copied_tables(t);
+    uint32_t which = 1 + below(dice, 15), codes = code_bound(t);
+    if (which & 1)
+        damage_table(damaged.v2e.at, damaged.v2e.len, codes, dice);
+    if (which & 2)
+        damage_table(damaged.e2e.at, damaged.e2e.len, codes, dice);
+    if (which & 4)
+        damage_table(damaged.b2e.at, damaged.b2e.len, codes, dice);
+    if (which & 8)
+        damage_table(damaged.elements.at, damaged.elements.len, t->n + 2, dice);
+    ask_something(&damaged, dice, times);
+    drop_tables(&damaged);
+}
+
+void try_small_list(const struct list *list, struct dice *dice) {
+    struct mesh t;
+    if (!built(list, &t)) {
+        build_without_room(list);
+        return;
+    }
+    build_with_other_room(list, t.b2e.len);
+    recover(&t);
+    recover_damaged(&t, dice);
+    ask_everything(&t);
+    ask_damaged(&t, dice, 2);
+    drop_tables(&t);
+}
+
+void try_list(const struct list *list, struct dice *dice, int times) {
+    struct mesh t;
+    if (!built(list, &t)) {
+        build_without_room(list);
+        return;
+    }
+    build_with_other_room(list, t.b2e.len);
+    recover(&t);
+    ask_something(&t, dice, times);
+    for (int i = 0; i <= times / 4; i++) {
+        recover_damaged(&t, dice);
+        ask_damaged(&t, dice, 1 + times / 8);
+    }
+    drop_tables(&t);
+}

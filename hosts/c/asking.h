@@ -1,0 +1,36 @@
+/* Tables to ask about, and what is asked of them and of lists. A mesh here owns its buffers. */
+#ifndef ASKING_H
+#define ASKING_H
+
+#include "calls.h"
+#include "meshes.h"
+
+/* Fills the noise that buffers hold before a call writes them. */
+void prepare_noise(struct dice *dice);
+struct slice noise_of(enum role role, size_t len);
+
+struct slice copied(struct slice from);
+struct mesh copied_tables(const struct mesh *t);
+void drop_tables(struct mesh *t);
+
+/* Calls with buffers of the right lengths, those that are written full of noise. */
+struct call build_of(const struct list *list, size_t b2e_len);
+struct call recovery_of(const struct mesh *t);
+struct call query_of(const struct exported *exported, const struct mesh *t, uint32_t number);
+
+/* A list with no room, and then with one entry too few, just enough and more than enough. */
+void ask_list(const struct exported *exported, const struct mesh *t, uint32_t number);
+/* A walker from the start until the walk is over or refused, and a little further. */
+void ask_walker(const struct mesh *t, uint32_t v);
+/* All queries, each of something chosen at random. */
+void ask_something(const struct mesh *t, struct dice *dice, int times);
+
+/* Builds with room in B2e; where accepted hands over the tables, which the caller drops. */
+int built(const struct list *list, struct mesh *t);
+void recover(const struct mesh *t);
+
+/* Building, recovery and queries of a list, sound and damaged: of everything, or of something chosen at random. */
+void try_small_list(const struct list *list, struct dice *dice);
+void try_list(const struct list *list, struct dice *dice, int times);
+
+#endif

@@ -1,0 +1,252 @@
+#define _DEFAULT_SOURCE
+#include "calls.h"
+
+#include "borzhanu.h"
+#include "guarded.h"
+
+#include <signal.h>
+#include <stdio.h>
+#include <stdlib.h>
+#include <string.h>
+#include <unistd.h>
+
+static const char *const role_names[ROLES] = {"elements", "v2e", "e2e", "b2e", "work", "out", "walker"};
+
+enum { SECONDS_PER_CALL = 120 };
+
+#define BIT(role) (1u << (role))
+#define TABLES(b) \
+    (b)[ELEMENTS].at, (b)[ELEMENTS].len, (b)[V2E].at, (b)[V2E].len, (b)[E2E].at, (b)[E2E].len, (b)[B2E].at, (b)[B2E].len
+
+static struct mesh mesh_of(const struct call *call, const struct slice *b) {
+    return (struct mesh){call->n, b[ELEMENTS], b[V2E], b[E2E], b[B2E]};
+}
+
+static uint64_t kernel_build(const struct call *call, const struct slice *b) {
+    return borzhanu_build(call->n, TABLES(b), b[WORK].at, b[WORK].len);
+}
+
+static struct answer expect_build(const struct call *call, const struct slice *b) {
+    struct mesh mesh = mesh_of(call, b);
+    return reference_build(&mesh, b[WORK]);
+}
+
+static uint64_t kernel_recover(const struct call *call, const struct slice *b) {
+    return borzhanu_recover(call->n, b[V2E].at, b[V2E].len, b[E2E].at, b[E2E].len, b[ELEMENTS].at, b[ELEMENTS].len,
+                            b[WORK].at, b[WORK].len);
+}
+
+static struct answer expect_recover(const struct call *call, const struct slice *b) {
+    struct mesh mesh = mesh_of(call, b);
+    return reference_recover(&mesh, b[WORK]);
+}
+
+static uint64_t kernel_walker_start(const struct call *call, const struct slice *b) {
+    return borzhanu_walker_start(call->n, TABLES(b), call->number, (borzhanu_walker *)(void *)b[RECORD].at);
+}
+
+static struct answer expect_walker_start(const struct call *call, const struct slice *b) {
+    struct mesh mesh = mesh_of(call, b);
+    return reference_walker_start(&mesh, call->number, (struct record *)(void *)b[RECORD].at);
+}
+
+static uint64_t kernel_walker_step(const struct call *call, const struct slice *b) {
+    return borzhanu_walker_step(call->n, TABLES(b), (borzhanu_walker *)(void *)b[RECORD].at);
+}
+
+static struct answer expect_walker_step(const struct call *call, const struct slice *b) {
+    struct mesh mesh = mesh_of(call, b);
+    return reference_walker_step(&mesh, (struct record *)(void *)b[RECORD].at);
+}
+
+#define OF_ONE_NUMBER(name)                                                                \
+    static uint64_t kernel_##name(const struct call *call, const struct slice *b) {       \
+        return borzhanu_##name(call->n, TABLES(b), call->number);                          \
+    }                                                                                      \
+    static struct answer expect_##name(const struct call *call, const struct slice *b) {  \
+        struct mesh mesh = mesh_of(call, b);                                               \
+        return reference_##name(&mesh, call->number);                                      \
+    }
+
+#define OF_A_LIST(name)                                                                    \
+    static uint64_t kernel_##name(const struct call *call, const struct slice *b) {       \
+        return borzhanu_##name(call->n, TABLES(b), call->number, b[OUT].at, b[OUT].len);   \
+    }                                                                                      \
+    static struct answer expect_##name(const struct call *call, const struct slice *b) {  \
+        struct mesh mesh = mesh_of(call, b);                                               \
+        return reference_##name(&mesh, call->number, b[OUT]);                              \
+    }
+
+OF_ONE_NUMBER(opposite)
+OF_ONE_NUMBER(next)
+OF_ONE_NUMBER(previous)
+OF_ONE_NUMBER(element)
+OF_ONE_NUMBER(origin)
+OF_ONE_NUMBER(destination)
+OF_ONE_NUMBER(across)
+OF_ONE_NUMBER(halfedge_is_border)
+OF_ONE_NUMBER(vertex_is_border)
+OF_A_LIST(ring)
+OF_A_LIST(neighbours)
+OF_A_LIST(border_loop)
+
+#define EXPORTED(name, writes) {#name, kernel_##name, expect_##name, writes}
+
+const struct exported build_call = EXPORTED(build, BIT(V2E) | BIT(E2E) | BIT(B2E) | BIT(WORK));
+const struct exported recover_call = EXPORTED(recover, BIT(ELEMENTS) | BIT(WORK));
+const struct exported start_call = EXPORTED(walker_start, BIT(RECORD));
+const struct exported step_call = EXPORTED(walker_step, BIT(RECORD));
+
+const struct exported code_calls[CODE_CALLS] = {
+    EXPORTED(opposite, 0),    EXPORTED(next, 0),   EXPORTED(previous, 0),           EXPORTED(element, 0),
+    EXPORTED(origin, 0),      EXPORTED(across, 0), EXPORTED(halfedge_is_border, 0), EXPORTED(destination, 0),
+};
+const struct exported vertex_test = EXPORTED(vertex_is_border, 0);
+const struct exported vertex_lists[VERTEX_LISTS] = {EXPORTED(ring, BIT(OUT)), EXPORTED(neighbours, BIT(OUT))};
+const struct exported border_list = EXPORTED(border_loop, BIT(OUT));
+
+/* ---- reporting ---- */
+
+struct progress progress;
+static const struct call *current;
+static enum placement current_placement;
+
+static void print_buffer(const char *name, struct slice s) {
+    enum { SHOWN = 60 };
+    printf("  %s, %zu entries:", name, s.len);
+    for (size_t i = 0; i < s.len && i < SHOWN; i++)
+        printf(" %u", s.at[i]);
+    printf(s.len > SHOWN ? " ..\n" : "\n");
+}
+
+static void print_current(const char *what) {
+    printf("MISMATCH: borzhanu_%s: %s\n", current->exported->name, what);
+    printf("  family '%s', seed %llu, after %lu calls, %s of each buffer at a guard page\n", progress.family,
+           (unsigned long long)progress.seed, progress.calls, current_placement == END_AT_GUARD ? "end" : "start");
+    printf("  n %u, number asked about %u\n", current->n, current->number);
+    for (int role = 0; role < ROLES; role++)
+        print_buffer(role_names[role], current->given[role]);
+}
+
+void stop(void) {
+    fflush(stdout);
+    _exit(1);
+}
+
+static void on_fault(int number) {
+    print_current(number == SIGALRM ? "the call doesn't end" : "the call touched memory outside its buffers");
+    stop();
+}
+
+static void fail_answer(struct answer want, struct answer got) {
+    print_current("another answer");
+    printf("  expected refusal %u, numbers %u %u\n", want.refusal, want.first, want.second);
+    printf("  got      refusal %u, numbers %u %u\n", got.refusal, got.first, got.second);
+    stop();
+}
+
+static void fail_entry(const char *what, int role, size_t i, uint32_t want, uint32_t got) {
+    print_current(what);
+    printf("  %s entry %zu: expected %u, got %u\n", role_names[role], i, want, got);
+    stop();
+}
+
+/* ---- comparing one call ---- */
+
+static struct guarded memory[ROLES];
+static uint32_t *expected_room[ROLES];
+
+size_t room_of(enum role role) {
+    const size_t m = BORZHANU_MAX_ELEMENTS + 2, n = BORZHANU_MAX_VERTICES + 2;
+    const size_t room[ROLES] = {4 * m, n, 4 * m, 4 * m, n + 16 * m, 4 * m, RECORD_LENGTH};
+    return room[role];
+}
+
+void prepare_calls(void) {
+    for (int role = 0; role < ROLES; role++) {
+        memory[role] = guarded_memory(room_of((enum role)role));
+        expected_room[role] = malloc(room_of((enum role)role) * sizeof(uint32_t));
+        if (expected_room[role] == NULL)
+            exit(2);
+    }
+    signal(SIGSEGV, on_fault);
+    signal(SIGBUS, on_fault);
+    signal(SIGALRM, on_fault);
+}
+
+static void copy_into(uint32_t *to, struct slice from) {
+    if (from.len != 0)
+        memcpy(to, from.at, from.len * sizeof(uint32_t));
+}
+
+static void check_same(const char *what, int role, const uint32_t *want, const uint32_t *got, size_t start,
+                       size_t end) {
+    if (start >= end || memcmp(want + start, got + start, (end - start) * sizeof(uint32_t)) == 0)
+        return;
+    for (size_t i = start; i < end; i++)
+        if (want[i] != got[i])
+            fail_entry(what, role, i, want[i], got[i]);
+}
+
+/* How many entries of a role an answer writes; the entries past them stay as they were. */
+static size_t written_entries(const struct call *call, int role, struct answer answer) {
+    if (answer.refusal != 0 || (call->exported->writes & BIT(role)) == 0)
+        return 0;
+    return role == B2E || role == OUT ? answer.first : call->given[role].len;
+}
+
+/* What doesn't depend on the reference: what must be as it was is, and the work buffer is clean. */
+static void check_left(const struct call *call, const struct slice *left, struct answer got) {
+    for (int role = 0; role < ROLES; role++) {
+        if (role == WORK && got.refusal != 1 && got.refusal != 2) {
+            for (size_t i = 0; i < left[role].len; i++)
+                if (left[role].at[i] != 0)
+                    fail_entry("the work buffer isn't clean", role, i, 0, left[role].at[i]);
+        } else {
+            check_same("what should be as it was isn't", role, call->given[role].at, left[role].at,
+                       written_entries(call, role, got), call->given[role].len);
+        }
+    }
+}
+
+static struct answer taken_apart(uint64_t returned) {
+    return (struct answer){borzhanu_refusal(returned), borzhanu_first(returned), borzhanu_second(returned)};
+}
+
+static void call_kernel(const struct call *call, struct answer want, const struct slice *expected,
+                        enum placement placement) {
+    struct slice buffers[ROLES];
+    for (int role = 0; role < ROLES; role++) {
+        buffers[role].len = call->given[role].len;
+        buffers[role].at = placed(&memory[role], call->given[role].len, placement);
+        copy_into(buffers[role].at, call->given[role]);
+    }
+    current_placement = placement;
+    alarm(SECONDS_PER_CALL);
+    struct answer got = taken_apart(call->exported->kernel(call, buffers));
+    alarm(0);
+    progress.calls++;
+    if (memcmp(&want, &got, sizeof want) != 0)
+        fail_answer(want, got);
+    check_left(call, buffers, got);
+    for (int role = 0; role < ROLES; role++)
+        check_same("another result", role, expected[role].at, buffers[role].at, 0, buffers[role].len);
+}
+
+struct answer compare(const struct call *call, struct slice *results) {
+    struct slice expected[ROLES];
+    current = call;
+    for (int role = 0; role < ROLES; role++) {
+        expected[role] = call->given[role];
+        if (call->exported->writes & BIT(role)) {
+            expected[role].at = expected_room[role];
+            copy_into(expected[role].at, call->given[role]);
+        }
+    }
+    struct answer want = call->exported->reference(call, expected);
+    call_kernel(call, want, expected, END_AT_GUARD);
+    call_kernel(call, want, expected, START_AT_GUARD);
+    if (results != NULL)
+        memcpy(results, expected, sizeof expected);
+    return want;
+}

@@ -1,0 +1,54 @@
+/* One call, made on the kernel between guard pages and compared with the reference. */
+#ifndef CALLS_H
+#define CALLS_H
+
+#include "reference.h"
+
+#include <stddef.h>
+#include <stdint.h>
+
+enum role { ELEMENTS, V2E, E2E, B2E, WORK, OUT, RECORD, ROLES };
+
+enum { RECORD_LENGTH = 3, CODE_CALLS = 8, VERTEX_LISTS = 2 };
+
+struct call;
+
+/* An exported function and its reference. */
+struct exported {
+    const char *name;
+    uint64_t (*kernel)(const struct call *call, const struct slice *buffers);
+    struct answer (*reference)(const struct call *call, const struct slice *buffers);
+    unsigned writes; /* a bit for each role that an answer may change */
+};
+
+/* What a call is given: n, the vertex, border or half-edge asked about, and what each buffer holds. */
+struct call {
+    const struct exported *exported;
+    uint32_t n, number;
+    struct slice given[ROLES];
+};
+
+extern const struct exported build_call, recover_call, vertex_test, border_list, start_call, step_call;
+extern const struct exported code_calls[CODE_CALLS], vertex_lists[VERTEX_LISTS];
+
+/* What a report of a mismatch names beside the call. */
+struct progress {
+    uint64_t seed;
+    const char *family;
+    unsigned long calls;
+};
+extern struct progress progress;
+
+/* Makes room for the largest buffers and takes over faults. */
+void prepare_calls(void);
+/* The room that each buffer of a role has, in entries. */
+size_t room_of(enum role role);
+
+/* Compares a call, in both placements, and hands over the answer; `results`, where not null, then shows what each
+   buffer holds, until the next call. A mismatch is printed and ends the program. */
+struct answer compare(const struct call *call, struct slice *results);
+
+/* Ends the program after a mismatch. */
+void stop(void);
+
+#endif

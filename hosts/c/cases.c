@@ -1,0 +1,60 @@
+#include "cases.h"
+
+/* the code of half-edge <f,i> */
+#define H(f, i) (8 * (f) + (i))
+
+const struct build_case build_cases[] = {
+    {.name = "nothing", .n = 0, .m = 0},
+    {.name = "a vertex alone", .n = 1, .m = 0, .refusal = 5, .first = 1},
+    {.name = "the listing", .n = 4, .m = 2, .rows = {{1, 2, 3, 0}, {1, 3, 4, 0}}, .first = 4, .second = 5,
+     .v2e = {32, 8, 16, 24}, .e2e = {{8, 16, 17, 0}, {11, 24, 32, 0}}, .b2e = {9, 10, 18, 19}},
+    {.name = "one quadrilateral", .n = 4, .m = 1, .rows = {{1, 2, 3, 4}}, .first = 4, .second = 4,
+     .v2e = {32, 8, 16, 24}, .e2e = {{8, 16, 24, 32}}, .b2e = {9, 10, 11, 12}},
+    {.name = "four triangles about a solid", .n = 4, .m = 4,
+     .rows = {{1, 2, 3, 0}, {1, 4, 2, 0}, {2, 4, 3, 0}, {3, 4, 1, 0}}, .first = 0, .second = 6,
+     .v2e = {9, 10, 11, 18},
+     .e2e = {{19, 27, 35, 0}, {34, 25, 9, 0}, {18, 33, 10, 0}, {26, 17, 11, 0}}},
+    {.name = "back to back", .n = 3, .m = 2, .rows = {{1, 2, 3, 0}, {1, 3, 2, 0}}, .first = 0, .second = 3,
+     .v2e = {9, 10, 11}, .e2e = {{19, 18, 17, 0}, {11, 10, 9, 0}}},
+    {.name = "corner twice in a triangle", .n = 2, .m = 1, .rows = {{1, 2, 2, 0}}, .refusal = 4, .first = 1,
+     .second = 3},
+    {.name = "corner twice in a quadrilateral", .n = 3, .m = 1, .rows = {{1, 2, 3, 1}}, .refusal = 4, .first = 1,
+     .second = 4},
+    {.name = "corner above n", .n = 2, .m = 1, .rows = {{1, 2, 3, 0}}, .refusal = 3, .first = 1, .second = 3},
+    {.name = "sides alike", .n = 4, .m = 2, .rows = {{1, 2, 3, 0}, {1, 2, 4, 0}}, .refusal = 7, .first = 1,
+     .second = 1},
+    {.name = "three plates on an edge", .n = 5, .m = 3, .rows = {{1, 2, 3, 0}, {2, 1, 4, 0}, {1, 2, 5, 0}},
+     .refusal = 6, .first = 1, .second = 1},
+    {.name = "two fans at a point", .n = 5, .m = 2, .rows = {{1, 2, 3, 0}, {1, 4, 5, 0}}, .refusal = 8, .first = 1},
+    {.name = "sample surface mesh", .n = 9, .m = 8,
+     .rows = {{1, 4, 5, 0}, {1, 5, 2, 0}, {2, 5, 3, 0}, {3, 5, 6, 0}, {6, 5, 9, 0}, {8, 9, 5, 0}, {7, 8, 5, 0},
+              {5, 4, 7, 0}},
+     .first = 8, .second = 16,
+     .v2e = {H(2, 0), H(3, 0), H(4, 0), H(1, 0), H(1, 3), H(5, 0), H(8, 0), H(7, 0), H(6, 0)},
+     .e2e = {{H(1, 0), H(8, 1), H(2, 1), 0},
+             {H(1, 3), H(3, 1), H(2, 0), 0},
+             {H(2, 2), H(4, 1), H(3, 0), 0},
+             {H(3, 2), H(5, 1), H(4, 0), 0},
+             {H(4, 2), H(6, 2), H(5, 0), 0},
+             {H(6, 0), H(5, 2), H(7, 2), 0},
+             {H(7, 0), H(6, 3), H(8, 3), 0},
+             {H(1, 2), H(8, 0), H(7, 3), 0}},
+     .b2e = {H(1, 1), H(2, 3), H(3, 3), H(4, 3), H(5, 3), H(6, 1), H(7, 1), H(8, 2)}},
+};
+const size_t build_case_count = sizeof build_cases / sizeof *build_cases;
+
+const struct list_case list_cases[] = {
+    {"the listing", "ring", 1, 2, {2, 1}},
+    {"the listing", "neighbours", 1, 3, {4, 3, 2}},
+    {"the listing", "border_loop", 1, 4, {1, 4, 3, 2}},
+    {"four triangles about a solid", "ring", 1, 3, {1, 2, 4}},
+    {"sample surface mesh", "ring", 5, 8, {1, 2, 3, 4, 5, 6, 7, 8}},
+};
+const size_t list_case_count = sizeof list_cases / sizeof *list_cases;
+
+const struct recovery_case recovery_cases[] = {
+    {"the listing", 4, 2, {32, 8, 16, 24}, {{8, 16, 17, 0}, {11, 24, 32, 0}}, 0, {{1, 2, 3, 0}, {1, 3, 4, 0}}},
+    {"renumbered", 4, 2, {8, 32, 16, 24}, {{8, 16, 17, 0}, {11, 24, 32, 0}}, 0, {{2, 1, 3, 0}, {2, 3, 4, 0}}},
+    {"no list", 4, 2, {32, 8, 16, 16}, {{8, 16, 17, 0}, {11, 24, 32, 0}}, 10, {{0}}},
+};
+const size_t recovery_case_count = sizeof recovery_cases / sizeof *recovery_cases;

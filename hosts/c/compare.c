@@ -1,0 +1,388 @@
+/*
+ * Compares every exported call with the reference, on inputs of every kind: answers, refusals, places,
+ * and each entry of each buffer afterwards. Every call is made twice, once with the end of each buffer
+ * at a page that faults when touched and once with its start.
+ *
+ *     compare [SEED]
+ */
+#define _DEFAULT_SOURCE
+#include "asking.h"
+#include "borzhanu.h"
+#include "cases.h"
+
+#include <stdio.h>
+#include <stdlib.h>
+#include <string.h>
+#include <time.h>
+
+enum { SEED = 20240131 };
+
+#define COUNT(array) (sizeof(array) / sizeof *(array))
+
+static void fail_case(const char *name, const char *what) {
+    printf("MISMATCH: case '%s': %s isn't as printed\n", name, what);
+    stop();
+}
+
+static void check_printed(const char *name, const char *what, const uint32_t *printed, struct slice got) {
+    if (got.len != 0 && memcmp(printed, got.at, got.len * sizeof *printed) != 0)
+        fail_case(name, what);
+}
+
+static struct mesh tables_of_case(const struct build_case *c) {
+    struct list list = empty_list(c->n, c->m);
+    for (uint32_t f = 0; f < c->m; f++)
+        add_row(&list, c->rows[f][0], c->rows[f][1], c->rows[f][2], c->rows[f][3]);
+    struct call call = build_of(&list, CASE_BORDERS + 1);
+    struct slice results[ROLES];
+    struct answer answer = compare(&call, results);
+    if (answer.refusal != c->refusal || answer.first != c->first || answer.second != c->second)
+        fail_case(c->name, "the answer");
+    results[B2E].len = answer.refusal == 0 ? answer.first : 0;
+    if (answer.refusal == 0) {
+        check_printed(c->name, "V2e", c->v2e, results[V2E]);
+        check_printed(c->name, "E2e", c->e2e[0], results[E2E]);
+        check_printed(c->name, "B2e", c->b2e, results[B2E]);
+    }
+    struct mesh t = {c->n, copied(results[ELEMENTS]), copied(results[V2E]), copied(results[E2E]), copied(results[B2E])};
+    drop_list(&list);
+    return t;
+}
+
+static void check_list_case(const struct list_case *c, const struct mesh *t) {
+    const struct exported *lists[] = {&vertex_lists[0], &vertex_lists[1], &border_list};
+    for (size_t i = 0; i < COUNT(lists); i++) {
+        if (strcmp(lists[i]->name, c->query) != 0)
+            continue;
+        struct call call = query_of(lists[i], t, c->number);
+        struct slice results[ROLES];
+        call.given[OUT] = noise_of(OUT, CASE_BORDERS);
+        if (compare(&call, results).first != c->count)
+            fail_case(c->build_case, c->query);
+        check_printed(c->build_case, c->query, c->list, (struct slice){results[OUT].at, c->count});
+    }
+}
+
+static void check_recovery_case(const struct recovery_case *c) {
+    struct slice v2e = {(uint32_t *)c->v2e, c->n}, e2e = {(uint32_t *)c->e2e[0], 4 * c->m}, results[ROLES];
+    struct mesh t = {c->n, noise_of(ELEMENTS, 4 * c->m), v2e, e2e, noise_of(B2E, 0)};
+    struct call call = recovery_of(&t);
+    if (compare(&call, results).refusal != c->refusal)
+        fail_case(c->name, "recovery's answer");
+    if (c->refusal == 0)
+        check_printed(c->name, "the recovered list", c->rows[0], results[ELEMENTS]);
+}
+
+static void printed_cases(struct dice *dice) {
+    (void)dice;
+    for (size_t i = 0; i < build_case_count; i++) {
+        struct mesh t = tables_of_case(&build_cases[i]);
+        for (size_t j = 0; j < list_case_count; j++)
+            if (strcmp(list_cases[j].build_case, build_cases[i].name) == 0)
+                check_list_case(&list_cases[j], &t);
+        drop_tables(&t);
+    }
+    for (size_t i = 0; i < recovery_case_count; i++)
+        check_recovery_case(&recovery_cases[i]);
+}
+
+static int row_is_fit(const uint32_t *row, uint32_t n) {
+    for (int i = 0; i < 4; i++) {
+        if ((i < 3 && row[i] == 0) || row[i] > n)
+            return 0;
+        for (int j = 0; j < i; j++)
+            if (row[i] != 0 && row[i] == row[j])
+                return 0;
+    }
+    return 1;
+}
+
+/* the row whose corners are the digits of `number` to the base `values` */
+static void digits(uint32_t number, uint32_t values, uint32_t *row) {
+    for (int i = 3; i >= 0; i--) {
+        row[i] = number % values;
+        number /= values;
+    }
+}
+
+static uint32_t rows_with(uint32_t values) {
+    return values * values * values * values;
+}
+
+static void one_row(struct dice *dice) {
+    for (uint32_t n = 0; n <= 4; n++)
+        for (uint32_t number = 0; number < rows_with(n + 2); number++) {
+            uint32_t row[4];
+            digits(number, n + 2, row);
+            struct list list = {n, 1, 1, row};
+            try_small_list(&list, dice);
+        }
+}
+
+/* All fit rows on n vertices; returns their number. */
+static uint32_t fit_rows(uint32_t n, uint32_t rows[][4], uint32_t room) {
+    uint32_t count = 0;
+    for (uint32_t number = 0; number < rows_with(n + 1); number++) {
+        uint32_t row[4];
+        digits(number, n + 1, row);
+        if (row_is_fit(row, n) && count < room)
+            memcpy(rows[count++], row, sizeof row);
+    }
+    return count;
+}
+
+static void two_rows_of(uint32_t n, const uint32_t *first, const uint32_t *second, struct dice *dice) {
+    uint32_t rows[8];
+    memcpy(rows, first, 4 * sizeof *first);
+    memcpy(rows + 4, second, 4 * sizeof *second);
+    struct list list = {n, 2, 2, rows};
+    try_small_list(&list, dice);
+}
+
+/* All pairs of fit rows on up to four vertices; as many pairs of any rows; some on five vertices. */
+static void two_rows(struct dice *dice) {
+    static uint32_t fit[512][4];
+    for (uint32_t n = 3; n <= 5; n++) {
+        uint32_t count = fit_rows(n, fit, COUNT(fit)), values = n + 2, any[2][4];
+        for (uint32_t pair = 0; pair < count * count; pair += n < 5 ? 1 : 1 + below(dice, 50)) {
+            two_rows_of(n, fit[pair / count], fit[pair % count], dice);
+            digits(below(dice, rows_with(values)), values, any[0]);
+            digits(below(dice, rows_with(values)), values, any[1]);
+            two_rows_of(n, any[0], any[1], dice);
+        }
+    }
+}
+
+/* Every content of V2e and E2e of one element on three vertices, out of the codes that could be meant. */
+static void small_tables(struct dice *dice) {
+    static const uint32_t codes[] = {0, 8, 16, 24, 32, 9};
+    enum { VALUES = 6, ENTRIES = 7, ALL = 279936 };
+    uint32_t e2e[4], v2e[3];
+    (void)dice;
+    for (uint32_t number = 0; number < ALL; number++) {
+        uint32_t rest = number;
+        for (int i = 0; i < ENTRIES; i++, rest /= VALUES)
+            *(i < 4 ? &e2e[i] : &v2e[i - 4]) = codes[rest % VALUES];
+        struct mesh t = {3, noise_of(ELEMENTS, 4), {v2e, 3}, {e2e, 4}, noise_of(B2E, 0)};
+        struct call call = recovery_of(&t);
+        compare(&call, NULL);
+    }
+}
+
+static void prepare_any(struct list *list, struct dice *dice) {
+    if (below(dice, 2) == 0)
+        renumber_vertices(list, dice);
+    if (below(dice, 2) == 0)
+        shuffle_rows(list, dice);
+    if (below(dice, 2) == 0)
+        rotate_rows(list, dice);
+    if (below(dice, 4) == 0)
+        turn_over(list);
+    if (below(dice, 3) == 0)
+        for (uint32_t times = 1 + below(dice, 3); times > 0; times--)
+            damage_list(list, dice);
+}
+
+static void small_housings(struct dice *dice) {
+    for (int i = 0; i < 600; i++) {
+        struct list list = any_housing(dice, 12);
+        prepare_any(&list, dice);
+        try_small_list(&list, dice);
+        drop_list(&list);
+    }
+}
+
+static void housings(struct dice *dice) {
+    for (int i = 0; i < 600; i++) {
+        struct list list = any_housing(dice, 300);
+        prepare_any(&list, dice);
+        try_list(&list, dice, 12);
+        drop_list(&list);
+    }
+}
+
+static void large_housings(struct dice *dice) {
+    static const uint32_t sizes[] = {1000, 3000, 10000, 30000, 100000};
+    for (size_t i = 0; i < COUNT(sizes); i++) {
+        struct list list = any_housing(dice, sizes[i]);
+        prepare_any(&list, dice);
+        try_list(&list, dice, 1);
+        drop_list(&list);
+    }
+    struct list list = sheet(250, 200, 0, 0, TRIANGLES, dice);
+    shuffle_rows(&list, dice);
+    renumber_vertices(&list, dice);
+    try_list(&list, dice, 1);
+    damage_list(&list, dice);
+    try_list(&list, dice, 1);
+    drop_list(&list);
+}
+
+/* Tables and lists of noise, near to codes. */
+static void noise_tables(struct dice *dice) {
+    for (int i = 0; i < 4000; i++) {
+        uint32_t n = 1 + below(dice, 6), m = 1 + below(dice, 6), k = below(dice, 4 * m + 1);
+        struct mesh given = {n, noise_of(ELEMENTS, 4 * m), noise_of(V2E, n), noise_of(E2E, 4 * m), noise_of(B2E, k)};
+        struct mesh t = copied_tables(&given);
+        for (size_t j = 0; j < t.elements.len; j++) {
+            t.elements.at[j] = below(dice, n + 2);
+            t.e2e.at[j] = below(dice, 3) == 0 ? 8 * below(dice, k + 2) : below(dice, 8 * m + 16);
+        }
+        for (size_t j = 0; j < n; j++)
+            t.v2e.at[j] = below(dice, 2) == 0 ? 8 * below(dice, k + 2) : below(dice, 8 * m + 16);
+        for (size_t j = 0; j < k; j++)
+            t.b2e.at[j] = below(dice, 8 * m + 16);
+        ask_something(&t, dice, 6);
+        recover(&t);
+        drop_tables(&t);
+    }
+}
+
+/* Each buffer of a call made longer and shorter, and n changed, one at a time and two at a time. */
+static void try_lengths(const struct call *call, const int *roles, int count, struct dice *dice) {
+    static const int changes[] = {-4, -1, 0, 1, 4};
+    for (int a = 0; a < count; a++)
+        for (int b = 0; b < count; b++)
+            for (size_t i = 0; i < COUNT(changes) * COUNT(changes); i++) {
+                struct call other = *call;
+                int first = changes[i % COUNT(changes)], second = changes[i / COUNT(changes)];
+                long first_len = (long)other.given[roles[a]].len + first;
+                other.given[roles[a]] = noise_of((enum role)roles[a], first_len < 0 ? 0 : (size_t)first_len);
+                long second_len = (long)other.given[roles[b]].len + second;
+                other.given[roles[b]] = noise_of((enum role)roles[b], second_len < 0 ? 0 : (size_t)second_len);
+                if (below(dice, 8) == 0)
+                    other.n = other.n + below(dice, 3) - 1;
+                compare(&other, NULL);
+            }
+}
+
+static void lengths(struct dice *dice) {
+    static const int of_build[] = {ELEMENTS, V2E, E2E, B2E, WORK}, of_recovery[] = {V2E, E2E, ELEMENTS, WORK},
+                     of_query[] = {ELEMENTS, V2E, E2E, B2E};
+    for (int i = 0; i < 12; i++) {
+        struct list list = sheet(1 + below(dice, 3), 1 + below(dice, 3), 0, 0, MIXED, dice);
+        struct mesh t;
+        if (!built(&list, &t))
+            exit(2);
+        struct call call = build_of(&list, t.b2e.len);
+        try_lengths(&call, of_build, COUNT(of_build), dice);
+        call = recovery_of(&t);
+        try_lengths(&call, of_recovery, COUNT(of_recovery), dice);
+        const struct exported *queries[] = {&code_calls[i % CODE_CALLS], &vertex_test, &vertex_lists[i % VERTEX_LISTS],
+                                            &border_list, &start_call, &step_call};
+        for (size_t j = 0; j < COUNT(queries); j++) {
+            call = query_of(queries[j], &t, 1 + below(dice, 9));
+            try_lengths(&call, of_query, COUNT(of_query), dice);
+        }
+        uint32_t ring_over[RECORD_LENGTH] = {9, 0, 1};
+        call = query_of(&step_call, &t, 0);
+        call.given[RECORD] = (struct slice){ring_over, RECORD_LENGTH};
+        try_lengths(&call, of_query, COUNT(of_query), dice);
+        drop_tables(&t);
+        drop_list(&list);
+    }
+}
+
+/* B2e may have as many entries as E2e, and no more. */
+static void longest_b2e(const struct mesh *t) {
+    struct mesh longest = *t;
+    for (size_t extra = 0; extra < 2; extra++) {
+        longest.b2e = noise_of(B2E, t->e2e.len + extra);
+        struct call call = query_of(&code_calls[0], &longest, borzhanu_border(BORZHANU_MAX_BORDERS));
+        compare(&call, NULL);
+        call.number = borzhanu_border(BORZHANU_MAX_BORDERS + 1);
+        compare(&call, NULL);
+    }
+}
+
+static void ask_largest_sheet(const struct mesh *t) {
+    struct call call = recovery_of(t);
+    compare(&call, NULL);
+    call = query_of(&code_calls[1], t, borzhanu_side(BORZHANU_MAX_ELEMENTS, 4));
+    compare(&call, NULL);
+    call.number = borzhanu_side(BORZHANU_MAX_ELEMENTS + 1, 1);
+    compare(&call, NULL);
+    ask_walker(t, BORZHANU_MAX_VERTICES);
+    longest_b2e(t);
+}
+
+static void ask_largest_fan(const struct mesh *t) {
+    ask_list(&vertex_lists[1], t, 1);
+    ask_list(&border_list, t, (uint32_t)t->b2e.len);
+}
+
+static void largest_list(struct list list, void (*ask)(const struct mesh *t)) {
+    struct mesh t;
+    if (built(&list, &t)) {
+        ask(&t);
+        drop_tables(&t);
+    }
+    drop_list(&list);
+}
+
+/* n, and the numbers of rows of the element list and of E2e, at their largest or one past it; then there is no need
+   of a work buffer. */
+static void about_the_largest(uint32_t n, size_t m, size_t e2e_rows) {
+    int past = n > BORZHANU_MAX_VERTICES || m > BORZHANU_MAX_ELEMENTS || e2e_rows > BORZHANU_MAX_ELEMENTS;
+    struct mesh t = {n, noise_of(ELEMENTS, 4 * m), noise_of(V2E, n), noise_of(E2E, 4 * e2e_rows), noise_of(B2E, 9)};
+    struct list list = {n, m, m, t.elements.at};
+    struct call calls[] = {build_of(&list, 9), recovery_of(&t), query_of(&code_calls[0], &t, 9)};
+    calls[0].given[E2E] = t.e2e;
+    for (size_t i = 0; i < COUNT(calls); i++) {
+        if (past)
+            calls[i].given[WORK].len = 0;
+        compare(&calls[i], NULL);
+    }
+}
+
+static void largest(struct dice *dice) {
+    const uint32_t most = BORZHANU_MAX_ELEMENTS;
+    largest_list(sheet(1000, 1000, 1, 1, QUADRILATERALS, dice), ask_largest_sheet);
+    largest_list(fan(most - 1, 1), ask_largest_fan);
+    largest_list(book(most, most), ask_largest_fan);
+    largest_list(empty_list(most, 0), ask_largest_fan);
+    for (uint32_t past = 0; past < 8; past++)
+        about_the_largest(most + past % 2, most + past / 2 % 2, most + past / 4);
+}
+
+static const struct {
+    const char *name;
+    void (*run)(struct dice *dice);
+} families[] = {
+    {"printed cases", printed_cases},
+    {"lists of one row", one_row},
+    {"lists of two rows", two_rows},
+    {"tables of one element", small_tables},
+    {"tables of noise", noise_tables},
+    {"lengths", lengths},
+    {"small housings", small_housings},
+    {"housings", housings},
+    {"large housings", large_housings},
+    {"the largest sizes", largest},
+};
+
+static double seconds(void) {
+    struct timespec now;
+    clock_gettime(CLOCK_MONOTONIC, &now);
+    return (double)now.tv_sec + 1e-9 * (double)now.tv_nsec;
+}
+
+int main(int argc, char **argv) {
+    progress.seed = argc > 1 ? strtoull(argv[1], NULL, 10) : SEED;
+    struct dice dice = {progress.seed};
+    double start = seconds();
+    prepare_calls();
+    prepare_noise(&dice);
+    printf("seed %llu\n", (unsigned long long)progress.seed);
+    for (size_t i = 0; i < COUNT(families); i++) {
+        unsigned long calls_before = progress.calls;
+        double began = seconds();
+        progress.family = families[i].name;
+        families[i].run(&dice);
+        printf("  %-24s %9lu calls  %6.1f s\n", progress.family, progress.calls - calls_before, seconds() - began);
+        fflush(stdout);
+    }
+    printf("C host: %lu calls compared, all alike, seed %llu, %.1f s\n", progress.calls,
+           (unsigned long long)progress.seed, seconds() - start);
+    return 0;
+}

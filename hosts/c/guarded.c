@@ -1,0 +1,27 @@
+#define _DEFAULT_SOURCE
+#include "guarded.h"
+
+#include <stdio.h>
+#include <stdlib.h>
+#include <sys/mman.h>
+#include <unistd.h>
+
+struct guarded guarded_memory(size_t entries) {
+    size_t page = (size_t)sysconf(_SC_PAGESIZE);
+    size_t bytes = (entries * sizeof(uint32_t) + page - 1) / page * page;
+    unsigned char *all = mmap(NULL, bytes + 2 * page, PROT_NONE, MAP_PRIVATE | MAP_ANONYMOUS | MAP_NORESERVE, -1, 0);
+    if (all == MAP_FAILED || (bytes != 0 && mprotect(all + page, bytes, PROT_READ | PROT_WRITE) != 0)) {
+        perror("guarded memory");
+        exit(2);
+    }
+    return (struct guarded){all + page, bytes};
+}
+
+uint32_t *placed(const struct guarded *memory, size_t len, enum placement placement) {
+    size_t bytes = len * sizeof(uint32_t);
+    if (bytes > memory->bytes) {
+        fprintf(stderr, "guarded memory: no room for %zu entries\n", len);
+        exit(2);
+    }
+    return (uint32_t *)(void *)(placement == END_AT_GUARD ? memory->first + memory->bytes - bytes : memory->first);
+}

@@ -1,0 +1,53 @@
+/* Element lists to try the calls on: housings that are sound, and housings that aren't. */
+#ifndef MESHES_H
+#define MESHES_H
+
+#include <stddef.h>
+#include <stdint.h>
+
+/* A generator of numbers that a seed fixes. */
+struct dice {
+    uint64_t state;
+};
+
+uint32_t any_number(struct dice *dice);
+/* 0 to bound - 1 */
+uint32_t below(struct dice *dice, uint32_t bound);
+
+struct list {
+    uint32_t n;
+    size_t m, room;
+    uint32_t *rows;
+};
+
+enum plates { TRIANGLES, QUADRILATERALS, MIXED };
+
+struct list empty_list(uint32_t n, size_t room);
+void drop_list(struct list *list);
+void add_row(struct list *list, uint32_t a, uint32_t b, uint32_t c, uint32_t d);
+void add_list(struct list *list, const struct list *other);
+
+/* A sheet of width x height cells. Closed in one direction it is a tube, in both it has no border. */
+struct list sheet(uint32_t width, uint32_t height, int closed_across, int closed_along, enum plates plates,
+                  struct dice *dice);
+/* Triangles about vertex 1; the closed fan has no border there. */
+struct list fan(uint32_t count, int closed);
+/* Two closed fans on one rim: a closed surface. */
+struct list bipyramid(uint32_t count);
+/* `count` triangles on the edge of vertices 1 and 2, over n vertices. */
+struct list book(uint32_t n, uint32_t count);
+/* One of these, or two of them side by side, of up to about `size` elements. */
+struct list any_housing(struct dice *dice, uint32_t size);
+
+/* These keep a sound list sound. */
+void renumber_vertices(struct list *list, struct dice *dice);
+void shuffle_rows(struct list *list, struct dice *dice);
+void rotate_rows(struct list *list, struct dice *dice);
+void turn_over(struct list *list);
+
+/* One slip of a mesher, chosen at random. */
+void damage_list(struct list *list, struct dice *dice);
+/* Some entries of a table made wrong; `codes` bounds what they then name, mostly. */
+void damage_table(uint32_t *table, size_t len, uint32_t codes, struct dice *dice);
+
+#endif

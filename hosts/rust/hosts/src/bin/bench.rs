@@ -1,0 +1,305 @@
+//! Times building, recovery and rings, and a hash-map build beside them, and prints tables in Markdown.
+//!
+//!     bench [FOLDER]    with a folder, also writes the lists of the first table there, for other programs
+//!
+//! Runs are interleaved and medians reported, so that a slow moment of the machine meets every candidate.
+//! All buffers are allocated and touched before the first run and used again in every run.
+
+use borzhanu::{build, recover, work_length, Mesh, Refusal};
+use hosts::meshes::{book, fan, sheet, Dice, List, Plates};
+use std::collections::HashMap;
+use std::env;
+use std::fs;
+use std::hint::black_box;
+use std::io;
+use std::path::Path;
+
+const SEED: u64 = 1;
+const ROUNDS: usize = 21;
+const LARGE_ROUNDS: usize = 7;
+
+/// The three tables by a hash map keyed by the vertices of each half-edge, after section 3.2 of the half-edge
+/// paper, with no check of the list. Gives k and the number of edges.
+fn hash_map_build(elements: &[u32], v2e: &mut [u32], e2e: &mut [u32], b2e: &mut [u32]) -> (u32, u32) {
+    v2e.fill(0);
+    e2e.fill(0);
+    let mut unmatched: HashMap<(u32, u32), usize> = HashMap::with_capacity(elements.len() / 2);
+    let mut sides = 0;
+    for (f, row) in elements.chunks_exact(4).enumerate() {
+        let corners = if row[3] == 0 { 3 } else { 4 };
+        sides += corners as u32;
+        for i in 0..corners {
+            let (origin, destination) = (row[i], row[(i + 1) % corners]);
+            let slot = 4 * f + i;
+            match unmatched.remove(&(destination, origin)) {
+                Some(twin) => {
+                    e2e[slot] = code(twin);
+                    e2e[twin] = code(slot);
+                }
+                None => _ = unmatched.insert((origin, destination), slot),
+            }
+            let entry = &mut v2e[origin as usize - 1];
+            if *entry == 0 {
+                *entry = code(slot);
+            }
+        }
+    }
+    let mut k = 0;
+    for (f, row) in elements.chunks_exact(4).enumerate() {
+        let corners = if row[3] == 0 { 3 } else { 4 };
+        for i in 0..corners {
+            let slot = 4 * f + i;
+            if e2e[slot] == 0 {
+                b2e[k as usize] = code(slot);
+                k += 1;
+                e2e[slot] = 8 * k;
+                v2e[row[(i + 1) % corners] as usize - 1] = 8 * k;
+            }
+        }
+    }
+    (k, (sides + k) / 2)
+}
+
+fn code(slot: usize) -> u32 {
+    (8 * (slot / 4 + 1) + slot % 4 + 1) as u32
+}
+
+/// A list and the buffers of the calls on it.
+struct Bench<'a> {
+    list: &'a List,
+    v2e: Vec<u32>,
+    e2e: Vec<u32>,
+    b2e: Vec<u32>,
+    work: Vec<u32>,
+    other: (Vec<u32>, Vec<u32>, Vec<u32>),
+    recovered: Vec<u32>,
+    ring: Vec<u32>,
+}
+
+/// Milliseconds of each run.
+#[derive(Default)]
+struct Times {
+    build: Vec<f64>,
+    hash_map: Vec<f64>,
+    recovery: Vec<f64>,
+    rings: Vec<f64>,
+}
+
+#[repr(C)]
+#[derive(Default)]
+struct Timespec {
+    seconds: i64,
+    nanoseconds: i64,
+}
+
+extern "C" {
+    fn clock_gettime(clock: i32, time: *mut Timespec) -> i32;
+}
+
+/// Linux's number for the processor time of this thread, which other programs of the machine don't lengthen.
+const CLOCK_THREAD_CPUTIME_ID: i32 = 3;
+
+fn milliseconds() -> f64 {
+    let mut time = Timespec::default();
+    // SAFETY: the call fills the two numbers.
+    assert!(unsafe { clock_gettime(CLOCK_THREAD_CPUTIME_ID, &mut time) } == 0, "no clock of this thread");
+    time.seconds as f64 * 1e3 + time.nanoseconds as f64 * 1e-6
+}
+
+fn timed<T>(times: &mut Vec<f64>, run: impl FnOnce() -> T) -> T {
+    let start = milliseconds();
+    let result = black_box(run());
+    times.push(milliseconds() - start);
+    result
+}
+
+fn median(times: &[f64]) -> f64 {
+    let mut sorted = times.to_vec();
+    sorted.sort_by(f64::total_cmp);
+    sorted[sorted.len() / 2]
+}
+
+impl<'a> Bench<'a> {
+    fn new(list: &'a List) -> Bench<'a> {
+        let (n, rows) = (list.n as usize, 4 * list.rows.len());
+        Bench {
+            list,
+            v2e: vec![1; n],
+            e2e: vec![1; rows],
+            b2e: vec![1; n],
+            work: vec![1; work_length(list.n, list.rows.len())],
+            other: (vec![1; n], vec![1; rows], vec![1; n]),
+            recovered: vec![1; rows],
+            ring: vec![1; list.rows.len()],
+        }
+    }
+
+    fn build(&mut self) -> Result<(u32, u32), Refusal> {
+        let entries = self.list.entries();
+        build(self.list.n, entries, &mut self.v2e, &mut self.e2e, &mut self.b2e, &mut self.work)
+            .map(|counts| (counts.borders, counts.edges))
+    }
+
+    fn hash_map(&mut self) -> (u32, u32) {
+        let (v2e, e2e, b2e) = &mut self.other;
+        hash_map_build(self.list.entries(), v2e, e2e, b2e)
+    }
+
+    fn recover(&mut self) {
+        recover(self.list.n, &self.v2e, &self.e2e, &mut self.recovered, &mut self.work).expect("tables as built");
+    }
+
+    /// The ring of every vertex; gives the sum of their lengths.
+    fn rings(&mut self, k: u32) -> usize {
+        let mesh = Mesh {
+            n: self.list.n,
+            elements: self.list.entries(),
+            v2e: &self.v2e,
+            e2e: &self.e2e,
+            b2e: &self.b2e[..k as usize],
+        };
+        (1..=mesh.n).map(|v| mesh.ring(v, &mut self.ring).expect("tables as built")).sum()
+    }
+
+    /// Both builds write the same tables, and recovery gives the list back.
+    fn check(&self, k: u32) {
+        let (v2e, e2e, b2e) = &self.other;
+        assert!(&self.v2e == v2e && &self.e2e == e2e && self.b2e[..k as usize] == b2e[..k as usize]);
+        assert!(self.recovered == self.list.entries());
+    }
+
+    fn run(&mut self, rounds: usize) -> Times {
+        let mut times = Times::default();
+        for _ in 0..rounds {
+            let built = timed(&mut times.build, || self.build()).expect("the list is accepted");
+            assert_eq!(built, timed(&mut times.hash_map, || self.hash_map()));
+            timed(&mut times.recovery, || self.recover());
+            timed(&mut times.rings, || self.rings(built.0));
+            self.check(built.0);
+        }
+        times
+    }
+}
+
+fn shuffled(list: List, dice: &mut Dice) -> List {
+    list.shuffled(dice).renumbered(dice).rotated(dice)
+}
+
+/// An open sheet of 2 × width × height triangles.
+fn open_sheet(width: u32, height: u32, dice: &mut Dice) -> List {
+    sheet(width, height, (false, false), Plates::Triangles, dice)
+}
+
+fn lists_of_100_000(dice: &mut Dice) -> Vec<(&'static str, List)> {
+    let closed = sheet(250, 200, (true, true), Plates::Triangles, dice);
+    let rims = sheet(250, 200, (true, false), Plates::Triangles, dice);
+    vec![
+        ("closed, in order", closed.clone()),
+        ("closed, shuffled", shuffled(closed, dice)),
+        ("with rims, in order", rims.clone()),
+        ("with rims, shuffled", shuffled(rims, dice)),
+    ]
+}
+
+/// n, m and the entries, as 32-bit numbers of this machine.
+fn write_list(list: &List, at: &Path) -> io::Result<()> {
+    let numbers = [&[list.n, list.rows.len() as u32], list.entries()].concat();
+    fs::write(at, numbers.iter().flat_map(|number| number.to_ne_bytes()).collect::<Vec<u8>>())
+}
+
+fn print_hundred_thousand(lists: &[(&str, List)]) {
+    println!("## 100,000 triangles\n");
+    println!("Milliseconds of processor time, medians of {ROUNDS} interleaved runs on buffers that hold what the run");
+    println!("before left. The hash map needs V2e and E2e cleared first, and its time includes that. The kernel needs");
+    println!("nothing cleared; its time includes clearing its work buffer at the end, and all its checks.\n");
+    println!("| list | build | hash-map build | ratio | recovery | ring of every vertex |");
+    println!("|---|---|---|---|---|---|");
+    for (name, list) in lists {
+        let times = Bench::new(list).run(ROUNDS);
+        let (build, hash_map) = (median(&times.build), median(&times.hash_map));
+        println!(
+            "| {name} | {build:.2} | {hash_map:.2} | {:.2} | {:.2} | {:.2} |",
+            build / hash_map,
+            median(&times.recovery),
+            median(&times.rings)
+        );
+    }
+    println!();
+}
+
+fn print_growth(dice: &mut Dice) {
+    println!("## Growth\n");
+    println!(
+        "Open sheets of triangles, shuffled. Nanoseconds per element, medians of {LARGE_ROUNDS} interleaved runs.\n"
+    );
+    println!("| elements | vertices | build | hash-map build | recovery | ring of every vertex |");
+    println!("|---|---|---|---|---|---|");
+    for (width, height) in [(100, 50), (150, 100), (250, 200), (500, 300), (1000, 500)] {
+        let list = shuffled(open_sheet(width, height, dice), dice);
+        let times = Bench::new(&list).run(LARGE_ROUNDS);
+        let per_element = |times: &[f64]| median(times) * 1e6 / list.rows.len() as f64;
+        println!(
+            "| {} | {} | {:.0} | {:.0} | {:.0} | {:.0} |",
+            list.rows.len(),
+            list.n,
+            per_element(&times.build),
+            per_element(&times.hash_map),
+            per_element(&times.recovery),
+            per_element(&times.rings)
+        );
+    }
+    println!();
+}
+
+/// Median of the build's nanoseconds per element for each list, runs interleaved.
+fn build_times(lists: &[(&str, List)]) -> Vec<f64> {
+    let mut benches: Vec<Bench> = lists.iter().map(|(_, list)| Bench::new(list)).collect();
+    let mut times = vec![Vec::new(); lists.len()];
+    for _ in 0..LARGE_ROUNDS {
+        for (bench, times) in benches.iter_mut().zip(&mut times) {
+            let _ = timed(times, || bench.build());
+        }
+    }
+    times.iter().zip(lists).map(|(times, (_, list))| median(times) * 1e6 / list.rows.len() as f64).collect()
+}
+
+fn outcome(list: &List) -> String {
+    match Bench::new(list).build() {
+        Ok((k, edges)) => format!("k = {k}, {edges} edges"),
+        Err(refusal) => format!("refused {} at {},{}", refusal.number(), refusal.place().0, refusal.place().1),
+    }
+}
+
+fn print_extremes(dice: &mut Dice) {
+    let lists = [
+        ("sheet, in order", open_sheet(1000, 500, dice)),
+        ("one fan about one vertex", fan(999_999, true)),
+        ("all on one edge", book(1_000_000, 1_000_000)),
+    ];
+    let times = build_times(&lists);
+    println!("## Many elements at one place\n");
+    println!(
+        "Building, nanoseconds per element, medians of {LARGE_ROUNDS} interleaved runs. A fan about one vertex has"
+    );
+    println!("at most 999,999 triangles, since 1,000,000 vertices are the most.\n");
+    println!("| list | elements | outcome | time per element | relative to the sheet |");
+    println!("|---|---|---|---|---|");
+    for ((name, list), time) in lists.iter().zip(&times) {
+        println!("| {name} | {} | {} | {time:.0} | {:.2} |", list.rows.len(), outcome(list), time / times[0]);
+    }
+    println!();
+}
+
+fn main() -> io::Result<()> {
+    let mut dice = Dice::new(SEED);
+    let lists = lists_of_100_000(&mut dice);
+    if let Some(folder) = env::args().nth(1) {
+        for (name, list) in &lists {
+            write_list(list, &Path::new(&folder).join(format!("{name}.list")))?;
+        }
+    }
+    print_hundred_thousand(&lists);
+    print_growth(&mut dice);
+    print_extremes(&mut dice);
+    Ok(())
+}

@@ -1,0 +1,236 @@
+//! Compares every call of the safe wrapper with the reference, on inputs of every kind: answers, refusals,
+//! places, and each entry of each buffer afterwards. Every call is made twice, once with the end of each
+//! buffer at a page that faults when touched and once with its start.
+//!
+//!     compare [SEED]
+
+mod call;
+mod host;
+
+use borzhanu::{work_length, WalkerRecord, MAX_BORDERS, MAX_ELEMENTS, MAX_VERTICES};
+use call::{Call, Question};
+use host::{Host, Tables};
+use hosts::meshes::{any_housing, book, fan, sheet, List, Plates};
+use std::env;
+use std::mem;
+use std::time::Instant;
+
+const SEED: u64 = 20_240_229;
+
+type Family = (&'static str, fn(&mut Host));
+
+/// The row whose corners are the digits of a number.
+fn digits(number: u32, values: u32) -> [u32; 4] {
+    [3, 2, 1, 0].map(|place| number / values.pow(place) % values)
+}
+
+fn one_row(host: &mut Host) {
+    for n in 0..=4u32 {
+        for number in 0..(n + 2).pow(4) {
+            host.try_small_list(&List::new(n, &[digits(number, n + 2)]));
+        }
+    }
+}
+
+fn is_fit(row: &[u32; 4]) -> bool {
+    row[..3].iter().all(|&v| v != 0) && (1..4).all(|at| !row[..at].contains(&row[at]))
+}
+
+/// All pairs of fit rows on three vertices, one in three on four, some on five; as many pairs of any rows.
+fn two_rows(host: &mut Host) {
+    for n in 3..=5u32 {
+        let fit: Vec<[u32; 4]> = (0..(n + 1).pow(4)).map(|number| digits(number, n + 1)).filter(is_fit).collect();
+        for (a, b) in fit.iter().flat_map(|a| fit.iter().map(move |b| (a, b))) {
+            if host.dice.once_in([1, 3, 90][n as usize - 3]) {
+                host.try_small_list(&List::new(n, &[*a, *b]));
+                let any = [0; 2].map(|_| digits(host.dice.number(), n + 2));
+                host.try_small_list(&List::new(n, &any));
+            }
+        }
+    }
+}
+
+/// Contents of V2e and E2e of two elements on three or four vertices, out of the codes that could be meant.
+fn small_tables(host: &mut Host) {
+    let codes = [0, 8, 16, 24, 32, 9, 10, 11, 12, 17, 18, 19, 20];
+    for _ in 0..60_000 {
+        let n = 3 + host.dice.below(2);
+        let mut table = |len: u32| -> Vec<u32> { (0..len).map(|_| codes[host.dice.below(13) as usize]).collect() };
+        let (v2e, mut e2e) = (table(n), table(8));
+        if host.dice.once_in(2) {
+            (e2e[3], e2e[7]) = (0, 0);
+        }
+        host.compare_recovery(n, &v2e, &e2e, 0);
+    }
+}
+
+/// Tables and lists of noise, near to codes.
+fn noise_tables(host: &mut Host) {
+    for _ in 0..3000 {
+        let (n, m) = (1 + host.dice.below(6), 1 + host.dice.below(6));
+        let k = host.dice.below(4 * m + 1);
+        let mut code = |borders: u32| -> u32 {
+            if host.dice.once_in(borders) {
+                8 * host.dice.below(k + 2)
+            } else {
+                host.dice.below(8 * m + 16)
+            }
+        };
+        let v2e = (0..n).map(|_| code(2)).collect();
+        let e2e = (0..4 * m).map(|_| code(3)).collect();
+        let b2e = (0..k).map(|_| code(20)).collect();
+        let elements = (0..4 * m).map(|_| host.dice.below(n + 2)).collect();
+        let tables = Tables { n, elements, v2e, e2e, b2e };
+        host.ask_something(&tables, 6);
+        host.recover(&tables);
+    }
+}
+
+/// Each buffer longer and shorter than it should be, one at a time and two at a time, and n changed.
+fn lengths(host: &mut Host) {
+    let changes = [-4, -1, 0, 1, 4];
+    let noise = host.noise.clone();
+    for round in 0..12 {
+        let list = sheet(1 + host.dice.below(3), 1 + host.dice.below(3), (false, false), Plates::Mixed, &mut host.dice);
+        let tables = host.build(&list).expect("a sheet is accepted");
+        let n = list.n as usize;
+        let rows = tables.elements.len();
+        let questions = [
+            Question::Build,
+            Question::Recover,
+            [Question::Opposite(9), Question::Next(9), Question::Previous(9), Question::Element(9)][round % 4],
+            [Question::Origin(9), Question::Destination(9), Question::Across(9), Question::HalfedgeIsBorder(9)]
+                [round % 4],
+            Question::VertexIsBorder(1),
+            [Question::Ring(1), Question::Neighbours(1)][round % 2],
+            Question::BorderLoop(1),
+            Question::Start(1, WalkerRecord::default()),
+            Question::Step(WalkerRecord { start: 9, next: 9, count: 0 }),
+            Question::Step(WalkerRecord { start: 9, next: 0, count: 1 }),
+        ];
+        for what in questions {
+            for (a, b) in (0..5).flat_map(|a| (0..=a).map(move |b| (a, b))) {
+                for (first, second) in changes.iter().flat_map(|x| changes.iter().map(move |y| (*x, *y))) {
+                    let mut lens = [rows, n, rows, tables.b2e.len(), n + 4 * rows];
+                    lens[a] = lens[a].saturating_add_signed(first);
+                    lens[b] = lens[b].saturating_add_signed(second);
+                    let [elements, v2e, e2e, b2e, work] = lens.map(|len| &noise[..len]);
+                    let n = list.n + host.dice.once_in(8) as u32;
+                    host.compare(&Call { what, n, elements, v2e, e2e, b2e, work, out: &noise[..9] });
+                }
+            }
+        }
+    }
+}
+
+fn small_housings(host: &mut Host) {
+    for _ in 0..400 {
+        let list = any_housing(&mut host.dice, 12);
+        host.try_small_list(&list);
+    }
+}
+
+fn housings(host: &mut Host) {
+    for _ in 0..400 {
+        let list = any_housing(&mut host.dice, 300);
+        host.try_list(&list, 12);
+    }
+}
+
+fn large_housings(host: &mut Host) {
+    for size in [1_000, 3_000, 10_000, 30_000, 100_000] {
+        let list = any_housing(&mut host.dice, size);
+        host.try_list(&list, 1);
+    }
+    let dice = &mut host.dice;
+    let list = sheet(250, 200, (true, false), Plates::Triangles, dice).shuffled(dice).renumbered(dice).rotated(dice);
+    host.try_list(&list, 1);
+    let list = list.damaged(&mut host.dice);
+    host.try_list(&list, 1);
+}
+
+/// B2e may have as many entries as E2e, and no more.
+fn longest_b2e(host: &mut Host, tables: &Tables) {
+    let noise = mem::take(&mut host.noise);
+    for extra in 0..2 {
+        for b in [MAX_BORDERS, MAX_BORDERS + 1] {
+            let mut call = tables.question(Question::Opposite(borzhanu::border(b)));
+            call.b2e = &noise[..tables.e2e.len() + extra];
+            host.compare(&call);
+        }
+    }
+    host.noise = noise;
+}
+
+fn largest_sheet(host: &mut Host) {
+    let list = sheet(1000, 1000, (true, true), Plates::Quadrilaterals, &mut host.dice);
+    let tables = host.build(&list).expect("a closed sheet is accepted");
+    host.compare_recovery(tables.n, &tables.v2e, &tables.e2e, 0);
+    host.ask(&tables, Question::Next(borzhanu::side(MAX_ELEMENTS, 4)));
+    host.ask(&tables, Question::Next(borzhanu::side(MAX_ELEMENTS + 1, 1)));
+    host.ask_walker(&tables, MAX_VERTICES);
+    longest_b2e(host, &tables);
+}
+
+fn largest_fan(host: &mut Host) {
+    let tables = host.build(&fan(MAX_ELEMENTS - 1, true)).expect("a fan is accepted");
+    host.ask_list(&tables, Question::Ring(1));
+    host.ask_list(&tables, Question::BorderLoop(tables.b2e.len() as u32));
+}
+
+/// n, and the numbers of rows of the element list and of E2e, at their largest or one past it; then there is no need
+/// of a work buffer.
+fn about_the_largest(host: &mut Host, n: u32, m: u32, e2e_rows: u32) {
+    let past = n > MAX_VERTICES || m.max(e2e_rows) > MAX_ELEMENTS;
+    let noise = mem::take(&mut host.noise);
+    for what in [Question::Build, Question::Recover, Question::Ring(1)] {
+        host.compare(&Call {
+            what,
+            n,
+            elements: &noise[..4 * m as usize],
+            v2e: &noise[..n as usize],
+            e2e: &noise[..4 * e2e_rows as usize],
+            b2e: &noise[..9],
+            work: &noise[..if past { 0 } else { work_length(n, m as usize) }],
+            out: &noise[..9],
+        });
+    }
+    host.noise = noise;
+}
+
+fn largest(host: &mut Host) {
+    let most = MAX_ELEMENTS;
+    largest_sheet(host);
+    largest_fan(host);
+    host.build(&book(most, most));
+    for past in 0..8 {
+        about_the_largest(host, most + past % 2, most + past / 2 % 2, most + past / 4);
+    }
+}
+
+fn main() {
+    let seed = env::args().nth(1).map_or(SEED, |word| word.parse().expect("SEED is a number"));
+    let start = Instant::now();
+    let mut host = Host::new(seed);
+    println!("seed {seed}");
+    let families: [Family; 9] = [
+        ("lists of one row", one_row),
+        ("lists of two rows", two_rows),
+        ("tables of two elements", small_tables),
+        ("tables of noise", noise_tables),
+        ("lengths", lengths),
+        ("small housings", small_housings),
+        ("housings", housings),
+        ("large housings", large_housings),
+        ("the largest sizes", largest),
+    ];
+    for (name, run) in families {
+        let (calls, began) = (host.situation.calls, Instant::now());
+        host.situation.family = name;
+        run(&mut host);
+        let seconds = began.elapsed().as_secs_f64();
+        println!("  {name:24} {:9} calls  {seconds:6.1} s", host.situation.calls - calls);
+    }
+    let seconds = start.elapsed().as_secs_f64();
+    println!("Rust host: {} calls compared, all alike, seed {seed}, {seconds:.1} s", host.situation.calls);
+}

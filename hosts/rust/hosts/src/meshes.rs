@@ -1,0 +1,257 @@
+//! Element lists to try the calls on: housings that are sound, and housings that aren't.
+
+/// A generator of numbers that a seed fixes.
+pub struct Dice(u64);
+
+impl Dice {
+    pub fn new(seed: u64) -> Dice {
+        Dice(seed | 1)
+    }
+
+    /// xorshift64*
+    pub fn number(&mut self) -> u32 {
+        self.0 ^= self.0 >> 12;
+        self.0 ^= self.0 << 25;
+        self.0 ^= self.0 >> 27;
+        (self.0.wrapping_mul(0x2545_F491_4F6C_DD1D) >> 32) as u32
+    }
+
+    /// 0 to bound - 1
+    pub fn below(&mut self, bound: u32) -> u32 {
+        self.number() % bound.max(1)
+    }
+
+    /// True once in so many times.
+    pub fn once_in(&mut self, times: u32) -> bool {
+        self.below(times) == 0
+    }
+
+    fn index<T>(&mut self, of: &[T]) -> usize {
+        self.below(of.len() as u32) as usize
+    }
+}
+
+#[derive(Clone, Copy, PartialEq, Eq)]
+pub enum Plates {
+    Triangles,
+    Quadrilaterals,
+    Mixed,
+}
+
+#[derive(Clone, Debug, Default)]
+pub struct List {
+    pub n: u32,
+    pub rows: Vec<[u32; 4]>,
+}
+
+impl List {
+    pub fn new(n: u32, rows: &[[u32; 4]]) -> List {
+        List { n, rows: rows.to_vec() }
+    }
+
+    /// The element list as the calls take it.
+    pub fn entries(&self) -> &[u32] {
+        self.rows.as_flattened()
+    }
+
+    /// Another list beside this one, on vertices of its own.
+    pub fn beside(mut self, other: List) -> List {
+        let n = self.n;
+        self.rows.extend(other.rows.iter().map(|row| row.map(|v| if v == 0 { 0 } else { v + n })));
+        self.n += other.n;
+        self
+    }
+
+    pub fn renumbered(mut self, dice: &mut Dice) -> List {
+        let mut numbers: Vec<u32> = (1..=self.n).collect();
+        shuffle(&mut numbers, dice);
+        for v in self.rows.as_flattened_mut() {
+            if (1..=numbers.len()).contains(&(*v as usize)) {
+                *v = numbers[*v as usize - 1];
+            }
+        }
+        self
+    }
+
+    pub fn shuffled(mut self, dice: &mut Dice) -> List {
+        shuffle(&mut self.rows, dice);
+        self
+    }
+
+    pub fn rotated(mut self, dice: &mut Dice) -> List {
+        for row in &mut self.rows {
+            let corners = corners_of(row);
+            row[..corners].rotate_left(dice.below(corners as u32) as usize);
+        }
+        self
+    }
+
+    pub fn turned_over(mut self) -> List {
+        self.rows.iter_mut().for_each(reverse);
+        self
+    }
+
+    /// Vertices without an element go, and the others close up.
+    fn closed_up(mut self) -> List {
+        let mut used: Vec<u32> = self.entries().iter().copied().filter(|&v| v != 0).collect();
+        used.sort();
+        used.dedup();
+        for v in self.rows.as_flattened_mut() {
+            if *v != 0 {
+                *v = used.partition_point(|u| u < v) as u32 + 1;
+            }
+        }
+        self.n = used.len() as u32;
+        self
+    }
+
+    /// One slip of a mesher, chosen at random.
+    pub fn damaged(mut self, dice: &mut Dice) -> List {
+        if self.rows.is_empty() {
+            return self;
+        }
+        let f = dice.index(&self.rows);
+        let mut row = self.rows[f];
+        match dice.below(8) {
+            0 => reverse(&mut self.rows[f]),
+            1 => self.rows.push(row),
+            2 => {
+                reverse(&mut row);
+                self.rows.push(row);
+            }
+            3 => _ = self.rows.remove(f),
+            4 => {
+                self.rows.remove(f);
+                return self.closed_up();
+            }
+            5 => {
+                let (a, b) = (1 + dice.below(self.n), 1 + dice.below(self.n));
+                self.rows.as_flattened_mut().iter_mut().filter(|v| **v == a).for_each(|v| *v = b);
+                return self.closed_up();
+            }
+            6 => self.rows[f][dice.below(4) as usize] = dice.below(self.n + 2),
+            _ => self.n += 1,
+        }
+        self
+    }
+}
+
+fn shuffle<T>(of: &mut [T], dice: &mut Dice) {
+    for last in (1..of.len()).rev() {
+        of.swap(last, dice.below(last as u32 + 1) as usize);
+    }
+}
+
+fn corners_of(row: &[u32; 4]) -> usize {
+    if row[3] == 0 {
+        3
+    } else {
+        4
+    }
+}
+
+fn reverse(row: &mut [u32; 4]) {
+    let corners = corners_of(row);
+    row[..corners].reverse();
+}
+
+/// A sheet of width × height cells. Closed in one direction it is a tube, in both it has no border.
+pub fn sheet(width: u32, height: u32, closed: (bool, bool), plates: Plates, dice: &mut Dice) -> List {
+    let columns = width + !closed.0 as u32;
+    let lines = height + !closed.1 as u32;
+    let vertex = |x: u32, y: u32| 1 + x % columns + columns * (y % lines);
+    let mut rows = Vec::new();
+    for (y, x) in (0..height).flat_map(|y| (0..width).map(move |x| (y, x))) {
+        let [a, b, c, d] = [vertex(x, y), vertex(x + 1, y), vertex(x + 1, y + 1), vertex(x, y + 1)];
+        let mixed = plates == Plates::Mixed;
+        if plates == Plates::Quadrilaterals || (mixed && dice.once_in(2)) {
+            rows.push([a, b, c, d]);
+        } else if mixed && dice.once_in(2) {
+            rows.extend([[b, c, d, 0], [d, a, b, 0]]);
+        } else {
+            rows.extend([[a, b, c, 0], [a, c, d, 0]]);
+        }
+    }
+    List { n: columns * lines, rows }
+}
+
+/// Triangles about vertex 1; a closed fan has no border there.
+pub fn fan(count: u32, closed: bool) -> List {
+    let rim = count + !closed as u32;
+    let rows = (0..count).map(|i| [1, 2 + i, 2 + (i + 1) % rim, 0]).collect();
+    List { n: 1 + rim, rows }
+}
+
+/// Two closed fans on one rim: a closed surface.
+pub fn bipyramid(count: u32) -> List {
+    let rim = |i: u32| 3 + i % count;
+    let rows = (0..count).flat_map(|i| [[1, rim(i), rim(i + 1), 0], [2, rim(i + 1), rim(i), 0]]).collect();
+    List { n: 2 + count, rows }
+}
+
+/// Triangles on the edge of vertices 1 and 2, one way and the other, over n vertices.
+pub fn book(n: u32, count: u32) -> List {
+    let rows = (0..count).map(|i| [1 + i % 2, 2 - i % 2, 3 + i % (n - 2), 0]).collect();
+    List { n, rows }
+}
+
+fn one_housing(dice: &mut Dice, size: u32) -> List {
+    let width = 1 + dice.below(1 + size / 3);
+    let height = 1 + dice.below(1 + size / (2 * width));
+    let plates = [Plates::Triangles, Plates::Quadrilaterals, Plates::Mixed][dice.below(3) as usize];
+    match dice.below(7) {
+        0 => fan(1 + dice.below(size), false),
+        1 => fan(3 + dice.below(size), true),
+        2 => bipyramid(3 + dice.below(size / 2)),
+        3 => book(3 + dice.below(size), 1 + dice.below(size)),
+        4 => sheet(2 + width, height, (true, false), plates, dice),
+        5 => sheet(2 + width, 2 + height, (true, true), plates, dice),
+        _ => sheet(width, height, (false, false), plates, dice),
+    }
+}
+
+/// A housing of up to about `size` elements, perhaps another beside it, numbered anyhow, one in three damaged.
+pub fn any_housing(dice: &mut Dice, size: u32) -> List {
+    let mut list = one_housing(dice, size);
+    if dice.once_in(4) {
+        list = list.beside(one_housing(dice, size));
+    }
+    if dice.once_in(2) {
+        list = list.renumbered(dice);
+    }
+    if dice.once_in(2) {
+        list = list.shuffled(dice);
+    }
+    if dice.once_in(2) {
+        list = list.rotated(dice);
+    }
+    if dice.once_in(4) {
+        list = list.turned_over();
+    }
+    if dice.once_in(3) {
+        for _ in 0..1 + dice.below(3) {
+            list = list.damaged(dice);
+        }
+    }
+    list
+}
+
+/// Makes some entries of a table wrong; `codes` bounds what they then name, mostly.
+pub fn damage(table: &mut [u32], codes: u32, dice: &mut Dice) {
+    if table.is_empty() {
+        return;
+    }
+    for _ in 0..1 + dice.below(3) {
+        let (at, other) = (dice.index(table), dice.index(table));
+        match dice.below(9) {
+            0 => table[at] = 0,
+            1 => table[at] = table[at].wrapping_add(1),
+            2 => table[at] = table[at].wrapping_sub(1),
+            3 => table[at] = dice.number(),
+            4 => table[at] = table[other],
+            5 => table[at] = 8 * dice.below(codes / 8 + 2),
+            6 | 7 => table[at] = dice.below(codes),
+            _ => table.swap(at, other),
+        }
+    }
+}

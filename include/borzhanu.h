@@ -1,0 +1,291 @@
+/*
+ * borzhanu: from the element list of a shell mesh to its half-edge tables and back.
+ *
+ * Vertices, elements and border half-edges are numbered from 1. An element is a row of four corner
+ * numbers, the fourth 0 for a triangle; m is the number of elements. Side i of element f runs from
+ * corner i (its origin) to the next corner (its destination), the last being followed by the first.
+ * A half-edge travels as its code: 8 * f + i for a side, 8 * b for border half-edge b. Code 0 names
+ * nothing.
+ *
+ *   V2e  n entries      the border half-edge that leaves the vertex; for a vertex that is on no
+ *                       border, its least side
+ *   E2e  4 * m entries  what lies opposite each side: a side or a border half-edge; 0 in the fourth
+ *                       entry of a triangle
+ *   B2e  k entries      the side opposite each border half-edge, in rising order
+ *
+ * Buffers. Each is a pointer and a length in entries, all entries 32-bit. The pointer is aligned to 4
+ * bytes and isn't null, even for length 0, where it isn't followed. A buffer that a call writes
+ * overlaps no other buffer of that call. Nothing else is asked: a call ends, with an answer or a
+ * refusal, whatever the lengths are and whatever the buffers hold, and touches nothing beyond them.
+ *
+ * Answers. Every call returns one 64-bit number with three numbers in it; the functions
+ * borzhanu_refusal, borzhanu_first and borzhanu_second take it apart. Refusal 0 means that the call
+ * has answered. After a refusal, first and second are its place, 0 and 0 unless named below.
+ *
+ * The calls keep nothing between them, so several threads may call at once on different buffers, or
+ * on the same ones where every call only reads them.
+ */
+#ifndef BORZHANU_H
+#define BORZHANU_H
+
+#include <stddef.h>
+#include <stdint.h>
+
+#ifdef __cplusplus
+extern "C" {
+#endif
+
+/* The largest numbers of vertices, elements and border half-edges. */
+#define BORZHANU_MAX_VERTICES 1000000u
+#define BORZHANU_MAX_ELEMENTS 1000000u
+#define BORZHANU_MAX_BORDERS 4000000u
+
+/* Why a call refused. Checks are made in this order, each over the whole list before the next. */
+enum {
+    /* The call has answered. */
+    BORZHANU_ANSWERED = 0,
+    /* More than 1,000,000 vertices or elements, or an element list or E2e whose length isn't a
+       multiple of four. All buffers are as they were. */
+    BORZHANU_SIZES = 1,
+    /* A buffer is too short or too long for this n and m. All buffers are as they were. */
+    BORZHANU_LENGTHS = 2,
+    /* An element has the corner 0 among its first three, or a corner above n.
+       Place: the first such element, its first such corner. */
+    BORZHANU_CORNER_UNFIT = 3,
+    /* An element has the same corner twice. Place: the first such element, the later corner. */
+    BORZHANU_CORNER_REPEATED = 4,
+    /* A vertex belongs to no element. Place: the least such vertex, 0. */
+    BORZHANU_VERTEX_UNUSED = 5,
+    /* Three or more plates meet at one edge. Place: element and side of the least such side. */
+    BORZHANU_EDGE_CROWDED = 6,
+    /* Two plates run along their common edge in the same direction: one of them is upside down, or
+       is there twice. Place: element and side of the least such side. */
+    BORZHANU_SIDES_ALIKE = 7,
+    /* The plates at a vertex aren't one fan: they touch at this point alone.
+       Place: the least such vertex, 0. */
+    BORZHANU_FAN_BROKEN = 8,
+    /* B2e is too short. Place: k, the length that it needs, 0. */
+    BORZHANU_BORDER_SHORT = 9,
+    /* No element list has exactly this V2e and this E2e. */
+    BORZHANU_NO_LIST = 10,
+    /* There is no such vertex, border or half-edge, or the question makes no sense for it. */
+    BORZHANU_NOT_THERE = 11,
+    /* The tables aren't those of a mesh: an entry that was read names nothing, or a walk doesn't
+       come to its end. Or a walker's record isn't one that these calls made. */
+    BORZHANU_TABLE_BROKEN = 12,
+    /* The output is too short. Place: the length that it needs, 0. */
+    BORZHANU_OUTPUT_SHORT = 13,
+    /* A text isn't in the form that the listing program reads. Place: the first bad line, 0.
+       No call below gives it. */
+    BORZHANU_TEXT_UNFIT = 14
+};
+
+/* The refusal number of what a call returned; 0: it has answered. */
+static inline uint32_t borzhanu_refusal(uint64_t returned) {
+    return (uint32_t)(returned >> 56);
+}
+
+/* The first number of the answer, or of the refusal's place. */
+static inline uint32_t borzhanu_first(uint64_t returned) {
+    return (uint32_t)(returned >> 28) & 0xFFFFFFFu;
+}
+
+/* The second number of the answer, or of the refusal's place. */
+static inline uint32_t borzhanu_second(uint64_t returned) {
+    return (uint32_t)returned & 0xFFFFFFFu;
+}
+
+/* The code of side i of element f. */
+static inline uint32_t borzhanu_side(uint32_t f, uint32_t i) {
+    return 8u * f + i;
+}
+
+/* The code of border half-edge b. */
+static inline uint32_t borzhanu_border(uint32_t b) {
+    return 8u * b;
+}
+
+/* The least length of the work buffer of build and recovery, in entries. */
+static inline size_t borzhanu_work_length(uint32_t n, size_t m) {
+    return (size_t)n + 16u * m;
+}
+
+/*
+ * Builds the three tables of an element list. Answers k, the number of border half-edges, and the
+ * number of edges.
+ *
+ *   elements  4 * m entries, only read
+ *   v2e       n entries
+ *   e2e       4 * m entries
+ *   b2e       at least k entries; n are always enough
+ *   work      at least n + 16 * m entries
+ *
+ * After an answer v2e, e2e and the first k entries of b2e are the tables; the rest of b2e is as it
+ * was. After a refusal, 1 to 9, all three are as they were. What they and work hold before doesn't
+ * matter. After 1 and 2 work is as it was; after everything else it is all zero.
+ */
+uint64_t borzhanu_build(uint32_t n,
+                        const uint32_t *elements, size_t elements_len,
+                        uint32_t *v2e, size_t v2e_len,
+                        uint32_t *e2e, size_t e2e_len,
+                        uint32_t *b2e, size_t b2e_len,
+                        uint32_t *work, size_t work_len);
+
+/*
+ * Writes the one element list that building turns into exactly this V2e and this E2e. Answers 0, 0.
+ *
+ *   v2e       n entries, only read
+ *   e2e       4 * m entries, only read: its length says m
+ *   elements  4 * m entries
+ *   work      at least n + 16 * m entries
+ *
+ * After an answer elements is the list; after a refusal, 1, 2 or 10, it is as it was. Nothing is
+ * repaired: 10 means that no list has these tables. After 1 and 2 work is as it was; after
+ * everything else it is all zero.
+ */
+uint64_t borzhanu_recover(uint32_t n,
+                          const uint32_t *v2e, size_t v2e_len,
+                          const uint32_t *e2e, size_t e2e_len,
+                          uint32_t *elements, size_t elements_len,
+                          uint32_t *work, size_t work_len);
+
+/*
+ * The queries take a mesh: n, an element list (4 * m entries), V2e (n), E2e (4 * m) and B2e (exactly
+ * k entries, so cut after building; never more than 4 * m). They only read these. Each refuses 1, 2
+ * and 11 as above, and 12 where an entry that it reads is broken; tables that building wrote never
+ * give 12. Where no second number is named, it is 0.
+ */
+
+/* The half-edge that runs along the same edge the other way. */
+uint64_t borzhanu_opposite(uint32_t n,
+                           const uint32_t *elements, size_t elements_len,
+                           const uint32_t *v2e, size_t v2e_len,
+                           const uint32_t *e2e, size_t e2e_len,
+                           const uint32_t *b2e, size_t b2e_len, uint32_t code);
+
+/* The half-edge that follows: of a side, in its element; of a border half-edge, along its border. */
+uint64_t borzhanu_next(uint32_t n,
+                       const uint32_t *elements, size_t elements_len,
+                       const uint32_t *v2e, size_t v2e_len,
+                       const uint32_t *e2e, size_t e2e_len,
+                       const uint32_t *b2e, size_t b2e_len, uint32_t code);
+
+/* The side before a side, in its element. A border half-edge is refused, 11. */
+uint64_t borzhanu_previous(uint32_t n,
+                           const uint32_t *elements, size_t elements_len,
+                           const uint32_t *v2e, size_t v2e_len,
+                           const uint32_t *e2e, size_t e2e_len,
+                           const uint32_t *b2e, size_t b2e_len, uint32_t code);
+
+/* The element of a side. A border half-edge is refused, 11. */
+uint64_t borzhanu_element(uint32_t n,
+                          const uint32_t *elements, size_t elements_len,
+                          const uint32_t *v2e, size_t v2e_len,
+                          const uint32_t *e2e, size_t e2e_len,
+                          const uint32_t *b2e, size_t b2e_len, uint32_t code);
+
+/* The vertex where a half-edge begins. */
+uint64_t borzhanu_origin(uint32_t n,
+                         const uint32_t *elements, size_t elements_len,
+                         const uint32_t *v2e, size_t v2e_len,
+                         const uint32_t *e2e, size_t e2e_len,
+                         const uint32_t *b2e, size_t b2e_len, uint32_t code);
+
+/* The vertex where a half-edge ends. */
+uint64_t borzhanu_destination(uint32_t n,
+                              const uint32_t *elements, size_t elements_len,
+                              const uint32_t *v2e, size_t v2e_len,
+                              const uint32_t *e2e, size_t e2e_len,
+                              const uint32_t *b2e, size_t b2e_len, uint32_t code);
+
+/* The element on the other side of a side, or 0 at a border. A border half-edge is refused, 11. */
+uint64_t borzhanu_across(uint32_t n,
+                         const uint32_t *elements, size_t elements_len,
+                         const uint32_t *v2e, size_t v2e_len,
+                         const uint32_t *e2e, size_t e2e_len,
+                         const uint32_t *b2e, size_t b2e_len, uint32_t code);
+
+/* 1 for a border half-edge, 0 for a side. */
+uint64_t borzhanu_halfedge_is_border(uint32_t n,
+                                     const uint32_t *elements, size_t elements_len,
+                                     const uint32_t *v2e, size_t v2e_len,
+                                     const uint32_t *e2e, size_t e2e_len,
+                                     const uint32_t *b2e, size_t b2e_len, uint32_t code);
+
+/* 1 for a vertex on a border, 0 for one inside. */
+uint64_t borzhanu_vertex_is_border(uint32_t n,
+                                   const uint32_t *elements, size_t elements_len,
+                                   const uint32_t *v2e, size_t v2e_len,
+                                   const uint32_t *e2e, size_t e2e_len,
+                                   const uint32_t *b2e, size_t b2e_len, uint32_t v);
+
+/*
+ * The three lists below answer their count. They are written from the start of out; the rest of out
+ * is as it was. After a refusal, 1, 2 or 11 to 13, all of out is as it was; 13 names the length that
+ * the list needs.
+ */
+
+/*
+ * The elements about a vertex, in turn order, each once: at a border from rim to rim. At most m
+ * entries.
+ */
+uint64_t borzhanu_ring(uint32_t n,
+                       const uint32_t *elements, size_t elements_len,
+                       const uint32_t *v2e, size_t v2e_len,
+                       const uint32_t *e2e, size_t e2e_len,
+                       const uint32_t *b2e, size_t b2e_len,
+                       uint32_t v, uint32_t *out, size_t out_len);
+
+/*
+ * The vertices joined to a vertex by an edge, in turn order; at a border one more than the ring has
+ * elements. At most m + 1 entries.
+ */
+uint64_t borzhanu_neighbours(uint32_t n,
+                             const uint32_t *elements, size_t elements_len,
+                             const uint32_t *v2e, size_t v2e_len,
+                             const uint32_t *e2e, size_t e2e_len,
+                             const uint32_t *b2e, size_t b2e_len,
+                             uint32_t v, uint32_t *out, size_t out_len);
+
+/*
+ * The border half-edges of one hole, as border numbers: b, the next one, and so on until b would come
+ * again. At most k entries.
+ */
+uint64_t borzhanu_border_loop(uint32_t n,
+                              const uint32_t *elements, size_t elements_len,
+                              const uint32_t *v2e, size_t v2e_len,
+                              const uint32_t *e2e, size_t e2e_len,
+                              const uint32_t *b2e, size_t b2e_len,
+                              uint32_t b, uint32_t *out, size_t out_len);
+
+/* How far a walk about a vertex has come. */
+typedef struct borzhanu_walker {
+    uint32_t start; /* the side where the ring begins */
+    uint32_t next;  /* the side whose element comes next; 0 when the ring is over */
+    uint32_t count; /* the elements handed out so far */
+} borzhanu_walker;
+
+/* Sets a walker to the beginning of the ring of v. Answers 0. After a refusal the record is as it was. */
+uint64_t borzhanu_walker_start(uint32_t n,
+                               const uint32_t *elements, size_t elements_len,
+                               const uint32_t *v2e, size_t v2e_len,
+                               const uint32_t *e2e, size_t e2e_len,
+                               const uint32_t *b2e, size_t b2e_len,
+                               uint32_t v, borzhanu_walker *walker);
+
+/*
+ * Answers the next element of the ring and moves the walker on; when the ring is over it answers 0 and
+ * leaves the record as it was, however often it is called. After a refusal, 1, 2 or 12, the record is
+ * as it was.
+ */
+uint64_t borzhanu_walker_step(uint32_t n,
+                              const uint32_t *elements, size_t elements_len,
+                              const uint32_t *v2e, size_t v2e_len,
+                              const uint32_t *e2e, size_t e2e_len,
+                              const uint32_t *b2e, size_t b2e_len, borzhanu_walker *walker);
+
+#ifdef __cplusplus
+}
+#endif
+
+#endif
