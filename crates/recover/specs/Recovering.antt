@@ -10,15 +10,19 @@ use lib.Dec.{T, leb, eqb, T-not, not-T}
 use lib.ListN.{length, take, drop, length-take, length-drop, length-append}
 use Rattle.lists.specs.Tests.{both, same}
 use Rattle.lists.specs.TestLaws.{Test, pass, fail, test, true-of, false-of, passes, both-pass, means-eq, means-le, zero-or}
-use lib.Seq.{take-at, take-append-seam}
+use lib.Seq.{take-at, drop-at, take-append-seam}
 use Rattle.lists.specs.Parts.{part, put-take, put-drop, put-length}
-use Rattle.rules.specs.Elements.{elements}
+use Rattle.rules.specs.Elements.{elements, maxVertex, maxElement}
 use Rattle.rules.specs.Pairing.{sizesFit, unfitCorner, repeatedCorner, rowsFit}
 use Rattle.rules.specs.Tables.{borders, edges, e2e, v2e}
 use Rattle.rules.specs.Recovery.{walk}
 use Rattle.rules.specs.Refusals.{Answer, gives, refused, sideCheck, vertexCheck, unusedVertex, crowdedSide, alikeSide, unorderedVertex, listAnswer, accepts, recovers, callSizes, callLengths, lengthChecks, workAfter, after, onto, recoverAnswer, recoverList, recoverWork}
 use Rattle.theory.specs.Answers.{side-clear, side-refuses, vertex-clear, vertex-refuses, ordered-answer}
+use Rattle.theory.specs.Sides.{means-sizes}
 use Rattle.theory.specs.Deciding.{means-accepted}
+use Rattle.theory.specs.Built.{borders-bound}
+use Rattle.tabulate.specs.Results.{Sized, Tabulated}
+use Rattle.build.specs.Building.{holds-front, onto-full, sizes-known, lengths-known}
 
 -- the tables stand at the front
 pub record Filled (n : ℕ) (V2e E2e w w′ : List ℕ) : Type 0 where
@@ -108,3 +112,38 @@ module _ (a : Answer) (k e : ℕ) (is : a ≡ gives k e) (V2e′ E2e′ V2e E2e 
 
   pub compares : (r : Bool) → same V2e′ V2e ≡ true → r ≡ same E2e′ E2e → r ≡ agrees a V2e′ E2e′ V2e E2e
   compares r f g = g ∙ sym (ap (λ (x : Answer). agrees x V2e′ E2e′ V2e E2e) is ∙ ap (λ (b : Bool). both b (same E2e′ E2e)) f)
+
+-- the list that was proposed was tried; what is kept behind the scratch buffer is still there
+pub record Tried (n : ℕ) (V2e E2e : List ℕ) (r : Bool) (w w′ : List ℕ) : Type 0 where
+  pub answer : r ≡ recovers n V2e E2e
+  pub rest : drop (n + 12 * elements E2e) w′ ≡ drop (n + 12 * elements E2e) w
+  pub long : length w′ ≡ length w
+
+module _ (n : ℕ) (V2e E2e L w s : List ℕ) (sized : Sized n L (take (n + 12 * elements L) w)) (inside : n + 12 * elements L ≤ length w) (as-long : length E2e ≡ length L) (given : walk V2e E2e ≡ L) where
+  abbrev w′ : List ℕ
+  w′ = s ++ drop (n + 12 * elements L - 0) w
+
+  module _ (a : Answer) (x : Tabulated n L (listAnswer n L) a (take (n + 12 * elements L - 0) w) s) where
+    scratch-long : length s ≡ n + 12 * elements L
+    scratch-long = x .long ∙ simp length-take (omega arith)
+
+    sizes : (n ≤ maxVertex) × ((elements L ≤ maxElement) × (length L ≡ 4 * elements L))
+    sizes = means-sizes n L .says (sized .sizes)
+
+    pub tried : (r : Bool) → r ≡ agrees a (take n w′) (part n (length E2e) w′) V2e E2e → Tried n V2e E2e r w w′
+    tried r e =
+        let z : n + 12 * elements L - 0 ≡ n + 12 * elements L = omega arith in
+        let same : elements E2e ≡ elements L = omega arith in
+        record {
+          answer =
+            e
+            ∙ ap (λ (y : Answer). agrees y (take n w′) (part n (length E2e) w′) V2e E2e) (x .answer)
+            ∙ agreement n L V2e E2e (take n w′) (part n (length E2e) w′) (sized .sizes) given
+            (λ k c g.
+              let h = holds-front n L s (drop (n + 12 * elements L - 0) w) scratch-long (omega (arith, borders-bound L, sizes)) (x .holds k c (x .answer ∙ g)) in
+              (h .vertices, ap (λ (i : ℕ). part n i w′) (as-long ∙ sizes .1 .1) ∙ h .opposites));
+          rest =
+            ap (λ (i : ℕ). drop (n + 12 * i) w′) same
+            ∙ drop-at s (drop (n + 12 * elements L - 0) w) (n + 12 * elements L) scratch-long
+            ∙ ap (λ (i : ℕ). drop i w) (z ∙ ap (λ (i : ℕ). n + 12 * i) (sym same));
+          long = simp (length-append, length-drop) (omega (arith, scratch-long)) }
