@@ -10,17 +10,19 @@ use lib.Dec.{T, leb, eqb, T-not, not-T}
 use lib.ListN.{length, take, drop, length-take, length-drop, length-append}
 use Rattle.lists.specs.Tests.{both, same}
 use Rattle.lists.specs.TestLaws.{Test, pass, fail, test, true-of, false-of, passes, both-pass, means-eq, means-le, zero-or}
-use lib.Seq.{take-at, drop-at, take-append-seam}
-use Rattle.lists.specs.Parts.{part, put-take, put-drop, put-length}
+use lib.Seq.{take-at, drop-at, take-append-seam, take-all}
+use Rattle.lists.specs.Parts.{part, part-take, put-take, put-drop, put-length}
 use Rattle.rules.specs.Elements.{elements, maxVertex, maxElement}
 use Rattle.rules.specs.Pairing.{sizesFit, unfitCorner, repeatedCorner, rowsFit}
 use Rattle.rules.specs.Tables.{borders, edges, e2e, v2e}
-use Rattle.rules.specs.Recovery.{walk}
+use Rattle.rules.specs.Recovery.{walkTo, walk}
 use Rattle.rules.specs.Refusals.{Answer, gives, refused, sideCheck, vertexCheck, unusedVertex, crowdedSide, alikeSide, unorderedVertex, listAnswer, accepts, recovers, callSizes, callLengths, lengthChecks, workAfter, after, onto, recoverAnswer, recoverList, recoverWork}
 use Rattle.theory.specs.Answers.{side-clear, side-refuses, vertex-clear, vertex-refuses, ordered-answer}
 use Rattle.theory.specs.Sides.{means-sizes}
 use Rattle.theory.specs.Deciding.{means-accepted}
 use Rattle.theory.specs.Built.{borders-bound}
+use Rattle.walk.specs.Layout.{Sizes, Walking}
+use Rattle.links.specs.Links.{LinkedBy}
 use Rattle.tabulate.specs.Results.{Sized, Tabulated}
 use Rattle.build.specs.Building.{holds-front, onto-full, sizes-known, lengths-known}
 
@@ -136,14 +138,91 @@ module _ (n : ℕ) (V2e E2e L w s : List ℕ) (sized : Sized n L (take (n + 12 *
         let same : elements E2e ≡ elements L = omega arith in
         record {
           answer =
-            e
-            ∙ ap (λ (y : Answer). agrees y (take n w′) (part n (length E2e) w′) V2e E2e) (x .answer)
-            ∙ agreement n L V2e E2e (take n w′) (part n (length E2e) w′) (sized .sizes) given
-            (λ k c g.
+              e
+              ∙ ap (λ (y : Answer). agrees y (take n w′) (part n (length E2e) w′) V2e E2e) (x .answer)
+              ∙ agreement n L V2e E2e (take n w′) (part n (length E2e) w′) (sized .sizes) given
+              (λ k c g.
               let h = holds-front n L s (drop (n + 12 * elements L - 0) w) scratch-long (omega (arith, borders-bound L, sizes)) (x .holds k c (x .answer ∙ g)) in
               (h .vertices, ap (λ (i : ℕ). part n i w′) (as-long ∙ sizes .1 .1) ∙ h .opposites));
           rest =
-            ap (λ (i : ℕ). drop (n + 12 * i) w′) same
-            ∙ drop-at s (drop (n + 12 * elements L - 0) w) (n + 12 * elements L) scratch-long
-            ∙ ap (λ (i : ℕ). drop i w) (z ∙ ap (λ (i : ℕ). n + 12 * i) (sym same));
-          long = simp (length-append, length-drop) (omega (arith, scratch-long)) }
+              ap (λ (i : ℕ). drop (n + 12 * i) w′) same
+              ∙ drop-at s (drop (n + 12 * elements L - 0) w) (n + 12 * elements L) scratch-long
+              ∙ ap (λ (i : ℕ). drop i w) (z ∙ ap (λ (i : ℕ). n + 12 * i) (sym same));
+          long = simp (length-append, length-drop) (omega (arith, scratch-long));
+        }
+
+-- the walk over the tables that were filled in
+pub walk-filled : (n m : ℕ) (V2e E2e w w₁ w₂ w₃ : List ℕ) → Sizes n m w → length V2e ≡ n → length E2e ≡ 4 * m → Filled n V2e E2e w w₁ → LinkedBy n m w₁ w₂ → Walking n m n w₂ w₃ → drop (n + 8 * m) w₃ ≡ walk V2e E2e
+unfolding walk
+walk-filled n m V2e E2e w w₁ w₂ w₃ z l k x y q =
+    let o = n + 4 * m in
+    let a : o ≤ length w₁ = omega (arith, x .long, z .long) in
+    let b : o ≤ length w₂ = omega (arith, y .long, x .long, z .long) in
+    let kept : (i j : ℕ) → i + j ≤ o → part i j w₂ ≡ part i j w₁ =
+    λ i j h. sym (part-take i j o w₂ h b) ∙ ap (part i j) (y .front) ∙ part-take i j o w₁ h a in
+    q .new
+    ∙ ap (λ (X : List ℕ). walkTo X (part n (4 * m) w₂) n) (kept 0 n (omega arith) ∙ x .vertices)
+    ∙ ap (λ (X : List ℕ). walkTo V2e X n) (kept n (4 * m) (omega arith) ∙ ap (λ (i : ℕ). part n i w₁) (sym k) ∙ x .opposites)
+    ∙ ap (walkTo V2e E2e) (sym l)
+
+pub record Roomy (n m : ℕ) (V2e E2e list w : List ℕ) : Type 0 where
+  pub vertices : n ≤ 1_000_000
+  pub elements : m ≤ 1_000_000
+  pub v2e-long : length V2e ≡ n
+  pub e2e-long : length E2e ≡ 4 * m
+  pub list-long : length list ≡ 4 * m
+  pub room : n + 16 * m ≤ length w
+
+-- the walk's list stands in the element list, and what was there behind the scratch buffer
+pub record Proposed (n m : ℕ) (V2e E2e list w list′ w′ : List ℕ) : Type 0 where
+  pub given : walk V2e E2e ≡ list′
+  pub kept : part (n + 12 * m) (4 * m) w′ ≡ list
+  pub long : length w′ ≡ length w
+  pub list-long : length list′ ≡ 4 * m
+
+module _ (n m : ℕ) (V2e E2e list w : List ℕ) (r : Roomy n m V2e E2e list w) (s : List ℕ) (walked : drop (n + 8 * m) s ≡ walk V2e E2e) (as-long : length s ≡ length (take (n + 12 * m - 0) w)) where
+  scratch : length s ≡ n + 12 * m
+  scratch = as-long ∙ simp length-take (omega (arith, r .room))
+
+  -- the work buffer after the walk, and after the list is kept
+  abbrev w₁ : List ℕ
+  w₁ = s ++ drop (n + 12 * m - 0) w
+
+  long₁ : length (s ++ drop (n + 12 * m - 0) w) ≡ length w
+  long₁ = simp (length-append, length-drop) (omega (arith, scratch, r .room))
+
+  module _ (ys : List ℕ) (saved : ys ≡ onto list (take (length (s ++ drop (n + 12 * m - 0) w) - (n + 12 * m)) (drop (n + 12 * m) (s ++ drop (n + 12 * m - 0) w)))) where
+    abbrev w₂ : List ℕ
+    w₂ = take (n + 12 * m) w₁ ++ (ys ++ drop (length w₁ - (n + 12 * m)) (drop (n + 12 * m) w₁))
+
+    inside : n + 12 * m ≤ length (s ++ drop (n + 12 * m - 0) w)
+    inside = omega (arith, long₁, r .room)
+
+    many : length ys ≡ length (s ++ drop (n + 12 * m - 0) w) - (n + 12 * m)
+    unfolding onto
+    many = ap length saved ∙ simp (length-append, length-drop, length-take, length-drop) (omega (arith, scratch, r .list-long, r .room))
+
+    walk-long : length (walk V2e E2e) ≡ 4 * m
+    walk-long = sym (ap length walked) ∙ simp length-drop (omega (arith, scratch))
+
+    pub proposed : (list′ : List ℕ) → list′ ≡ onto (take (n + 12 * m - (n + 8 * m)) (drop (n + 8 * m) w₂)) list → Proposed n m V2e E2e list w list′ w₂
+    unfolding onto
+    proposed list′ e =
+        let o = n + 8 * m in
+        let end = n + 12 * m in
+        let k : end - o ≡ 4 * m = omega arith in
+        let long₂ : length w₂ ≡ length w = put-length end w₁ ys inside many ∙ long₁ in
+        let front : take end w₂ ≡ s = put-take end w₁ ys inside (length w₁ - end) ∙ take-at s (drop (end - 0) w) end scratch in
+        let read : take (end - o) (drop o w₂) ≡ walk V2e E2e =
+        ap (λ (i : ℕ). part o i w₂) k
+        ∙ sym (part-take o (4 * m) end w₂ (omega arith) (omega (arith, long₂, r .room)))
+        ∙ ap (part o (4 * m)) front
+        ∙ ap (take (4 * m)) walked
+        ∙ take-all (4 * m) (walk V2e E2e) (omega (arith, walk-long)) in
+        let got : list′ ≡ walk V2e E2e = e ∙ ap (λ (X : List ℕ). onto X list) read ∙ onto-full (walk V2e E2e) list (walk-long ∙ sym (r .list-long)) in
+        record {
+          given = sym got;
+          kept = ap (take (4 * m)) (put-drop end w₁ ys inside ∙ saved) ∙ take-at list _ (4 * m) (r .list-long);
+          long = long₂;
+          list-long = ap length got ∙ walk-long;
+        }

@@ -7,9 +7,9 @@ ghost use Rattle.lists.specs.Parts.{part};
 ghost use Rattle.rules.specs.Elements.{elements};
 ghost use Rattle.rules.specs.Recovery.{walk};
 ghost use Rattle.answer.specs.Numbers.{numbers};
+ghost use Rattle.walk.specs.Layout.{Sizes};
 ghost use Rattle.tabulate.specs.Results.{Sized};
-ghost use Rattle.recover.specs.Recovering.{Filled, agrees, Tried};
-
+ghost use Rattle.recover.specs.Recovering.{Filled, agrees, Roomy, Proposed, Tried};
 use answer::Answer;
 
 fn wide(x: u32) -> usize
@@ -27,12 +27,26 @@ fn fill(n: usize, v2e: &[u32], e2e: &[u32], work: &mut [u32])
     buffers::copy(e2e, &mut work[n..]);
 }
 
+// The list that the walk over the tables gives, at the end of the scratch buffer.
+fn walk_tables(n: usize, m: usize, v2e: &[u32], e2e: &[u32], work: &mut [u32])
+    requires { ⌜ Sizes n m (now work) × (length (now v2e) ≡ n) × (length (now e2e) ≡ 4 * m) ⌝ }
+    ensures { λ r. ⌜ (drop (n + 8 * m) (now (work .exit)) ≡ walk (now (v2e .entry)) (now (e2e .entry))) × (length (now (work .exit)) ≡ length (now (work .entry))) ⌝ }
+{
+    fill(n, v2e, e2e, work);
+    links::link(n, m, work);
+    walk::walk(n, m, work);
+}
+
 // The tables of the list in the scratch buffer, whose answer is t, are those given.
 fn is_theirs(n: usize, t: Answer, v2e: &[u32], e2e: &[u32], work: &[u32]) -> bool
     requires { ⌜ n + length (now e2e) ≤ length (now work) ⌝ }
     ensures { λ r. ⌜ r ≡ agrees (numbers t) (take n (now (work .entry))) (part n (length (now (e2e .entry))) (now (work .entry))) (now (v2e .entry)) (now (e2e .entry)) ⌝ }
 {
-    let Answer::Gives { first: _, second: _ } = t else {
+    let Answer::Gives {
+        first: _,
+        second: _,
+    } = t
+    else {
         return false;
     };
     let end = n + e2e.len();
@@ -40,6 +54,18 @@ fn is_theirs(n: usize, t: Answer, v2e: &[u32], e2e: &[u32], work: &[u32]) -> boo
         return false;
     }
     buffers::is_same(&work[n..end], e2e)
+}
+
+// The list that the walk gives is put into `list`; the list that was there is kept behind the scratch buffer.
+fn propose(n: usize, m: usize, v2e: &[u32], e2e: &[u32], list: &mut [u32], work: &mut [u32])
+    requires { ⌜ Roomy n m (now v2e) (now e2e) (now list) (now work) ⌝ }
+    ensures { λ r. ⌜ Proposed n m (now (v2e .entry)) (now (e2e .entry)) (now (list .entry)) (now (work .entry)) (now (list .exit)) (now (work .exit)) ⌝ }
+{
+    let o = n + 8 * m;
+    let end = n + 12 * m;
+    walk_tables(n, m, v2e, e2e, &mut work[0..end]);
+    buffers::copy(list, &mut work[end..]);
+    buffers::copy(&work[o..end], list);
 }
 
 // The list that was proposed is accepted and has the given tables.
