@@ -7,7 +7,7 @@ use mathlib.Core.List.{List, _++_, append-nil}
 use Prim.Native.Nat.{ℕ, _+_, _*_, _-_, _/_, _≤_, _<_}
 use native.Mathlib.Omega.{arith}
 use lib.Dec.{T, leb, eqb, T-not, not-T}
-use lib.ListN.{length, take, drop, length-take, length-drop, length-append}
+use lib.ListN.{length, take, drop, replicate, length-take, length-drop, length-append}
 use Rattle.lists.specs.Tests.{both, same}
 use Rattle.lists.specs.TestLaws.{Test, pass, fail, test, true-of, false-of, passes, both-pass, means-eq, means-le, zero-or}
 use lib.Seq.{take-at, drop-at, take-append-seam, take-all}
@@ -226,3 +226,77 @@ module _ (n m : ℕ) (V2e E2e list w : List ℕ) (r : Roomy n m V2e E2e list w) 
           long = long₂;
           list-long = ap length got ∙ walk-long;
         }
+
+-- the answer of check 10, and the element list after it
+pub record Recovered (n : ℕ) (V2e E2e : List ℕ) (a : Answer) (list list′ : List ℕ) : Type 0 where
+  pub answer : a ≡ elim (recovers n V2e E2e) [ true ↦ gives 0 0 | false ↦ refused 10 0 0 ]
+  pub left : list′ ≡ after a (walk V2e E2e) list
+
+pub recovered-list : (n : ℕ) (V2e E2e list list′ : List ℕ) → true ≡ recovers n V2e E2e → walk V2e E2e ≡ list′ → Recovered n V2e E2e (gives 0 0) list list′
+unfolding after
+recovered-list n V2e E2e list list′ e w =
+    record { answer = ap (λ (b : Bool). elim b [ true ↦ gives 0 0 | false ↦ refused 10 0 0 ]) e; left = sym w }
+
+pub recovered-none : (n : ℕ) (V2e E2e list list′ : List ℕ) → false ≡ recovers n V2e E2e → list′ ≡ list → Recovered n V2e E2e (refused 10 0 0) list list′
+unfolding after
+recovered-none n V2e E2e list list′ e w =
+    record { answer = ap (λ (b : Bool). elim b [ true ↦ gives 0 0 | false ↦ refused 10 0 0 ]) e; left = w }
+
+-- sizes go by the length alone
+pub sizes-same : (n : ℕ) (X Y : List ℕ) → length X ≡ length Y → T (sizesFit n X) → T (sizesFit n Y)
+unfolding sizesFit
+sizes-same n X Y e t =
+    subst (λ (k : ℕ). T (both (leb n maxVertex) (both (leb (k / 4) maxElement) (eqb k (4 * (k / 4)))))) e t
+
+-- what checks 1 and 2 give for the way
+module _ (n : ℕ) (V2e E2e list work : List ℕ) (sizes : callSizes n E2e list ≡ true) (lengths : callLengths n E2e list V2e work ≡ true) where
+  pub roomy : Roomy n (elements E2e) V2e E2e list work
+  roomy =
+      let z = means-sizes n E2e .says (sizes-known n E2e list sizes .0) in
+      let l = lengths-known n E2e list V2e work lengths in
+      record { vertices = z .0; elements = z .1 .0; v2e-long = l .0; e2e-long = z .1 .1; list-long = l .1; room = l .2 }
+
+  module _ (list₁ work₁ : List ℕ) (p : Proposed n (elements E2e) V2e E2e list work list₁ work₁) where
+    pub as-many : elements list₁ ≡ elements E2e
+    as-many = omega (arith, p .list-long)
+
+    pub to-try : Sized n list₁ (take (n + 12 * elements list₁) work₁) × (n + 12 * elements list₁ ≤ length work₁) × (length E2e ≡ length list₁) × (walk V2e E2e ≡ list₁)
+    to-try =
+        let z = means-sizes n E2e .says (sizes-known n E2e list sizes .0) in
+        let inside : n + 12 * elements list₁ ≤ length work₁ = omega (arith, as-many, p .long, roomy .room) in
+        let e : length E2e ≡ length list₁ = z .1 .1 ∙ sym (p .list-long) in (
+          record { sizes = sizes-same n E2e list₁ e (sizes-known n E2e list sizes .0); long = (simp length-take (omega arith)) },
+          inside,
+          e,
+          p .given,
+        )
+
+    -- the list that was there is put back
+    pub put-back : (work₂ list₂ : List ℕ) (b : Bool) → Tried n V2e E2e b work₁ work₂ → list₂ ≡ onto (take (n + 12 * elements E2e + 4 * elements E2e - (n + 12 * elements E2e)) (drop (n + 12 * elements E2e) work₂)) list₁ → list₂ ≡ list
+    put-back work₂ list₂ b t e =
+        let k : n + 12 * elements E2e + 4 * elements E2e - (n + 12 * elements E2e) ≡ 4 * elements E2e = omega arith in
+        let read : take (n + 12 * elements E2e + 4 * elements E2e - (n + 12 * elements E2e)) (drop (n + 12 * elements E2e) work₂) ≡ list =
+        ap (λ (X : List ℕ). take (n + 12 * elements E2e + 4 * elements E2e - (n + 12 * elements E2e)) X) (t .rest)
+        ∙ ap (λ (i : ℕ). take i (drop (n + 12 * elements E2e) work₁)) k
+        ∙ p .kept in
+        e ∙ ap (λ (X : List ℕ). onto X list₁) read ∙ onto-full list list₁ (roomy .list-long ∙ sym (p .list-long))
+
+-- the whole call: refused by checks 1 or 2, or as check 10 says
+module _ (n : ℕ) (V2e E2e list work : List ℕ) where
+  pub unsized : callSizes n E2e list ≡ false → (refused 1 0 0 ≡ recoverAnswer n V2e E2e list work) × ((list ≡ recoverList n V2e E2e list work) × (work ≡ recoverWork n V2e E2e list work))
+  unfolding recoverAnswer recoverList recoverWork lengthChecks workAfter after
+  unsized e =
+      let a : recoverAnswer n V2e E2e list work ≡ refused 1 0 0 = rw (e, lengthChecks) in
+      (sym a, (sym (ap (λ (x : Answer). after x (walk V2e E2e) list) a), sym (rw (e, workAfter))))
+
+  pub unlengthened : callSizes n E2e list ≡ true → callLengths n E2e list V2e work ≡ false → (refused 2 0 0 ≡ recoverAnswer n V2e E2e list work) × ((list ≡ recoverList n V2e E2e list work) × (work ≡ recoverWork n V2e E2e list work))
+  unfolding recoverAnswer recoverList recoverWork lengthChecks workAfter after
+  unlengthened e f =
+      let a : recoverAnswer n V2e E2e list work ≡ refused 2 0 0 = rw (e, f, lengthChecks) in
+      (sym a, (sym (ap (λ (x : Answer). after x (walk V2e E2e) list) a), sym (rw (e, f, workAfter))))
+
+  pub whole : (a : Answer) (list′ work′ : List ℕ) → callSizes n E2e list ≡ true → callLengths n E2e list V2e work ≡ true → Recovered n V2e E2e a list list′ → work′ ≡ replicate (length work) 0 → (a ≡ recoverAnswer n V2e E2e list work) × ((list′ ≡ recoverList n V2e E2e list work) × (work′ ≡ recoverWork n V2e E2e list work))
+  unfolding recoverAnswer recoverList recoverWork lengthChecks workAfter
+  whole a list′ work′ e f x z =
+      let g : a ≡ recoverAnswer n V2e E2e list work = x .answer ∙ sym (rw (e, f, lengthChecks)) in
+      (g, (x .left ∙ ap (λ (y : Answer). after y (walk V2e E2e) list) g, z ∙ sym (rw (e, f, workAfter))))

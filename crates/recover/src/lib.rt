@@ -7,9 +7,10 @@ ghost use Rattle.lists.specs.Parts.{part};
 ghost use Rattle.rules.specs.Elements.{elements};
 ghost use Rattle.rules.specs.Recovery.{walk};
 ghost use Rattle.answer.specs.Numbers.{numbers};
+ghost use Rattle.rules.specs.Refusals.{callSizes, callLengths, recoverAnswer, recoverList, recoverWork};
 ghost use Rattle.walk.specs.Layout.{Sizes};
 ghost use Rattle.tabulate.specs.Results.{Sized};
-ghost use Rattle.recover.specs.Recovering.{Filled, agrees, Roomy, Proposed, Tried};
+ghost use Rattle.recover.specs.Recovering.{Filled, agrees, Roomy, Proposed, Tried, Recovered};
 use answer::Answer;
 
 fn wide(x: u32) -> usize
@@ -77,4 +78,54 @@ fn has_tables(n: u32, v2e: &[u32], e2e: &[u32], list: &[u32], work: &mut [u32]) 
     let end = wide(n) + 12 * m;
     let t = tabulate::tabulate(n, list, &mut work[0..end]);
     is_theirs(wide(n), t, v2e, e2e, work)
+}
+
+// Check 10, where the lengths are fit. The work buffer isn't cleared yet.
+fn recover_fit(n: u32, v2e: &[u32], e2e: &[u32], list: &mut [u32], work: &mut [u32]) -> Answer
+    requires { ⌜ (callSizes n (now e2e) (now list) ≡ true) × (callLengths n (now e2e) (now list) (now v2e) (now work) ≡ true) ⌝ }
+    ensures { λ r. ⌜ Recovered n (now (v2e .entry)) (now (e2e .entry)) (numbers r) (now (list .entry)) (now (list .exit)) ⌝ }
+    ensures { λ r. ⌜ length (now (work .exit)) ≡ length (now (work .entry)) ⌝ }
+{
+    let m = e2e.len() / 4;
+    propose(wide(n), m, v2e, e2e, list, work);
+    if has_tables(n, v2e, e2e, list, work) {
+        return Answer::Gives {
+            first: 0,
+            second: 0,
+        };
+    }
+    let a = wide(n) + 12 * m;
+    let e = a + 4 * m;
+    buffers::copy(&work[a..e], list);
+    Answer::Refused {
+        number: 10,
+        first: 0,
+        second: 0,
+    }
+}
+
+// The accepted list that has exactly these tables; or 10 where none has, which leaves the element list as it was. The work buffer is all
+// zero afterwards, but after refusals 1 and 2, which leave it as it was.
+pub fn recover(n: u32, v2e: &[u32], e2e: &[u32], list: &mut [u32], work: &mut [u32]) -> Answer
+    ensures { λ r. ⌜ numbers r ≡ recoverAnswer n (now (v2e .entry)) (now (e2e .entry)) (now (list .entry)) (now (work .entry)) ⌝ }
+    ensures { λ r. ⌜ now (list .exit) ≡ recoverList n (now (v2e .entry)) (now (e2e .entry)) (now (list .entry)) (now (work .entry)) ⌝ }
+    ensures { λ r. ⌜ now (work .exit) ≡ recoverWork n (now (v2e .entry)) (now (e2e .entry)) (now (list .entry)) (now (work .entry)) ⌝ }
+{
+    if !lengths::sizes_fit(n, e2e.len(), list.len()) {
+        return Answer::Refused {
+            number: 1,
+            first: 0,
+            second: 0,
+        };
+    }
+    if !lengths::lengths_fit(n, e2e.len(), list.len(), v2e.len(), work.len()) {
+        return Answer::Refused {
+            number: 2,
+            first: 0,
+            second: 0,
+        };
+    }
+    let a = recover_fit(n, v2e, e2e, list, work);
+    buffers::clear(work);
+    a
 }

@@ -66,7 +66,7 @@ same-length-2 : tie.Need-same-length-2
 same-length-2 c = search needs
 
 returns : tie.Need-returns
-returns c = 
+returns c =
     let s = c .before .before .before .before .before .before .before .before .before .before .before .before .before .before .before .before .before .before .before .args in
     proposed (s .n) (s .m) (s .v2e .now) (s .e2e .now) (s .list .now) (s .work .now) (c .before .before .before .before .before .before .before .before .before .before .before .before .before .before .before .before .before .before .before .pre) (c .before .before .before .before .before .before .before .before .before .before .before .before .before .walk-tables .last .1 .1 .1 .1 .0) (c .before .before .before .before .before .before .before .before .before .before .before .before .before .walk-tables .ensures .0) (c .before .before .before .before .before .before .before .before .before .before .before .before .before .walk-tables .ensures .1)
     (c .before .before .before .before .before .before .before .before .copy .last .1 .0) (c .before .before .before .before .before .before .before .before .copy .ensures) (c .before .before .copy2 .last .1 .0) (c .before .before .copy2 .ensures)

@@ -1,0 +1,72 @@
+-- `recover::recover` meets its contract.
+-- Assumes nothing.
+use mathlib.Core.Path.{_≡_, ap, sym, _∙_}
+use mathlib.Core.Bool.{true}
+use mathlib.Core.List.{List}
+use Prim.Native.Nat.{ℕ, _/_, _≤_}
+use borrow.Author.Needs.{needs}
+use borrow.Author.Tests.{not-true, not-false}
+use lib.ListN.{length, replicate}
+use Rattle.rules.specs.Pairing.{sizesFit}
+use Rattle.rules.specs.Refusals.{callSizes, callLengths}
+use Rattle.theory.specs.Sides.{means-sizes}
+use Rattle.answer.specs.Numbers.{numbers}
+use Rattle.build.specs.Building.{sizes-known}
+use Rattle.recover.specs.Recovering.{unsized, unlengthened, whole}
+use Rattle.recover.proofs.recover.Statement.{statement}
+use Rattle.recover.proofs.recover.Tie as tie
+
+sizes : (c : tie.After-sizes-fit) → c .sizes-fit .result ≡ callSizes (c .before .before .before .before .before .args .n) (c .before .before .before .before .before .args .e2e .now) (c .before .before .before .before .before .args .list .now)
+unfolding callSizes sizesFit
+sizes c = c .sizes-fit .ensures
+
+sized : (c : tie.Else1) → callSizes (c .before .before .before .before .before .before .args .n) (c .before .before .before .before .before .before .args .e2e .now) (c .before .before .before .before .before .before .args .list .now) ≡ true
+sized c = sym (sizes (c .before)) ∙ not-false (c .before .sizes-fit .result) (c .if1 .left)
+
+lengths : (c : tie.After-lengths-fit) → c .lengths-fit .result ≡ callLengths (c .before .before .before .before .before .before .before .args .n) (c .before .before .before .before .before .before .before .args .e2e .now) (c .before .before .before .before .before .before .before .args .list .now) (c .before .before .before .before .before .before .before .args .v2e .now) (c .before .before .before .before .before .before .before .args .work .now)
+unfolding callLengths
+lengths c = c .lengths-fit .ensures
+
+lengthened : (c : tie.Else2) → callLengths (c .before .before .before .before .before .before .before .before .args .n) (c .before .before .before .before .before .before .before .before .args .e2e .now) (c .before .before .before .before .before .before .before .before .args .list .now) (c .before .before .before .before .before .before .before .before .args .v2e .now) (c .before .before .before .before .before .before .before .before .args .work .now) ≡ true
+lengthened c = sym (lengths (c .before)) ∙ not-false (c .before .lengths-fit .result) (c .if2 .left)
+
+sizes-fit-requires : tie.Need-sizes-fit-requires
+sizes-fit-requires c κs = search needs
+
+returns : tie.Need-returns
+returns c = unsized (c .before .before .before .before .before .before .args .n) (c .before .before .before .before .before .before .args .v2e .now) (c .before .before .before .before .before .before .args .e2e .now) (c .before .before .before .before .before .before .args .list .now) (c .before .before .before .before .before .before .args .work .now) (sym (sizes (c .before)) ∙ not-true (c .before .sizes-fit .result) (c .if1 .taken))
+
+lengths-fit-requires : tie.Need-lengths-fit-requires
+lengths-fit-requires c κs = means-sizes (c .before .before .before .before .before .before .args .n) (c .before .before .before .before .before .before .args .e2e .now) .says (sizes-known (c .before .before .before .before .before .before .args .n) (c .before .before .before .before .before .before .args .e2e .now) (c .before .before .before .before .before .before .args .list .now) (sized c) .0) .1 .0
+
+returns-2 : tie.Need-returns-2
+returns-2 c = unlengthened (c .before .before .before .before .before .before .before .before .args .n) (c .before .before .before .before .before .before .before .before .args .v2e .now) (c .before .before .before .before .before .before .before .before .args .e2e .now) (c .before .before .before .before .before .before .before .before .args .list .now) (c .before .before .before .before .before .before .before .before .args .work .now) (sized (c .before .before)) (sym (lengths (c .before)) ∙ not-true (c .before .lengths-fit .result) (c .if2 .taken))
+
+recover-fit-requires : tie.Need-recover-fit-requires
+recover-fit-requires c κs = (sized (c .before .before .before .before), lengthened (c .before .before))
+
+clear-requires : tie.Need-clear-requires
+clear-requires c κs = search needs
+
+same-length : tie.Need-same-length
+same-length c = search needs
+
+same-length-2 : tie.Need-same-length-2
+same-length-2 c = search needs
+
+returns-3 : tie.Need-returns-3
+returns-3 c = whole (c .before .before .before .before .before .before .before .before .before .before .before .before .before .before .before .before .before .before .before .args .n) (c .before .before .before .before .before .before .before .before .before .before .before .before .before .before .before .before .before .before .before .args .v2e .now) (c .before .before .before .before .before .before .before .before .before .before .before .before .before .before .before .before .before .before .before .args .e2e .now) (c .before .before .before .before .before .before .before .before .before .before .before .before .before .before .before .before .before .before .before .args .list .now) (c .before .before .before .before .before .before .before .before .before .before .before .before .before .before .before .before .before .before .before .args .work .now) (numbers (c .before .before .before .before .before .before .before .before .recover-fit .result)) _ _ (sized (c .before .before .before .before .before .before .before .before .before .before .before .before .before)) (lengthened (c .before .before .before .before .before .before .before .before .before .before .before)) (c .before .before .before .before .before .before .before .before .recover-fit .ensures .0) (c .before .before .clear .ensures ∙ ap (λ (k : ℕ). replicate k 0) (c .before .before .before .before .before .before .before .before .recover-fit .ensures .1))
+
+pub recover-spec : {M : Type 1} → statement M
+recover-spec =
+    tie.close
+    (tie.spec
+    sizes-fit-requires
+    returns
+    lengths-fit-requires
+    returns-2
+    recover-fit-requires
+    clear-requires
+    same-length
+    same-length-2
+    returns-3)
