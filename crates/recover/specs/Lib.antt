@@ -1,1 +1,2 @@
 pub mod Recovering
+pub mod Demand3
