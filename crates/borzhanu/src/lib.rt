@@ -1,0 +1,255 @@
+// The exported calls. Each answers in one 64-bit number: the refusal's number (0: an answer), and two numbers beside it.
+ghost use mathlib.Core.Path.{_≡_};
+ghost use Rattle.answer.specs.Numbers.{packedAnswer};
+ghost use Rattle.rules.specs.Refusals.{buildAnswer, buildLeaves};
+ghost use Rattle.rules.specs.Queries.{oppositeAnswer, nextAnswer, previousAnswer, elementAnswer, originAnswer, destinationAnswer, acrossAnswer, halfEdgeBorderAnswer, vertexBorderAnswer, ringAnswer, ringLeaves, neighboursAnswer, neighboursLeaves, borderLoopAnswer, borderLoopLeaves, walkerStart, walkerStep};
+ghost use Rattle.build.specs.Building.{lent};
+ghost use Rattle.query.specs.Meshes.{mesh};
+ghost use Rattle.borzhanu.specs.Walkers.{walkerIn, entriesOf};
+
+// V2e, E2e and the first k entries of B2e of an element list: k and the number of edges.
+#[no_mangle]
+pub extern "C" fn borzhanu_build(
+    n: u32,
+    elements: &[u32],
+    v2e: &mut [u32],
+    e2e: &mut [u32],
+    b2e: &mut [u32],
+    work: &mut [u32],
+) -> u64
+    ensures { λ r. ⌜ r ≡ packedAnswer (buildAnswer n (now (elements .entry)) (lent (now (v2e .entry)) (now (e2e .entry)) (now (b2e .entry)) (now (work .entry)))) ⌝ }
+    ensures { λ _. ⌜ lent (now (v2e .exit)) (now (e2e .exit)) (now (b2e .exit)) (now (work .exit)) ≡ buildLeaves n (now (elements .entry)) (lent (now (v2e .entry)) (now (e2e .entry)) (now (b2e .entry)) (now (work .entry))) ⌝ }
+{
+    answer::pack(build::build(n, elements, v2e, e2e, b2e, work))
+}
+
+// The half-edge that runs along the same edge the other way.
+#[no_mangle]
+pub extern "C" fn borzhanu_opposite(
+    n: u32,
+    elements: &[u32],
+    v2e: &[u32],
+    e2e: &[u32],
+    b2e: &[u32],
+    code: u32,
+) -> u64
+    ensures { λ r. ⌜ r ≡ packedAnswer (oppositeAnswer (mesh n (now (elements .entry)) (now (v2e .entry)) (now (e2e .entry)) (now (b2e .entry))) code) ⌝ }
+{
+    answer::pack(query::single::opposite(n, elements, v2e, e2e, b2e, code))
+}
+
+// The half-edge after a half-edge, in its element or along the border.
+#[no_mangle]
+pub extern "C" fn borzhanu_next(
+    n: u32,
+    elements: &[u32],
+    v2e: &[u32],
+    e2e: &[u32],
+    b2e: &[u32],
+    code: u32,
+) -> u64
+    ensures { λ r. ⌜ r ≡ packedAnswer (nextAnswer (mesh n (now (elements .entry)) (now (v2e .entry)) (now (e2e .entry)) (now (b2e .entry))) code) ⌝ }
+{
+    answer::pack(query::single::next(n, elements, v2e, e2e, b2e, code))
+}
+
+// The side before a side, in its element.
+#[no_mangle]
+pub extern "C" fn borzhanu_previous(
+    n: u32,
+    elements: &[u32],
+    v2e: &[u32],
+    e2e: &[u32],
+    b2e: &[u32],
+    code: u32,
+) -> u64
+    ensures { λ r. ⌜ r ≡ packedAnswer (previousAnswer (mesh n (now (elements .entry)) (now (v2e .entry)) (now (e2e .entry)) (now (b2e .entry))) code) ⌝ }
+{
+    answer::pack(query::single::previous(n, elements, v2e, e2e, b2e, code))
+}
+
+// The element of a side.
+#[no_mangle]
+pub extern "C" fn borzhanu_element(
+    n: u32,
+    elements: &[u32],
+    v2e: &[u32],
+    e2e: &[u32],
+    b2e: &[u32],
+    code: u32,
+) -> u64
+    ensures { λ r. ⌜ r ≡ packedAnswer (elementAnswer (mesh n (now (elements .entry)) (now (v2e .entry)) (now (e2e .entry)) (now (b2e .entry))) code) ⌝ }
+{
+    answer::pack(query::single::element(n, elements, v2e, e2e, b2e, code))
+}
+
+// The vertex where a half-edge begins.
+#[no_mangle]
+pub extern "C" fn borzhanu_origin(
+    n: u32,
+    elements: &[u32],
+    v2e: &[u32],
+    e2e: &[u32],
+    b2e: &[u32],
+    code: u32,
+) -> u64
+    ensures { λ r. ⌜ r ≡ packedAnswer (originAnswer (mesh n (now (elements .entry)) (now (v2e .entry)) (now (e2e .entry)) (now (b2e .entry))) code) ⌝ }
+{
+    answer::pack(query::single::origin(n, elements, v2e, e2e, b2e, code))
+}
+
+// The vertex where a half-edge ends.
+#[no_mangle]
+pub extern "C" fn borzhanu_destination(
+    n: u32,
+    elements: &[u32],
+    v2e: &[u32],
+    e2e: &[u32],
+    b2e: &[u32],
+    code: u32,
+) -> u64
+    ensures { λ r. ⌜ r ≡ packedAnswer (destinationAnswer (mesh n (now (elements .entry)) (now (v2e .entry)) (now (e2e .entry)) (now (b2e .entry))) code) ⌝ }
+{
+    answer::pack(query::single::destination(n, elements, v2e, e2e, b2e, code))
+}
+
+// The element on the other side of a side, or 0 at a border.
+#[no_mangle]
+pub extern "C" fn borzhanu_across(
+    n: u32,
+    elements: &[u32],
+    v2e: &[u32],
+    e2e: &[u32],
+    b2e: &[u32],
+    code: u32,
+) -> u64
+    ensures { λ r. ⌜ r ≡ packedAnswer (acrossAnswer (mesh n (now (elements .entry)) (now (v2e .entry)) (now (e2e .entry)) (now (b2e .entry))) code) ⌝ }
+{
+    answer::pack(query::single::across(n, elements, v2e, e2e, b2e, code))
+}
+
+// 1 for a border half-edge, 0 for a side.
+#[no_mangle]
+pub extern "C" fn borzhanu_halfedge_is_border(
+    n: u32,
+    elements: &[u32],
+    v2e: &[u32],
+    e2e: &[u32],
+    b2e: &[u32],
+    code: u32,
+) -> u64
+    ensures { λ r. ⌜ r ≡ packedAnswer (halfEdgeBorderAnswer (mesh n (now (elements .entry)) (now (v2e .entry)) (now (e2e .entry)) (now (b2e .entry))) code) ⌝ }
+{
+    answer::pack(query::single::halfedge_is_border(n, elements, v2e, e2e, b2e, code))
+}
+
+// 1 for a vertex on a border, 0 for another.
+#[no_mangle]
+pub extern "C" fn borzhanu_vertex_is_border(
+    n: u32,
+    elements: &[u32],
+    v2e: &[u32],
+    e2e: &[u32],
+    b2e: &[u32],
+    v: u32,
+) -> u64
+    ensures { λ r. ⌜ r ≡ packedAnswer (vertexBorderAnswer (mesh n (now (elements .entry)) (now (v2e .entry)) (now (e2e .entry)) (now (b2e .entry))) v) ⌝ }
+{
+    answer::pack(query::single::vertex_is_border(n, elements, v2e, e2e, b2e, v))
+}
+
+// The elements about a vertex, in turn order.
+#[no_mangle]
+pub extern "C" fn borzhanu_ring(
+    n: u32,
+    elements: &[u32],
+    v2e: &[u32],
+    e2e: &[u32],
+    b2e: &[u32],
+    v: u32,
+    out: &mut [u32],
+) -> u64
+    ensures { λ r. ⌜ r ≡ packedAnswer (ringAnswer (mesh n (now (elements .entry)) (now (v2e .entry)) (now (e2e .entry)) (now (b2e .entry))) v (now (out .entry))) ⌝ }
+    ensures { λ _. ⌜ now (out .exit) ≡ ringLeaves (mesh n (now (elements .entry)) (now (v2e .entry)) (now (e2e .entry)) (now (b2e .entry))) v (now (out .entry)) ⌝ }
+{
+    answer::pack(query::listed::ring(n, elements, v2e, e2e, b2e, v, out))
+}
+
+// The vertices joined to a vertex by an edge, in turn order.
+#[no_mangle]
+pub extern "C" fn borzhanu_neighbours(
+    n: u32,
+    elements: &[u32],
+    v2e: &[u32],
+    e2e: &[u32],
+    b2e: &[u32],
+    v: u32,
+    out: &mut [u32],
+) -> u64
+    ensures { λ r. ⌜ r ≡ packedAnswer (neighboursAnswer (mesh n (now (elements .entry)) (now (v2e .entry)) (now (e2e .entry)) (now (b2e .entry))) v (now (out .entry))) ⌝ }
+    ensures { λ _. ⌜ now (out .exit) ≡ neighboursLeaves (mesh n (now (elements .entry)) (now (v2e .entry)) (now (e2e .entry)) (now (b2e .entry))) v (now (out .entry)) ⌝ }
+{
+    answer::pack(query::listed::neighbours(n, elements, v2e, e2e, b2e, v, out))
+}
+
+// The border numbers of one hole, from b on.
+#[no_mangle]
+pub extern "C" fn borzhanu_border_loop(
+    n: u32,
+    elements: &[u32],
+    v2e: &[u32],
+    e2e: &[u32],
+    b2e: &[u32],
+    b: u32,
+    out: &mut [u32],
+) -> u64
+    ensures { λ r. ⌜ r ≡ packedAnswer (borderLoopAnswer (mesh n (now (elements .entry)) (now (v2e .entry)) (now (e2e .entry)) (now (b2e .entry))) b (now (out .entry))) ⌝ }
+    ensures { λ _. ⌜ now (out .exit) ≡ borderLoopLeaves (mesh n (now (elements .entry)) (now (v2e .entry)) (now (e2e .entry)) (now (b2e .entry))) b (now (out .entry)) ⌝ }
+{
+    answer::pack(query::listed::border_loop(n, elements, v2e, e2e, b2e, b, out))
+}
+
+// The walker, three numbers, is set to the start of the ring of v.
+#[no_mangle]
+pub extern "C" fn borzhanu_walker_start(
+    n: u32,
+    elements: &[u32],
+    v2e: &[u32],
+    e2e: &[u32],
+    b2e: &[u32],
+    v: u32,
+    walker: &mut [u32; 3],
+) -> u64
+    ensures { λ r. ⌜ r ≡ packedAnswer (walkerStart (mesh n (now (elements .entry)) (now (v2e .entry)) (now (e2e .entry)) (now (b2e .entry))) v (walkerIn (now (walker .entry))) .answer) ⌝ }
+    ensures { λ _. ⌜ now (walker .exit) ≡ entriesOf (walkerStart (mesh n (now (elements .entry)) (now (v2e .entry)) (now (e2e .entry)) (now (b2e .entry))) v (walkerIn (now (walker .entry))) .walker) ⌝ }
+{
+    let start = walker[0];
+    let following = walker[1];
+    let handed = walker[2];
+    let moved = query::walker::start_at(start, following, handed, n, elements, v2e, e2e, b2e, v);
+    *walker = [moved.start, moved.following, moved.handed];
+    let answered = moved.answer;
+    answer::pack(answered)
+}
+
+// The walker's element, 0 after the ring's last; the walker moves on.
+#[no_mangle]
+pub extern "C" fn borzhanu_walker_step(
+    n: u32,
+    elements: &[u32],
+    v2e: &[u32],
+    e2e: &[u32],
+    b2e: &[u32],
+    walker: &mut [u32; 3],
+) -> u64
+    ensures { λ r. ⌜ r ≡ packedAnswer (walkerStep (mesh n (now (elements .entry)) (now (v2e .entry)) (now (e2e .entry)) (now (b2e .entry))) (walkerIn (now (walker .entry))) .answer) ⌝ }
+    ensures { λ _. ⌜ now (walker .exit) ≡ entriesOf (walkerStep (mesh n (now (elements .entry)) (now (v2e .entry)) (now (e2e .entry)) (now (b2e .entry))) (walkerIn (now (walker .entry))) .walker) ⌝ }
+{
+    let start = walker[0];
+    let following = walker[1];
+    let handed = walker[2];
+    let moved = query::walker::step_at(start, following, handed, n, elements, v2e, e2e, b2e);
+    *walker = [moved.start, moved.following, moved.handed];
+    let answered = moved.answer;
+    answer::pack(answered)
+}

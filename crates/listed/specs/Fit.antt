@@ -1,0 +1,225 @@
+-- Buffers of fit lengths, and the lines by cases.
+-- Assumes nothing.
+use mathlib.Core.Bool.{true, false}
+use mathlib.Core.List.{List, _++_}
+use mathlib.Core.Path.{_≡_, refl, ap, sym, subst, _∙_}
+use Prim.Native.Nat.{ℕ, _+_, _*_, _/_, _≤_}
+use native.Mathlib.Omega.{arith}
+use borrow.Author.Tests.{eq-eqb, ne-eqb}
+use mathlib.Core.Logic.{_⊎_, inl, inr}
+use lib.Dec.{eqb, leb}
+use lib.ListN.{length, take, drop, length-append, length-drop}
+use lib.Seq.{take-at, take-all, length-take-le}
+use Rattle.lists.specs.TestLaws.{true-of, both-pass, means-both, means-eq, means-le, decide}
+use Rattle.lists.specs.SearchLaws.{length-tab}
+use Rattle.rules.specs.Elements.{elements}
+use Rattle.rules.specs.Pairing.{sizesFit}
+use Rattle.rules.specs.Tables.{borders, v2e, e2e, b2e}
+use Rattle.rules.specs.Refusals.{Answer, gives, refused, Buffers, callSizes, callLengths, lengthChecks, roomCheck, listAnswer, buildAnswer, buildLeaves, after, onto}
+use Rattle.theory.specs.Answers.{room-enough}
+use Rattle.theory.specs.Built.{borders-bound}
+use Rattle.theory.specs.Entries.{length-v2e, length-e2e, length-b2e}
+use Rattle.theory.specs.Sides.{means-sizes}
+use Rattle.build.specs.Building.{counts-are, lent}
+use Rattle.text.specs.Form.{firstBad, theN, theM, theList, theNumber}
+use Rattle.text.specs.FormLaws.{head-bounds, form-head}
+use Rattle.text.specs.FirstBytes.{first-bytes, form-short}
+use Rattle.text.specs.Reading.{parsed, listAfter, parsed-bad, parsed-form}
+use Rattle.text.specs.declared.Parsed.{Parsed}
+use Rattle.text.specs.declared.Parsed.the-variants.{Mesh, Bad, Short}
+use Rattle.text.specs.Lines.{Written, tableLines, refusalLine, shownIf, shownTables, shownRefusal}
+use Rattle.text.specs.LineLaws.{has-room}
+use Rattle.listed.specs.Listing.{answerLines, meshLines, listing}
+
+-- a mesh of at most 200 vertices and 200 elements, with buffers of fit lengths and room for every border side
+pub record Fits (n : ℕ) (L : List ℕ) (w : Buffers) : Type 0 where
+  pub few : n ≤ 200
+  pub small : elements L ≤ 200
+  pub fours : length L ≡ 4 * elements L
+  pub vertices : length (w .vertices) ≡ n
+  pub opposites : length (w .opposites) ≡ length L
+  pub border : length L ≤ length (w .border)
+  pub work : n + 16 * elements L ≤ length (w .work)
+
+module _ (n : ℕ) (L : List ℕ) (w : Buffers) (fit : Fits n L w) where
+  sized : callSizes n L (w .opposites) ≡ true
+  unfolding callSizes
+  sized =
+      let few : n ≤ 1_000_000 = omega (arith, fit .few) in
+      let small : elements L ≤ 1_000_000 = omega (arith, fit .small) in
+      let fours : length (w .opposites) ≡ 4 * elements (w .opposites) = omega (arith, fit .opposites, fit .fours) in
+      true-of _
+      (both-pass (sizesFit n L) (eqb (length (w .opposites)) (4 * elements (w .opposites)))
+      (means-sizes n L .shows (few, (small, fit .fours)))
+      (means-eq (length (w .opposites)) (4 * elements (w .opposites)) .shows fours))
+
+  lengthened : callLengths n L (w .opposites) (w .vertices) (w .work) ≡ true
+  unfolding callLengths
+  lengthened =
+      true-of _
+      (means-both (means-eq (length (w .vertices)) n)
+      (means-both (means-eq (length (w .opposites)) (4 * elements L)) (means-le (n + 16 * elements L) (length (w .work)))) .shows
+      (fit .vertices, (fit .opposites ∙ fit .fours, fit .work)))
+
+  roomy : roomCheck (length (w .border)) (listAnswer n L) ≡ listAnswer n L
+  unfolding roomCheck
+  roomy = go (listAnswer n L) refl
+    where
+      go : (a : Answer) → listAnswer n L ≡ a → roomCheck (length (w .border)) a ≡ a
+      go (gives k e) g = room-enough (length (w .border)) k e (omega (arith, counts-are n L k e g, borders-bound L, fit .border))
+      go (refused r a b) g = refl
+
+  -- of build's refusals only 3 to 8 can come
+  pub fit-answer : buildAnswer n L w ≡ listAnswer n L
+  unfolding buildAnswer lengthChecks
+  fit-answer =
+      let e : buildAnswer n L w ≡ roomCheck (length (w .border)) (listAnswer n L) = rw (sized, lengthened, lengthChecks) in e ∙ roomy
+
+  -- a refusal is shown as it is
+  pub refusal-shown : (size r a b : ℕ) → 22_022 ≤ size → refused r a b ≡ buildAnswer n L w → shownRefusal size r a b ≡ meshLines n L
+  unfolding meshLines answerLines
+  refusal-shown size r a b h e =
+      ap (λ x. shownIf x (refusalLine r a b)) (has-room size 0 3 (omega arith)) ∙ ap (answerLines n L) (e ∙ fit-answer)
+
+  -- after counts the tables are in their buffers
+  module _ (k e : ℕ) (V2e E2e B2e work : List ℕ) (given : gives k e ≡ buildAnswer n L w) (left : lent V2e E2e B2e work ≡ buildLeaves n L w) where
+    count : k ≡ borders L
+    count = counts-are n L k e (sym fit-answer ∙ sym given)
+
+    vertices-are : V2e ≡ v2e n L
+    unfolding buildLeaves after
+    vertices-are = ap (λ (x : Buffers). x .vertices) left ∙ ap (λ (a : Answer). after a (v2e n L) (w .vertices)) (sym given)
+
+    opposites-are : E2e ≡ e2e L
+    unfolding buildLeaves after
+    opposites-are = ap (λ (x : Buffers). x .opposites) left ∙ ap (λ (a : Answer). after a (e2e L) (w .opposites)) (sym given)
+
+    border-is : B2e ≡ b2e L ++ drop (length (b2e L)) (w .border)
+    unfolding buildLeaves after onto
+    border-is = ap (λ (x : Buffers). x .border) left ∙ ap (λ (a : Answer). after a (onto (b2e L) (w .border)) (w .border)) (sym given)
+
+    pub border-long : k ≤ length B2e
+    border-long = rw (border-is, length-append) (omega (arith, count, length-b2e L))
+
+    cut : take k B2e ≡ b2e L
+    cut = ap (take k) border-is ∙ take-at (b2e L) (drop (length (b2e L)) (w .border)) k (length-b2e L ∙ sym count)
+
+    lines : tableLines V2e E2e (take k B2e) ≡ meshLines n L
+    unfolding meshLines answerLines
+    lines = rw (vertices-are, opposites-are, cut) (ap (answerLines n L) (given ∙ fit-answer))
+
+    pub tables-shown : (size : ℕ) → 22_022 ≤ size → shownTables size V2e E2e (take k B2e) ≡ meshLines n L
+    tables-shown size h =
+        let v : length V2e ≡ n = ap length vertices-are ∙ length-v2e L n in
+        let o : length E2e ≡ 4 * elements L = ap length opposites-are ∙ length-e2e L in
+        let b : length (take k B2e) ≡ borders L = ap length cut ∙ length-b2e L in
+        ap (λ x. shownIf x (tableLines V2e E2e (take k B2e)))
+        (has-room size 0 (length V2e + length (take k B2e) + 5 * elements E2e + 1) (omega (arith, v, o, b, borders-bound L, fit .few, fit .small, fit .fours)))
+        ∙ lines
+
+-- the lines of a text by cases
+module _ (t : List ℕ) where
+  pub listing-bad : (firstBad t ≡ 0 → ⊥) → listing t ≡ refusalLine 14 (firstBad t) 0
+  unfolding listing
+  listing-bad d = rw (ne-eqb (firstBad t) 0 d, listing)
+
+  pub listing-form : firstBad t ≡ 0 → listing t ≡ meshLines (theN t) (theList t)
+  unfolding listing
+  listing-form e = rw (eq-eqb (firstBad t) 0 e, listing)
+
+  pub length-list : length (theList t) ≡ 4 * theM t
+  unfolding theList
+  length-list = length-tab (4 * theM t) (theNumber t)
+
+-- what is known of a mesh that was read into the list L
+pub record Read (t L : List ℕ) (n m : ℕ) : Type 0 where
+  pub form : firstBad t ≡ 0
+  pub few : n ≤ 200
+  pub small : m ≤ 200
+  pub vertices : n ≡ theN t
+  pub rows : take (4 * m) L ≡ theList t
+  pub long : length L ≡ 800
+  pub fours : length (theList t) ≡ 4 * m
+
+-- with room for 800 entries a text in form gives a mesh, and any other its first bad line
+module _ (t L : List ℕ) (p : Parsed) (room : length L ≡ 800) (said : p ≡ parsed t (length L)) where
+  form-or-bad : ((firstBad t ≡ 0) × (p ≡ Mesh (theN t) (theM t))) ⊎ ((firstBad t ≡ 0 → ⊥) × (p ≡ Bad (firstBad t)))
+  form-or-bad = elim (decide (means-eq (firstBad t) 0)) [
+    | inl e ↦ inl (e, said ∙ parsed-form t (length L) (omega arith) e)
+    | inr d ↦ inr (d, said ∙ parsed-bad t (length L) d)
+  ]
+
+  pub read-mesh : (L′ : List ℕ) (n m : ℕ) → p ≡ Mesh n m → L′ ≡ listAfter p t L → Read t L′ n m
+  unfolding listAfter
+  read-mesh L′ n m e f = go form-or-bad
+    where
+      go : ((firstBad t ≡ 0) × (p ≡ Mesh (theN t) (theM t))) ⊎ ((firstBad t ≡ 0 → ⊥) × (p ≡ Bad (firstBad t))) → Read t L′ n m
+      go (inr (d, g)) = let z : _≡_ {A = ℕ} 0 1 = cc in absurd (omega arith)
+      go (inl (z, g)) =
+          let h = head-bounds t (form-head t z) in
+          let a : n ≡ theN t = cc in
+          let b : m ≡ theM t = cc in
+          let l : length (theList t) ≡ 4 * m = length-list t ∙ ap (λ (i : ℕ). 4 * i) (sym b) in
+          let r : L′ ≡ theList t ++ drop (4 * m) L = f ∙ ap (λ (q : Parsed). listAfter q t L) e in
+          record {
+            form = z;
+            few = omega (arith, h, a);
+            small = omega (arith, h, b);
+            vertices = a;
+            rows = ap (take (4 * m)) r ∙ take-at (theList t) (drop (4 * m) L) (4 * m) l;
+            long = rw (r, length-append, length-drop) (omega (arith, l, h, b));
+            fours = l;
+          }
+
+  pub bad-shown : (size line : ℕ) → 22_022 ≤ size → p ≡ Bad line → shownRefusal size 14 line 0 ≡ listing t
+  bad-shown size line h e = go form-or-bad
+    where
+      go : ((firstBad t ≡ 0) × (p ≡ Mesh (theN t) (theM t))) ⊎ ((firstBad t ≡ 0 → ⊥) × (p ≡ Bad (firstBad t))) → shownRefusal size 14 line 0 ≡ listing t
+      go (inl (z, g)) = let z : _≡_ {A = ℕ} 0 1 = cc in absurd (omega arith)
+      go (inr (d, g)) =
+          let a : line ≡ firstBad t = cc in
+          ap (λ x. shownIf x (refusalLine 14 line 0)) (has-room size 0 3 (omega arith))
+          ∙ ap (λ (i : ℕ). refusalLine 14 i 0) a
+          ∙ sym (listing-bad t d)
+
+  pub never-short : p ≡ Short → ⊥
+  never-short e = go form-or-bad
+    where
+      go : ((firstBad t ≡ 0) × (p ≡ Mesh (theN t) (theM t))) ⊎ ((firstBad t ≡ 0 → ⊥) × (p ≡ Bad (firstBad t))) → ⊥
+      go (inl (z, g)) = let z : _≡_ {A = ℕ} 0 1 = cc in omega arith
+      go (inr (d, g)) = let z : _≡_ {A = ℕ} 0 1 = cc in omega arith
+
+-- the mesh that was read, with parts v and e long of buffers for the largest mesh
+module _ (t L : List ℕ) (n m v e : ℕ) (known : Read t L n m) (vs : v ≡ n) (es : e ≡ 4 * m) where
+  rows-are : take e L ≡ theList t
+  rows-are = ap (λ (i : ℕ). take i L) es ∙ known .rows
+
+  pub mesh-is : meshLines n (take e L) ≡ listing t
+  mesh-is = ap (meshLines n) rows-are ∙ ap (λ (i : ℕ). meshLines i (theList t)) (known .vertices) ∙ sym (listing-form t (known .form))
+
+  pub inside : (v ≤ 200) × (e ≤ 800)
+  inside = (omega (arith, known .few), omega (arith, known .small))
+
+  pub fits : (V2e E2e B2e work : List ℕ) → length V2e ≡ 200 → length E2e ≡ 800 → length B2e ≡ 800 → length work ≡ 3_400 → Fits n (take e L) (lent (take v V2e) (take e E2e) B2e work)
+  fits V2e E2e B2e work a b c d =
+      let l : length (take e L) ≡ 4 * m = ap length rows-are ∙ known .fours in
+      record {
+        few = known .few;
+        small = omega (arith, l, known .small);
+        fours = omega (arith, l);
+        vertices = length-take-le v V2e (omega (arith, inside)) ∙ vs;
+        opposites = length-take-le e E2e (omega (arith, inside)) ∙ es ∙ sym l;
+        border = omega (arith, l, known .small);
+        work = omega (arith, l, known .small, known .few);
+      }
+
+-- what is written is what was to be
+pub written-as : (l : List ℕ) {w s v : List ℕ} {r : ℕ} → s ≡ v → Written l 0 s w r → Written l 0 v w r
+written-as l {w} {r} e h = subst (λ (x : List ℕ). Written l 0 x w r) e h
+
+-- the first 8,192 bytes of a text tell what is printed for it, so the program reads no more
+pub listing-first-bytes : (t : List ℕ) → listing (take 8192 t) ≡ listing t
+listing-first-bytes t = elim (decide (means-eq (firstBad t) 0)) [
+  | inl e ↦ ap listing (take-all 8192 t (omega (arith, form-short t e)))
+  | inr d ↦ listing-bad (take 8192 t) (λ z. d (sym (first-bytes t) ∙ z)) ∙ ap (λ (i : ℕ). refusalLine 14 i 0) (first-bytes t) ∙ sym (listing-bad t d)
+]
