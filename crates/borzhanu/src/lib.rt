@@ -1,7 +1,7 @@
 // The exported calls. Each answers in one 64-bit number: the refusal's number (0: an answer), and two numbers beside it.
 ghost use mathlib.Core.Path.{_≡_};
 ghost use Rattle.answer.specs.Numbers.{packedAnswer};
-ghost use Rattle.rules.specs.Refusals.{buildAnswer, buildLeaves};
+ghost use Rattle.rules.specs.Refusals.{buildAnswer, buildLeaves, recoverAnswer, recoverList, recoverWork};
 ghost use Rattle.rules.specs.Queries.{oppositeAnswer, nextAnswer, previousAnswer, elementAnswer, originAnswer, destinationAnswer, acrossAnswer, halfEdgeBorderAnswer, vertexBorderAnswer, ringAnswer, ringLeaves, neighboursAnswer, neighboursLeaves, borderLoopAnswer, borderLoopLeaves, walkerStart, walkerStep};
 ghost use Rattle.build.specs.Building.{lent};
 ghost use Rattle.query.specs.Meshes.{mesh};
@@ -21,6 +21,22 @@ pub extern "C" fn borzhanu_build(
     ensures { λ _. ⌜ lent (now (v2e .exit)) (now (e2e .exit)) (now (b2e .exit)) (now (work .exit)) ≡ buildLeaves n (now (elements .entry)) (lent (now (v2e .entry)) (now (e2e .entry)) (now (b2e .entry)) (now (work .entry))) ⌝ }
 {
     answer::pack(build::build(n, elements, v2e, e2e, b2e, work))
+}
+
+// The accepted element list that has exactly these tables.
+#[no_mangle]
+pub extern "C" fn borzhanu_recover(
+    n: u32,
+    v2e: &[u32],
+    e2e: &[u32],
+    elements: &mut [u32],
+    work: &mut [u32],
+) -> u64
+    ensures { λ r. ⌜ r ≡ packedAnswer (recoverAnswer n (now (v2e .entry)) (now (e2e .entry)) (now (elements .entry)) (now (work .entry))) ⌝ }
+    ensures { λ _. ⌜ now (elements .exit) ≡ recoverList n (now (v2e .entry)) (now (e2e .entry)) (now (elements .entry)) (now (work .entry)) ⌝ }
+    ensures { λ _. ⌜ now (work .exit) ≡ recoverWork n (now (v2e .entry)) (now (e2e .entry)) (now (elements .entry)) (now (work .entry)) ⌝ }
+{
+    answer::pack(recover::recover(n, v2e, e2e, elements, work))
 }
 
 // The half-edge that runs along the same edge the other way.

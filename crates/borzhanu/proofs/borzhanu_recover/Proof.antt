@@ -1,0 +1,28 @@
+-- `borzhanu::borzhanu_recover` meets its contract: what the call answers, packed.
+-- Assumes nothing.
+use mathlib.Core.Path.{ap, _∙_}
+use borrow.Author.Needs.{needs}
+use Rattle.answer.specs.Numbers.{packedAnswer}
+use Rattle.borzhanu.proofs.borzhanu_recover.Statement.{statement}
+use Rattle.borzhanu.proofs.borzhanu_recover.Tie as tie
+
+recover-requires : tie.Need-recover-requires
+recover-requires c κs = search needs
+
+pack-requires : tie.Need-pack-requires
+pack-requires c κs = search needs
+
+same-length : tie.Need-same-length
+same-length c = search needs
+
+same-length-2 : tie.Need-same-length-2
+same-length-2 c = search needs
+
+returns : tie.Need-returns
+returns c =
+    let recovered = c .before .before .before .before .before .recover .ensures in
+    (c .pack .ensures ∙ ap packedAnswer (recovered .0), recovered .1)
+
+pub borzhanu-recover-spec : {M : Type 1} → statement M
+borzhanu-recover-spec =
+    tie.close (tie.spec recover-requires pack-requires same-length same-length-2 returns)
