@@ -15,6 +15,7 @@ use Rattle.lists.specs.SearchLaws.{zeros-set}
 use Rattle.lists.specs.Parts.{part, part-take}
 use Rattle.rules.specs.Elements.{isSide, Side, slot}
 use Rattle.rules.specs.Recovery.{turnBy, trace}
+use Rattle.theory.specs.Sides.{side-facts}
 use Rattle.walk.specs.Layout.{Sizes, tables, written, e2eIn, Traced}
 use Rattle.walk.specs.Sides.{slot-in}
 
@@ -54,6 +55,11 @@ module _ (E : List ℕ) (v : ℕ) (positive : v ≡ 0 → ⊥) (s : ℕ) (W : Li
       go : (k : ℕ) → trace k E v s W ≡ W
       go zero = refl
       go (suc k) = rw (e, trace)
+
+-- 0 is no side
+none-there : (E W : List ℕ) → both (isSide E 0) (eqb (at W (slot 0)) 0) ≡ false
+none-there E W =
+    let e : isSide E 0 ≡ false = false-of (isSide E 0) (not-T (isSide E 0) (λ a. omega (arith, side-facts E 0 a))) in rw e
 
 -- the tables kept, E2e is kept
 pub e-kept : (n m : ℕ) (w w′ : List ℕ) → Sizes n m w → length w′ ≡ length w → tables n m w′ ≡ tables n m w → e2eIn n m w′ ≡ e2eIn n m w
@@ -132,4 +138,16 @@ module _ (n m v s : ℕ) (w : List ℕ) (z : Sizes n m w) (positive : 1 ≤ v) w
               rest =
                   rw (new-written, e ∙ ap (λ (X : List ℕ). turnBy X t) (next-e ∙ same))
                   (sym (trace-on (e2eIn n m w) v (λ q. omega arith) t (written n m w′) inside (open-now true opens) empty) ∙ k .rest);
+            }
+
+        -- no turn: the trace is over
+        pub tracing-over : 0 ≡ turnBy (e2eIn n m (set w′ p v)) t → Traced n m v s w (set w′ p v)
+        tracing-over e =
+            let k′ = tracing-on 0 e in
+            record {
+              kept = k′ .kept;
+              new =
+                  sym (trace-off (e2eIn n m w) v (λ q. omega arith) 0 (written n m (set w′ p v)) (none-there (e2eIn n m w) (written n m (set w′ p v))))
+                  ∙ k′ .rest;
+              long = k′ .long;
             }

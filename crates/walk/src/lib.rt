@@ -9,6 +9,7 @@ ghost use Rattle.lists.specs.Tests.{both};
 ghost use Rattle.lists.specs.Search.{at, zeros};
 ghost use Rattle.rules.specs.Elements.{Side, isSide, next, slot};
 ghost use Rattle.rules.specs.Recovery.{walkStart, turnBy};
+ghost use Rattle.walk.specs.Steps.{sideOf};
 ghost use Rattle.walk.specs.Layout.{Sizes, tables, written, v2eIn, e2eIn, Linked, Traced, Walking};
 
 fn wide(x: u32) -> usize
@@ -63,16 +64,22 @@ fn next_side(n: usize, m: usize, work: &[u32], c: u32) -> u32
     c + 1
 }
 
-// The turn of s by E2e; 0 where it has none.
-fn turn(n: usize, m: usize, work: &[u32], s: u32) -> u32
+// Where the walk goes from a side.
+enum Step {
+    On(u32),
+    Over,
+}
+
+// To the turn of s by E2e, where it has one.
+fn turn(n: usize, m: usize, work: &[u32], s: u32) -> Step
     requires { ⌜ Sizes n m (now work) × Side (e2eIn n m (now work)) s ⌝ }
-    ensures { λ r. ⌜ r ≡ turnBy (e2eIn n m (now (work .entry))) s ⌝ }
+    ensures { λ r. ⌜ sideOf r ≡ turnBy (e2eIn n m (now (work .entry))) s ⌝ }
 {
     let t = work[n + halfedge::slot_of(s)];
     if !is_side(n, m, work, t) {
-        return 0;
+        return Step::Over;
     }
-    next_side(n, m, work, t)
+    Step::On(next_side(n, m, work, t))
 }
 
 // The side where the walk about v begins; 0 where there is none.
@@ -121,7 +128,11 @@ fn trace(n: usize, m: usize, v: u32, s: u32, work: &mut [u32])
     while is_open(n, m, work, t) {
         let p = n + 8 * m + halfedge::slot_of(t);
         work[p] = v;
-        t = turn(n, m, work, t);
+        let step = turn(n, m, work, t);
+        let Step::On(next) = step else {
+            return;
+        };
+        t = next;
     }
 }
 

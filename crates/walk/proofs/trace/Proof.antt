@@ -6,11 +6,13 @@ use Prim.Native.Nat.{ℕ, _+_, _*_, _<_}
 use native.Mathlib.Omega.{arith}
 use borrow.Author.Needs.{needs}
 use lib.Dec.{eqb}
+use lib.ListN.{length-set}
 use Rattle.lists.specs.Tests.{both}
 use Rattle.lists.specs.Search.{at, zeros}
 use Rattle.rules.specs.Elements.{isSide, slot}
 use Rattle.walk.specs.Layout.{written, e2eIn}
-use Rattle.walk.specs.Traces.{Tracing, tracing-start, sizes-on, tracing-end, place-in, next-sizes, next-side, fewer, tracing-on}
+use Rattle.walk.specs.Steps.{sideOf}
+use Rattle.walk.specs.Traces.{Tracing, tracing-start, sizes-on, tracing-end, place-in, next-sizes, next-side, fewer, tracing-on, tracing-over}
 use Rattle.walk.proofs.trace.Statement.{statement}
 use Rattle.walk.proofs.trace.Tie as tie
 
@@ -62,17 +64,29 @@ slice-write-work c = omega (arith, c .before .before .before .before .before .be
 turn-requires : tie.Need-turn-requires Inv-loop μ-loop
 turn-requires c κs = (next-sizes (c .before .before .before .before .before .before .before .args .n) (c .before .before .before .before .before .before .before .args .m) (c .before .before .before .before .before .before .before .args .v) (c .before .before .before .before .before .before .before .args .s) (c .before .before .before .before .before .before .before .args .work .now) (c .before .before .before .before .before .before .before .pre .0) (c .before .before .before .before .before .before .before .pre .1) (c .before .before .before .before .before .loop .work) (c .before .before .before .before .before .loop .t) (c .before .before .before .before .before .loop .inv) (opens (c .before)) (p (c .before)) (placed (c .before)), next-side (c .before .before .before .before .before .before .before .args .n) (c .before .before .before .before .before .before .before .args .m) (c .before .before .before .before .before .before .before .args .v) (c .before .before .before .before .before .before .before .args .s) (c .before .before .before .before .before .before .before .args .work .now) (c .before .before .before .before .before .before .before .pre .0) (c .before .before .before .before .before .before .before .pre .1) (c .before .before .before .before .before .loop .work) (c .before .before .before .before .before .loop .t) (c .before .before .before .before .before .loop .inv) (opens (c .before)) (p (c .before)) (placed (c .before)))
 
-loop-less : tie.Need-loop-less Inv-loop μ-loop
-loop-less c = fewer (c .before .before .before .before .before .before .before .before .args .n) (c .before .before .before .before .before .before .before .before .args .m) (c .before .before .before .before .before .before .before .before .args .v) (c .before .before .before .before .before .before .before .before .args .s) (c .before .before .before .before .before .before .before .before .args .work .now) (c .before .before .before .before .before .before .before .before .pre .0) (c .before .before .before .before .before .before .before .before .pre .1) (c .before .before .before .before .before .before .loop .work) (c .before .before .before .before .before .before .loop .t) (c .before .before .before .before .before .before .loop .inv) (opens (c .before .before)) (p (c .before .before)) (placed (c .before .before))
+enum-known-step : tie.Need-enum-known-step Inv-loop μ-loop
+enum-known-step c = search needs
 
-loop-again : tie.Need-loop-again Inv-loop μ-loop
-loop-again c = tracing-on (c .before .before .before .before .before .before .before .before .args .n) (c .before .before .before .before .before .before .before .before .args .m) (c .before .before .before .before .before .before .before .before .args .v) (c .before .before .before .before .before .before .before .before .args .s) (c .before .before .before .before .before .before .before .before .args .work .now) (c .before .before .before .before .before .before .before .before .pre .0) (c .before .before .before .before .before .before .before .before .pre .1) (c .before .before .before .before .before .before .loop .work) (c .before .before .before .before .before .before .loop .t) (c .before .before .before .before .before .before .loop .inv) (opens (c .before .before)) (p (c .before .before)) (placed (c .before .before)) (c .turn .result) (c .turn .ensures)
+enum-told : tie.Need-enum-told Inv-loop μ-loop
+enum-told c = search needs
 
 same-length : tie.Need-same-length Inv-loop μ-loop
-same-length c = c .before .before .before .loop .inv .long
+same-length c = simp length-set (c .before .before .before .before .before .before .before .before .loop .inv .long)
 
 returns : tie.Need-returns Inv-loop μ-loop
-returns c = tracing-end (c .before .before .before .before .before .args .n) (c .before .before .before .before .before .args .m) (c .before .before .before .before .before .args .v) (c .before .before .before .before .before .args .s) (c .before .before .before .before .before .args .work .now) (c .before .before .before .before .before .pre .0) (c .before .before .before .before .before .pre .1) (c .before .before .before .loop .work) (c .before .before .before .loop .t) (c .before .before .before .loop .inv) (sym (c .before .is-open .ensures) ∙ c .if1 .left)
+returns c = tracing-over (c .before .before .before .before .before .before .before .before .before .before .args .n) (c .before .before .before .before .before .before .before .before .before .before .args .m) (c .before .before .before .before .before .before .before .before .before .before .args .v) (c .before .before .before .before .before .before .before .before .before .before .args .s) (c .before .before .before .before .before .before .before .before .before .before .args .work .now) (c .before .before .before .before .before .before .before .before .before .before .pre .0) (c .before .before .before .before .before .before .before .before .before .before .pre .1) (c .before .before .before .before .before .before .before .before .loop .work) (c .before .before .before .before .before .before .before .before .loop .t) (c .before .before .before .before .before .before .before .before .loop .inv) (opens (c .before .before .before .before)) (p (c .before .before .before .before)) (placed (c .before .before .before .before)) (sym (ap sideOf (c .enum-told .given .1)) ∙ c .before .before .turn .ensures)
+
+loop-less : tie.Need-loop-less Inv-loop μ-loop
+loop-less c = fewer (c .before .before .before .before .before .before .before .before .before .before .before .args .n) (c .before .before .before .before .before .before .before .before .before .before .before .args .m) (c .before .before .before .before .before .before .before .before .before .before .before .args .v) (c .before .before .before .before .before .before .before .before .before .before .before .args .s) (c .before .before .before .before .before .before .before .before .before .before .before .args .work .now) (c .before .before .before .before .before .before .before .before .before .before .before .pre .0) (c .before .before .before .before .before .before .before .before .before .before .before .pre .1) (c .before .before .before .before .before .before .before .before .before .loop .work) (c .before .before .before .before .before .before .before .before .before .loop .t) (c .before .before .before .before .before .before .before .before .before .loop .inv) (opens (c .before .before .before .before .before)) (p (c .before .before .before .before .before)) (placed (c .before .before .before .before .before))
+
+loop-again : tie.Need-loop-again Inv-loop μ-loop
+loop-again c = tracing-on (c .before .before .before .before .before .before .before .before .before .before .before .args .n) (c .before .before .before .before .before .before .before .before .before .before .before .args .m) (c .before .before .before .before .before .before .before .before .before .before .before .args .v) (c .before .before .before .before .before .before .before .before .before .before .before .args .s) (c .before .before .before .before .before .before .before .before .before .before .before .args .work .now) (c .before .before .before .before .before .before .before .before .before .before .before .pre .0) (c .before .before .before .before .before .before .before .before .before .before .before .pre .1) (c .before .before .before .before .before .before .before .before .before .loop .work) (c .before .before .before .before .before .before .before .before .before .loop .t) (c .before .before .before .before .before .before .before .before .before .loop .inv) (opens (c .before .before .before .before .before)) (p (c .before .before .before .before .before)) (placed (c .before .before .before .before .before)) _ (sym (ap sideOf (c .before .step .given .1)) ∙ c .before .before .before .turn .ensures)
+
+same-length-2 : tie.Need-same-length-2 Inv-loop μ-loop
+same-length-2 c = c .before .before .before .loop .inv .long
+
+returns-2 : tie.Need-returns-2 Inv-loop μ-loop
+returns-2 c = tracing-end (c .before .before .before .before .before .args .n) (c .before .before .before .before .before .args .m) (c .before .before .before .before .before .args .v) (c .before .before .before .before .before .args .s) (c .before .before .before .before .before .args .work .now) (c .before .before .before .before .before .pre .0) (c .before .before .before .before .before .pre .1) (c .before .before .before .loop .work) (c .before .before .before .loop .t) (c .before .before .before .loop .inv) (sym (c .before .is-open .ensures) ∙ c .if1 .left)
 
 pub trace-spec : {M : Type 1} → statement M
 trace-spec =
@@ -89,7 +103,11 @@ trace-spec =
     mul-work
     slice-write-work
     turn-requires
+    enum-known-step
+    enum-told
+    same-length
+    returns
     loop-less
     loop-again
-    same-length
-    returns)
+    same-length-2
+    returns-2)
