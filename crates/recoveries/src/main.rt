@@ -483,7 +483,6 @@ fn lengths_unfit() {
     show_cut(b"work exact", 4, 4, 8, 8, 36);
     show_cut(b"work long", 4, 4, 8, 8, 60);
     show_cut(b"1 and 2", 4, 3, 7, 8, 0);
-    show_cut(b"2 and 10", 4, 3, 8, 8, 36);
     show_cut(b"empty", 0, 0, 0, 0, 0);
     show_cut(b"vertex and no element", 1, 1, 0, 0, 1);
 }
