@@ -1,8 +1,9 @@
 -- Theorem 6, as theorems about what the calls answer and leave on the built tables of an accepted list, by their contracts.
 --
--- "On built tables opposite undoes itself and 12 never comes, but to a walker record that these calls didn't make on them": and "the ring
--- of a vertex lists every element there exactly once", neighbours the vertices joined to v, next and previous of a side undo each other, and border loop
--- "lists at most k, none twice". "The calls hand out the ring in order, then 0 for ever with the record unchanged".
+-- "On built tables opposite undoes itself and 12 never comes, but to a walker record that these calls didn't make on them"; "the ring of a
+-- vertex lists every element there exactly once"; a border loop "lists at most k, none twice"; a walker's calls "hand out the ring in order,
+-- then 0 for ever with the record unchanged". Also: neighbours are the vertices joined to v, each once, and next and previous of a side undo
+-- each other.
 -- Assumes nothing.
 use mathlib.Core.Path.{_≡_, refl, ap, sym, _∙_}
 use mathlib.Core.Bool.{Bool, true, false}
