@@ -1,6 +1,6 @@
-# What crates/queries must write, worked out from document 01 with a build and queries of its own; from the program only labels and arguments are
-# read. From the top folder: python3 hosts/expected/queries.py crates/queries/src/main.rt | cmp - crates/queries/stdout
-import re,sys
+# What crates/queries must write, worked out from document 01 with a build and queries of its own; of the crate only its cases
+# are read. From the top folder: python3 hosts/expected/queries.py crates/queries/stdin | cmp - crates/queries/stdout
+import sys
 BIG=4294967295
 class R(Exception): pass   # refusal
 def ref(k,a=0,b=0): raise R(k,a,b)
@@ -206,31 +206,23 @@ def steps(M,w):
 def walks(M,end):
     for v in range(end):
         w=[7,7,7]; a=coded(M.wstart,w,v); line("W",[a]+w); steps(M,w)
-def rowsof(t): return [[int(c) for c in w] for w in t.split()]
-def show(label,n,t,ch,at,x,codes,end,room):
+def parts(entries,lengths):
+    for k in lengths:
+        yield entries[:k]; entries=entries[k:]
+# a case is a label and numbers, as the program's first lines say
+for text in open(sys.argv[1]):
+    if ";" not in text: continue
+    label,rest=text.rstrip("\n").split(";",1)
+    numbers=[int(x) for x in rest.replace(";"," ").replace(","," ").split()]
+    kind,a,b,c,codes,end,room,n=numbers[:8]; lengths=numbers[8:12]; entries=numbers[12:]
     out.append(label)
-    rows=rowsof(t); V,E,B,ed=build(n,rows); L=sum(rows,[])
-    line("K",[0,len(B),ed])
-    if ch!="Nothing":
-        d={"List":L,"V2e":V,"E2e":E,"B2e":B}[ch]; d[at]=x
-    m=M(n,L,V,E,B)
+    if kind==1:
+        V,E,B,ed=build(n,[entries[i:i+4] for i in range(0,len(entries),4)])
+        line("K",[0,len(B),ed])
+        t=[entries,V,E,B]
+        if a: t[a-1][b]=c
+    else: t=list(parts(entries,lengths))
+    m=M(n,*t)
+    if kind==3: steps(m,[a,b,c]); continue
     singles(m,codes); lists(m,end,room); walks(m,end)
-def cut(label,n,l,v,e,b):
-    out.append(label)
-    rows=rowsof("1230 1340"); V,E,B,ed=build(4,rows); L=sum(rows,[])
-    m=M(n,(L+[0]*40)[:l],(V+[7]*12)[:v],(E+[7]*40)[:e],(B+[7]*30)[:b])
-    singles(m,11); lists(m,3,11); walks(m,3)
-def rec(label,*w):
-    out.append(label)
-    rows=rowsof("1230 1340"); V,E,B,ed=build(4,rows); L=sum(rows,[])
-    m=M(4,L,V,E,B); w=list(w); steps(m,w)
-# the cases (labels and arguments only) from the program's text
-src=open(sys.argv[1]).read()
-def num(t): return int(t.replace("_",""))
-for mt in re.finditer(r'\b(show|show_cut|show_record)\(\s*b"([^"]*)",(.*?)\)\s*;',src,re.S):
-    k,label,rest=mt.groups()
-    a=[z.strip() for z in rest.split(",") if z.strip()]
-    if k=="show": show(label,num(a[0]),a[1][2:-1],a[2].split("::")[1],*map(num,a[3:]))
-    elif k=="show_cut": cut(label,*map(num,a))
-    else: rec(label,*map(num,a))
 sys.stdout.write("\n".join(out)+"\n")

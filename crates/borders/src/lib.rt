@@ -8,6 +8,7 @@ ghost use lib.ListN.{length};
 ghost use Rattle.rules.specs.Elements.{elements, row, Side, destination, sideAt};
 ghost use Rattle.halfedge.specs.Rows.{rowOf};
 ghost use Rattle.borders.specs.Numbers.{Ready, Numbered, Matched, Numbering, Put, entered};
+use halfedge::wide;
 
 // How many border sides there are, and how many sides.
 pub struct Counts {
@@ -113,10 +114,4 @@ fn row_of(list: &[u32], s: u32) -> [u32; 4]
     let start = wide(4 * (s / 8 - 1));
     let end = start + 4;
     halfedge::row(&list[start..end])
-}
-
-fn wide(x: u32) -> usize
-    ensures { λ r. ⌜ r ≡ x ⌝ }
-{
-    x as usize
 }

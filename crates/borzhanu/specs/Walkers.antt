@@ -4,7 +4,7 @@ use mathlib.Core.List.{List, [], _∷_}
 use Prim.Native.Nat.{ℕ}
 use lib.ListN.{getD}
 use Rattle.rules.specs.Queries.{Walker}
-use Rattle.query.specs.Walkers.{walkerOf}
+use Rattle.walker.specs.Walkers.{walkerOf}
 
 abbrev pub walkerIn : List ℕ → Walker
 walkerIn w = walkerOf (getD w 0 0) (getD w 1 0) (getD w 2 0)

@@ -4,7 +4,7 @@ ghost use Rattle.answer.specs.Numbers.{packedAnswer};
 ghost use Rattle.rules.specs.Refusals.{buildAnswer, buildLeaves, recoverAnswer, recoverList, recoverWork};
 ghost use Rattle.rules.specs.Queries.{oppositeAnswer, nextAnswer, previousAnswer, elementAnswer, originAnswer, destinationAnswer, acrossAnswer, halfEdgeBorderAnswer, vertexBorderAnswer, ringAnswer, ringLeaves, neighboursAnswer, neighboursLeaves, borderLoopAnswer, borderLoopLeaves, walkerStart, walkerStep};
 ghost use Rattle.build.specs.Building.{lent};
-ghost use Rattle.query.specs.Meshes.{mesh};
+ghost use Rattle.reads.specs.Meshes.{mesh};
 ghost use Rattle.borzhanu.specs.Walkers.{walkerIn, entriesOf};
 
 // V2e, E2e and the first k entries of B2e of an element list: k and the number of edges.
@@ -51,7 +51,7 @@ pub extern "C" fn borzhanu_opposite(
 ) -> u64
     ensures { λ r. ⌜ r ≡ packedAnswer (oppositeAnswer (mesh n (now (elements .entry)) (now (v2e .entry)) (now (e2e .entry)) (now (b2e .entry))) code) ⌝ }
 {
-    answer::pack(query::single::opposite(n, elements, v2e, e2e, b2e, code))
+    answer::pack(query::opposite(n, elements, v2e, e2e, b2e, code))
 }
 
 // The half-edge after a half-edge, in its element or along the border.
@@ -66,7 +66,7 @@ pub extern "C" fn borzhanu_next(
 ) -> u64
     ensures { λ r. ⌜ r ≡ packedAnswer (nextAnswer (mesh n (now (elements .entry)) (now (v2e .entry)) (now (e2e .entry)) (now (b2e .entry))) code) ⌝ }
 {
-    answer::pack(query::single::next(n, elements, v2e, e2e, b2e, code))
+    answer::pack(query::next(n, elements, v2e, e2e, b2e, code))
 }
 
 // The side before a side, in its element.
@@ -81,7 +81,7 @@ pub extern "C" fn borzhanu_previous(
 ) -> u64
     ensures { λ r. ⌜ r ≡ packedAnswer (previousAnswer (mesh n (now (elements .entry)) (now (v2e .entry)) (now (e2e .entry)) (now (b2e .entry))) code) ⌝ }
 {
-    answer::pack(query::single::previous(n, elements, v2e, e2e, b2e, code))
+    answer::pack(query::previous(n, elements, v2e, e2e, b2e, code))
 }
 
 // The element of a side.
@@ -96,7 +96,7 @@ pub extern "C" fn borzhanu_element(
 ) -> u64
     ensures { λ r. ⌜ r ≡ packedAnswer (elementAnswer (mesh n (now (elements .entry)) (now (v2e .entry)) (now (e2e .entry)) (now (b2e .entry))) code) ⌝ }
 {
-    answer::pack(query::single::element(n, elements, v2e, e2e, b2e, code))
+    answer::pack(query::element(n, elements, v2e, e2e, b2e, code))
 }
 
 // The vertex where a half-edge begins.
@@ -111,7 +111,7 @@ pub extern "C" fn borzhanu_origin(
 ) -> u64
     ensures { λ r. ⌜ r ≡ packedAnswer (originAnswer (mesh n (now (elements .entry)) (now (v2e .entry)) (now (e2e .entry)) (now (b2e .entry))) code) ⌝ }
 {
-    answer::pack(query::single::origin(n, elements, v2e, e2e, b2e, code))
+    answer::pack(query::origin(n, elements, v2e, e2e, b2e, code))
 }
 
 // The vertex where a half-edge ends.
@@ -126,7 +126,7 @@ pub extern "C" fn borzhanu_destination(
 ) -> u64
     ensures { λ r. ⌜ r ≡ packedAnswer (destinationAnswer (mesh n (now (elements .entry)) (now (v2e .entry)) (now (e2e .entry)) (now (b2e .entry))) code) ⌝ }
 {
-    answer::pack(query::single::destination(n, elements, v2e, e2e, b2e, code))
+    answer::pack(query::destination(n, elements, v2e, e2e, b2e, code))
 }
 
 // The element on the other side of a side, or 0 at a border.
@@ -141,7 +141,7 @@ pub extern "C" fn borzhanu_across(
 ) -> u64
     ensures { λ r. ⌜ r ≡ packedAnswer (acrossAnswer (mesh n (now (elements .entry)) (now (v2e .entry)) (now (e2e .entry)) (now (b2e .entry))) code) ⌝ }
 {
-    answer::pack(query::single::across(n, elements, v2e, e2e, b2e, code))
+    answer::pack(query::across(n, elements, v2e, e2e, b2e, code))
 }
 
 // 1 for a border half-edge, 0 for a side.
@@ -156,7 +156,7 @@ pub extern "C" fn borzhanu_halfedge_is_border(
 ) -> u64
     ensures { λ r. ⌜ r ≡ packedAnswer (halfEdgeBorderAnswer (mesh n (now (elements .entry)) (now (v2e .entry)) (now (e2e .entry)) (now (b2e .entry))) code) ⌝ }
 {
-    answer::pack(query::single::halfedge_is_border(n, elements, v2e, e2e, b2e, code))
+    answer::pack(query::halfedge_is_border(n, elements, v2e, e2e, b2e, code))
 }
 
 // 1 for a vertex on a border, 0 for another.
@@ -171,7 +171,7 @@ pub extern "C" fn borzhanu_vertex_is_border(
 ) -> u64
     ensures { λ r. ⌜ r ≡ packedAnswer (vertexBorderAnswer (mesh n (now (elements .entry)) (now (v2e .entry)) (now (e2e .entry)) (now (b2e .entry))) v) ⌝ }
 {
-    answer::pack(query::single::vertex_is_border(n, elements, v2e, e2e, b2e, v))
+    answer::pack(query::vertex_is_border(n, elements, v2e, e2e, b2e, v))
 }
 
 // The elements about a vertex, in turn order.
@@ -188,7 +188,7 @@ pub extern "C" fn borzhanu_ring(
     ensures { λ r. ⌜ r ≡ packedAnswer (ringAnswer (mesh n (now (elements .entry)) (now (v2e .entry)) (now (e2e .entry)) (now (b2e .entry))) v (now (out .entry))) ⌝ }
     ensures { λ _. ⌜ now (out .exit) ≡ ringLeaves (mesh n (now (elements .entry)) (now (v2e .entry)) (now (e2e .entry)) (now (b2e .entry))) v (now (out .entry)) ⌝ }
 {
-    answer::pack(query::listed::ring(n, elements, v2e, e2e, b2e, v, out))
+    answer::pack(rings::ring(n, elements, v2e, e2e, b2e, v, out))
 }
 
 // The vertices joined to a vertex by an edge, in turn order.
@@ -205,7 +205,7 @@ pub extern "C" fn borzhanu_neighbours(
     ensures { λ r. ⌜ r ≡ packedAnswer (neighboursAnswer (mesh n (now (elements .entry)) (now (v2e .entry)) (now (e2e .entry)) (now (b2e .entry))) v (now (out .entry))) ⌝ }
     ensures { λ _. ⌜ now (out .exit) ≡ neighboursLeaves (mesh n (now (elements .entry)) (now (v2e .entry)) (now (e2e .entry)) (now (b2e .entry))) v (now (out .entry)) ⌝ }
 {
-    answer::pack(query::listed::neighbours(n, elements, v2e, e2e, b2e, v, out))
+    answer::pack(rings::neighbours(n, elements, v2e, e2e, b2e, v, out))
 }
 
 // The border numbers of one hole, from b on.
@@ -222,7 +222,7 @@ pub extern "C" fn borzhanu_border_loop(
     ensures { λ r. ⌜ r ≡ packedAnswer (borderLoopAnswer (mesh n (now (elements .entry)) (now (v2e .entry)) (now (e2e .entry)) (now (b2e .entry))) b (now (out .entry))) ⌝ }
     ensures { λ _. ⌜ now (out .exit) ≡ borderLoopLeaves (mesh n (now (elements .entry)) (now (v2e .entry)) (now (e2e .entry)) (now (b2e .entry))) b (now (out .entry)) ⌝ }
 {
-    answer::pack(query::listed::border_loop(n, elements, v2e, e2e, b2e, b, out))
+    answer::pack(rings::border_loop(n, elements, v2e, e2e, b2e, b, out))
 }
 
 // The walker, three numbers, is set to the start of the ring of v.
@@ -242,7 +242,7 @@ pub extern "C" fn borzhanu_walker_start(
     let start = walker[0];
     let following = walker[1];
     let handed = walker[2];
-    let moved = query::walker::start_at(start, following, handed, n, elements, v2e, e2e, b2e, v);
+    let moved = walker::start_at(start, following, handed, n, elements, v2e, e2e, b2e, v);
     *walker = [moved.start, moved.following, moved.handed];
     let answered = moved.answer;
     answer::pack(answered)
@@ -264,7 +264,7 @@ pub extern "C" fn borzhanu_walker_step(
     let start = walker[0];
     let following = walker[1];
     let handed = walker[2];
-    let moved = query::walker::step_at(start, following, handed, n, elements, v2e, e2e, b2e);
+    let moved = walker::step_at(start, following, handed, n, elements, v2e, e2e, b2e);
     *walker = [moved.start, moved.following, moved.handed];
     let answered = moved.answer;
     answer::pack(answered)

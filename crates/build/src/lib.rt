@@ -9,12 +9,7 @@ ghost use Rattle.answer.specs.Numbers.{numbers};
 ghost use Rattle.tabulate.specs.Results.{Holds};
 ghost use Rattle.build.specs.Building.{Built, Copied, lent};
 use answer::Answer;
-
-fn wide(x: u32) -> usize
-    ensures { λ r. ⌜ r ≡ x ⌝ }
-{
-    x as usize
-}
+use halfedge::wide;
 
 // The tables are copied out of the work buffer.
 fn commit(

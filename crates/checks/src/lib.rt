@@ -11,12 +11,7 @@ ghost use Rattle.rules.specs.Refusals.{unusedVertex, crowdedSide, alikeSide};
 ghost use Rattle.theory.specs.Sides.{Fit};
 ghost use Rattle.checks.specs.Firsts.{FirstsFrom, Firsts};
 ghost use Rattle.checks.specs.Maps.{Mapped, CrowdedAt, AlikeAt};
-
-fn wide(x: u32) -> usize
-    ensures { λ r. ⌜ r ≡ x ⌝ }
-{
-    x as usize
-}
+use halfedge::wide;
 
 // The side that begins at place p is the least so far of its origin x; where x is 0 no side begins there.
 fn put_first(n: usize, list: &[u32], work: &mut [u32], p: usize, x: u32)

@@ -4,6 +4,7 @@ ghost use Prim.Native.Nat.{_+_, _*_, _≤_};
 ghost use lib.ListN.{length};
 ghost use Rattle.rules.specs.Elements.{elements, maxElement};
 ghost use Rattle.corners.specs.Faults.{noVertex, UnfitIn, RepeatedIn, Repeating, faultOf};
+use halfedge::wide;
 
 // The first fault of a list; its corner as the code of the side that begins there.
 pub enum Fault {
@@ -66,12 +67,6 @@ fn repeated_in(row: [u32; 4]) -> u32
         return 4;
     }
     0
-}
-
-fn wide(x: u32) -> usize
-    ensures { λ r. ⌜ r ≡ x ⌝ }
-{
-    x as usize
 }
 
 // The first repeated corner: the one found before, or else that of the row at a.

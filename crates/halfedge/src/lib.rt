@@ -169,7 +169,8 @@ fn one_less(x: u32) -> u32
     x - 1
 }
 
-fn wide(x: u32) -> usize
+// x as an index.
+pub fn wide(x: u32) -> usize
     ensures { λ r. ⌜ r ≡ x ⌝ }
 {
     x as usize

@@ -5,12 +5,7 @@ ghost use lib.Dec.{leb, eqb};
 ghost use Rattle.lists.specs.Tests.{both};
 ghost use Rattle.rules.specs.Elements.{maxVertex, maxElement};
 use halfedge::HalfEdge;
-
-fn wide(x: u32) -> usize
-    ensures { λ r. ⌜ r ≡ x ⌝ }
-{
-    x as usize
-}
+use halfedge::wide;
 
 // Check 1, for n, the length of the buffer that says m, and that of the other one of the element list and E2e.
 pub fn sizes_fit(n: u32, first: usize, other: usize) -> bool

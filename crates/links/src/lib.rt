@@ -3,12 +3,7 @@ ghost use Prim.Native.Nat.{_+_, _*_, _<_};
 ghost use mathlib.Core.Path.{_≡_};
 ghost use Rattle.walk.specs.Layout.{Sizes, e2eIn};
 ghost use Rattle.links.specs.Links.{LinksFrom, Linking, LinkedBy};
-
-fn wide(x: u32) -> usize
-    ensures { λ r. ⌜ r ≡ x ⌝ }
-{
-    x as usize
-}
+use halfedge::wide;
 
 // Where entry p of E2e is the code of a border, the side at p is the least so far of that border.
 fn link_place(n: usize, m: usize, work: &mut [u32], p: usize)

@@ -27,8 +27,8 @@ use Rattle.text.specs.FirstBytes.{first-bytes, form-short}
 use Rattle.text.specs.Reading.{parsed, listAfter, parsed-bad, parsed-form}
 use Rattle.text.specs.declared.Parsed.{Parsed}
 use Rattle.text.specs.declared.Parsed.the-variants.{Mesh, Bad, Short}
-use Rattle.text.specs.Lines.{Written, tableLines, refusalLine, shownIf, shownTables, shownRefusal}
-use Rattle.text.specs.LineLaws.{has-room}
+use Rattle.print.specs.Lines.{Written, tableLines, refusalLine, shownIf, shownTables, shownRefusal}
+use Rattle.print.specs.LineLaws.{has-room}
 use Rattle.listed.specs.Listing.{answerLines, meshLines, listing}
 
 -- a mesh of at most 200 vertices and 200 elements, with buffers of fit lengths and room for every border side

@@ -7,7 +7,7 @@ use lib.Dec.{eqb}
 use Rattle.rules.specs.Tables.{v2e, e2e, b2e}
 use Rattle.rules.specs.Refusals.{Answer, gives, refused, listAnswer}
 use Rattle.text.specs.Form.{firstBad, theN, theList}
-use Rattle.text.specs.Lines.{tableLines, refusalLine}
+use Rattle.print.specs.Lines.{tableLines, refusalLine}
 
 -- "It prints V with the V2e entries, one E line for each element, B with the B2e entries"; "A refusal prints R, number, and the two
 -- place numbers"

@@ -4,17 +4,12 @@ ghost use Prim.Native.Nat.{_≤_};
 ghost use lib.Dec.{leb};
 ghost use lib.ListN.{length};
 ghost use Rattle.build.specs.Building.{lent};
-ghost use Rattle.text.specs.Lines.{Written, Counts, shownIf};
+ghost use Rattle.print.specs.Lines.{Written, Counts, shownIf};
 ghost use Rattle.listed.specs.Listing.{meshLines, listing};
 ghost use Rattle.listed.specs.Fit.{Fits};
 use answer::Answer;
+use halfedge::wide;
 use text::Parsed;
-
-fn wide(x: u32) -> usize
-    ensures { λ r. ⌜ r ≡ x ⌝ }
-{
-    x as usize
-}
 
 // Writes the lines of the mesh, or of build's refusal.
 fn list_mesh(
@@ -35,13 +30,13 @@ fn list_mesh(
     match a {
         Answer::Gives { first, second: _ } => {
             let k = wide(first);
-            text::print_tables(out, v2e, e2e, &b2e[..k])
+            print::print_tables(out, v2e, e2e, &b2e[..k])
         }
         Answer::Refused {
             number,
             first,
             second,
-        } => text::print_refusal(out, number, first, second),
+        } => print::print_refusal(out, number, first, second),
     }
 }
 
@@ -67,7 +62,7 @@ fn list_in(
             let e = 4 * wide(m);
             list_mesh(n, &list[..e], &mut v2e[..v], &mut e2e[..e], b2e, work, out)
         }
-        Parsed::Bad { line } => text::print_refusal(out, 14, line, 0),
+        Parsed::Bad { line } => print::print_refusal(out, 14, line, 0),
         Parsed::Short => 0,
     }
 }

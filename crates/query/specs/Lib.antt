@@ -1,5 +1,1 @@
-pub mod Meshes
-pub mod Readings
-pub mod Walks
-pub mod Walkers
 pub mod OnBuilt

@@ -1,8 +1,196 @@
-// The queries of document 01 over an element list and its three tables, which may be unfit.
-mod checks;
-pub mod listed;
-mod reads;
-mod rows;
-pub mod single;
-pub mod walker;
-mod walks;
+// The queries that answer one number.
+use admission::half_edge_refusal;
+use admission::refuse;
+use admission::side_refusal;
+use admission::vertex_refusal;
+use answer::Answer;
+use reads::Read;
+use reads::border_destination;
+use reads::border_next;
+use reads::border_origin;
+use reads::read_border_side;
+use reads::read_destination;
+use reads::read_opposite;
+use reads::read_origin;
+use reads::read_vertex_entry;
+use sides::next_code;
+use sides::previous_code;
+ghost use mathlib.Core.Path.{_≡_};
+ghost use Rattle.answer.specs.Numbers.{numbers};
+ghost use Rattle.rules.specs.Refusals.{gives};
+ghost use Rattle.rules.specs.Queries.{bySide, oppositeAnswer, nextAnswer, previousAnswer, elementAnswer, originAnswer, destinationAnswer, acrossAnswer, halfEdgeBorderAnswer, vertexBorderAnswer};
+ghost use Rattle.rules.specs.Queries.{found as foundIn};
+ghost use Rattle.reads.specs.Meshes.{mesh};
+ghost use Rattle.reads.specs.Readings.{readOf};
+
+fn give(x: u32) -> Answer
+    ensures { λ r. ⌜ numbers r ≡ gives x 0 ⌝ }
+{
+    Answer::Gives {
+        first: x,
+        second: 0,
+    }
+}
+
+// 1 for a border half-edge, 0 for a side.
+fn border_answer(c: u32) -> Answer
+    ensures { λ r. ⌜ numbers r ≡ gives (bySide c 0 1) 0 ⌝ }
+{
+    if c % 8 == 0 {
+        return give(1);
+    }
+    give(0)
+}
+
+// The answer to a question for one number.
+fn found(r: Read) -> Answer
+    ensures { λ a. ⌜ numbers a ≡ foundIn (readOf r) ⌝ }
+{
+    match r {
+        Read::Value(x) => Answer::Gives {
+            first: x,
+            second: 0,
+        },
+        Read::Broken => Answer::Refused {
+            number: 12,
+            first: 0,
+            second: 0,
+        },
+    }
+}
+
+// The E2e or B2e entry of a half-edge.
+pub fn opposite(n: u32, list: &[u32], v2e: &[u32], e2e: &[u32], b2e: &[u32], code: u32) -> Answer
+    ensures { λ r. ⌜ numbers r ≡ oppositeAnswer (mesh n (now (list .entry)) (now (v2e .entry)) (now (e2e .entry)) (now (b2e .entry))) code ⌝ }
+{
+    let refusal = half_edge_refusal(n, list, v2e, e2e, b2e, code);
+    if 0 < refusal {
+        return refuse(refusal);
+    }
+    if code % 8 == 0 {
+        return found(read_border_side(n, list, v2e, e2e, b2e, code));
+    }
+    found(read_opposite(n, list, v2e, e2e, b2e, code))
+}
+
+// The half-edge after a half-edge, in its element or along the border.
+pub fn next(n: u32, list: &[u32], v2e: &[u32], e2e: &[u32], b2e: &[u32], code: u32) -> Answer
+    ensures { λ r. ⌜ numbers r ≡ nextAnswer (mesh n (now (list .entry)) (now (v2e .entry)) (now (e2e .entry)) (now (b2e .entry))) code ⌝ }
+{
+    let refusal = half_edge_refusal(n, list, v2e, e2e, b2e, code);
+    if 0 < refusal {
+        return refuse(refusal);
+    }
+    if code % 8 == 0 {
+        return found(border_next(n, list, v2e, e2e, b2e, code));
+    }
+    give(next_code(list, code))
+}
+
+// The side before a side in its element.
+pub fn previous(n: u32, list: &[u32], v2e: &[u32], e2e: &[u32], b2e: &[u32], code: u32) -> Answer
+    ensures { λ r. ⌜ numbers r ≡ previousAnswer (mesh n (now (list .entry)) (now (v2e .entry)) (now (e2e .entry)) (now (b2e .entry))) code ⌝ }
+{
+    let refusal = side_refusal(n, list, v2e, e2e, b2e, code);
+    if 0 < refusal {
+        return refuse(refusal);
+    }
+    give(previous_code(list, code))
+}
+
+// The element of a side.
+pub fn element(n: u32, list: &[u32], v2e: &[u32], e2e: &[u32], b2e: &[u32], code: u32) -> Answer
+    ensures { λ r. ⌜ numbers r ≡ elementAnswer (mesh n (now (list .entry)) (now (v2e .entry)) (now (e2e .entry)) (now (b2e .entry))) code ⌝ }
+{
+    let refusal = side_refusal(n, list, v2e, e2e, b2e, code);
+    if 0 < refusal {
+        return refuse(refusal);
+    }
+    give(code / 8)
+}
+
+// The vertex from which a half-edge runs.
+pub fn origin(n: u32, list: &[u32], v2e: &[u32], e2e: &[u32], b2e: &[u32], code: u32) -> Answer
+    ensures { λ r. ⌜ numbers r ≡ originAnswer (mesh n (now (list .entry)) (now (v2e .entry)) (now (e2e .entry)) (now (b2e .entry))) code ⌝ }
+{
+    let refusal = half_edge_refusal(n, list, v2e, e2e, b2e, code);
+    if 0 < refusal {
+        return refuse(refusal);
+    }
+    if code % 8 == 0 {
+        return found(border_origin(n, list, v2e, e2e, b2e, code));
+    }
+    found(read_origin(n, list, v2e, e2e, b2e, code))
+}
+
+// The vertex to which a half-edge runs.
+pub fn destination(n: u32, list: &[u32], v2e: &[u32], e2e: &[u32], b2e: &[u32], code: u32) -> Answer
+    ensures { λ r. ⌜ numbers r ≡ destinationAnswer (mesh n (now (list .entry)) (now (v2e .entry)) (now (e2e .entry)) (now (b2e .entry))) code ⌝ }
+{
+    let refusal = half_edge_refusal(n, list, v2e, e2e, b2e, code);
+    if 0 < refusal {
+        return refuse(refusal);
+    }
+    if code % 8 == 0 {
+        return found(border_destination(n, list, v2e, e2e, b2e, code));
+    }
+    found(read_destination(n, list, v2e, e2e, b2e, code))
+}
+
+// The element across a side, 0 at a border.
+pub fn across(n: u32, list: &[u32], v2e: &[u32], e2e: &[u32], b2e: &[u32], code: u32) -> Answer
+    ensures { λ r. ⌜ numbers r ≡ acrossAnswer (mesh n (now (list .entry)) (now (v2e .entry)) (now (e2e .entry)) (now (b2e .entry))) code ⌝ }
+{
+    let refusal = side_refusal(n, list, v2e, e2e, b2e, code);
+    if 0 < refusal {
+        return refuse(refusal);
+    }
+    let opposed = read_opposite(n, list, v2e, e2e, b2e, code);
+    let Read::Value(t) = opposed else {
+        return refuse(12);
+    };
+    if t % 8 == 0 {
+        return give(0);
+    }
+    give(t / 8)
+}
+
+// 1 for a border half-edge, 0 for a side.
+pub fn halfedge_is_border(
+    n: u32,
+    list: &[u32],
+    v2e: &[u32],
+    e2e: &[u32],
+    b2e: &[u32],
+    code: u32,
+) -> Answer
+    ensures { λ r. ⌜ numbers r ≡ halfEdgeBorderAnswer (mesh n (now (list .entry)) (now (v2e .entry)) (now (e2e .entry)) (now (b2e .entry))) code ⌝ }
+{
+    let refusal = half_edge_refusal(n, list, v2e, e2e, b2e, code);
+    if 0 < refusal {
+        return refuse(refusal);
+    }
+    border_answer(code)
+}
+
+// 1 for a vertex whose V2e entry is a border, 0 for another.
+pub fn vertex_is_border(
+    n: u32,
+    list: &[u32],
+    v2e: &[u32],
+    e2e: &[u32],
+    b2e: &[u32],
+    v: u32,
+) -> Answer
+    ensures { λ r. ⌜ numbers r ≡ vertexBorderAnswer (mesh n (now (list .entry)) (now (v2e .entry)) (now (e2e .entry)) (now (b2e .entry))) v ⌝ }
+{
+    let refusal = vertex_refusal(n, list, v2e, e2e, b2e, v);
+    if 0 < refusal {
+        return refuse(refusal);
+    }
+    let entry = read_vertex_entry(n, list, v2e, e2e, b2e, v);
+    let Read::Value(code) = entry else {
+        return refuse(12);
+    };
+    border_answer(code)
+}

@@ -12,12 +12,7 @@ ghost use Rattle.walk.specs.Layout.{Sizes};
 ghost use Rattle.tabulate.specs.Results.{Sized};
 ghost use Rattle.recover.specs.Recovering.{Filled, agrees, Roomy, Proposed, Tried, Recovered};
 use answer::Answer;
-
-fn wide(x: u32) -> usize
-    ensures { λ r. ⌜ r ≡ x ⌝ }
-{
-    x as usize
-}
+use halfedge::wide;
 
 // V2e and E2e at the front of the scratch buffer.
 fn fill(n: usize, v2e: &[u32], e2e: &[u32], work: &mut [u32])

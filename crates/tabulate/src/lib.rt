@@ -10,12 +10,7 @@ ghost use Rattle.borders.specs.Numbers.{Ready};
 ghost use Rattle.tabulate.specs.Results.{Sized, fitAnswer, pairedAnswer, Tabulated};
 use answer::Answer;
 use corners::Fault;
-
-fn wide(x: u32) -> usize
-    ensures { λ r. ⌜ r ≡ x ⌝ }
-{
-    x as usize
-}
+use halfedge::wide;
 
 // A refusal at the side or corner with this code.
 fn refusal_at(refusal: u32, code: u32) -> Answer

@@ -2,33 +2,25 @@
 -- Assumes nothing.
 use mathlib.Core.Bool.{Bool, true}
 use mathlib.Core.List.{List, [], _∷_}
-use Prim.Native.Char.{code}
 use Prim.Native.Nat.{ℕ}
-use Prim.Native.String.{String, [] as empty, _∷_ as _then_}
+use Prim.Native.String.{String}
 use lib.Dec.{T, eqb}
 use Rattle.lists.specs.Tests.{both, same}
 use Rattle.lists.specs.Search.{least, tab}
+use Rattle.print.specs.Cases.{bytes}
 use Rattle.text.specs.Form.{run, value, place, mark, firstBadField, theN, theM, goodHead, firstBadFrom, firstBad, theList}
-use Rattle.text.specs.Lines.{lastDigits, digits, joined, lineOf, refusalLine}
-
-unfoldable pub bytes : String → List ℕ
-bytes empty = []
-bytes (c then s) = code c ∷ bytes s
 
 pub data Case : Type 0 where
   -- a text in form: its n, m and rows
   gives : String → ℕ → ℕ → List ℕ → Case
   -- a text that is not, by its first bad line
   bad : String → ℕ → Case
-  -- a line that is printed: its letter and numbers
-  prints : List ℕ → String → Case
 
 unfoldable pub holds : Case → Bool
 holds (gives s n m L) =
     let t = bytes s in
     both (eqb (firstBad t) 0) (both (eqb (theN t) n) (both (eqb (theM t) m) (same (theList t) L)))
 holds (bad s line) = eqb (firstBad (bytes s)) line
-holds (prints line s) = same line (bytes s)
 
 unfoldable pub every : List Case → Bool
 every [] = true
@@ -66,13 +58,8 @@ cases =
     bad "4,1\n\n1,2,3,0\n" 2 ∷
     -- the first bad line of several
     bad "4,2\n1,2,x,0\n1,x,4,0\n" 2 ∷
-    -- lines that are printed
-    prints (lineOf 86 (32 ∷ 8 ∷ 16 ∷ 24 ∷ [])) "V,32,8,16,24\n" ∷
-    prints (lineOf 66 []) "B\n" ∷
-    prints (lineOf 69 (0 ∷ 10 ∷ 109 ∷ 4294967295 ∷ [])) "E,0,10,109,4294967295\n" ∷
-    prints (refusalLine 5 1 0) "R,5,1,0\n" ∷
     []
 
 pub cases-hold : T (every cases)
-unfolding bytes holds every cases same least tab run value place mark firstBadField theN theM goodHead firstBadFrom firstBad theList lastDigits digits joined
+unfolding bytes holds every cases same least tab run value place mark firstBadField theN theM goodHead firstBadFrom firstBad theList
 cases-hold = tt

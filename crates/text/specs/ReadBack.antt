@@ -17,8 +17,8 @@ use Rattle.lists.specs.Steps.{found-here, found-none}
 use Rattle.lists.specs.TestLaws.{Test, pass, fail, test, true-of, false-of, decide, means-lt, means-eq, means-within, means-both, means-not}
 use Rattle.text.specs.Form.{digit, run, value, number, place, mark, isField, goodField, firstBadField, theN, theM, goodHead, fields, firstBad, theNumber, theList}
 use Rattle.text.specs.FormLaws.{mark-end, mark-between, none-bad}
-use Rattle.text.specs.Lines.{digits, joined}
-use Rattle.text.specs.LineLaws.{digits-one, digits-more, digits-le}
+use Rattle.print.specs.Lines.{digits, joined}
+use Rattle.print.specs.LineLaws.{digits-one, digits-more, digits-le}
 
 -- document 01's lines: digits and a mark for each field, "n,m", then four fields a line
 abbrev pub fieldText : ℕ → ℕ → List ℕ

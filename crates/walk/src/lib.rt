@@ -11,12 +11,7 @@ ghost use Rattle.rules.specs.Elements.{Side, isSide, next, slot};
 ghost use Rattle.rules.specs.Recovery.{walkStart, turnBy};
 ghost use Rattle.walk.specs.Steps.{sideOf};
 ghost use Rattle.walk.specs.Layout.{Sizes, tables, written, v2eIn, e2eIn, Linked, Traced, Walking};
-
-fn wide(x: u32) -> usize
-    ensures { λ r. ⌜ r ≡ x ⌝ }
-{
-    x as usize
-}
+use halfedge::wide;
 
 fn is_side(n: usize, m: usize, work: &[u32], c: u32) -> bool
     requires { ⌜ Sizes n m (now work) ⌝ }

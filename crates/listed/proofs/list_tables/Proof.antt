@@ -5,7 +5,7 @@ use borrow.Author.Tests.{le-leb, lt-leb}
 use mathlib.Core.Path.{refl}
 use native.Mathlib.Omega.{arith}
 use lib.ListN.{length}
-use Rattle.text.specs.LineLaws.{nothing-shown}
+use Rattle.print.specs.LineLaws.{nothing-shown}
 use Rattle.listed.specs.Listing.{listing}
 use Rattle.listed.proofs.list_tables.Statement.{statement}
 use Rattle.listed.proofs.list_tables.Tie as tie

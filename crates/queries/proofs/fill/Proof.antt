@@ -7,25 +7,22 @@ use Rattle.queries.proofs.fill.Statement.{statement}
 use Rattle.queries.proofs.fill.Tie as tie
 
 abbrev Inv-loop : tie.InvT-loop
-Inv-loop kind n list v2e e2e b2e line₀ x₀ line x = Unit {0}
+Inv-loop letter numbers line₀ x₀ line x = Unit {0}
 
 abbrev μ-loop : tie.MeasureT-loop
-μ-loop kind n list v2e e2e b2e line₀ x₀ line x = 80 - x
+μ-loop letter numbers line₀ x₀ line x = 80 - x
 
 loop-holds : tie.Need-loop-holds Inv-loop μ-loop
 loop-holds c = tt
 
-wide-requires : tie.Need-wide-requires Inv-loop μ-loop
-wide-requires c κs = search needs
+cast-put : tie.Need-cast-put Inv-loop μ-loop
+cast-put c = search needs
 
 ask-requires : tie.Need-ask-requires Inv-loop μ-loop
 ask-requires c κs = search needs
 
-coded-requires : tie.Need-coded-requires Inv-loop μ-loop
-coded-requires c κs = search needs
-
-put-at-requires : tie.Need-put-at-requires Inv-loop μ-loop
-put-at-requires c κs = search needs
+put-requires : tie.Need-put-requires Inv-loop μ-loop
+put-requires c κs = search needs
 
 add-x : tie.Need-add-x Inv-loop μ-loop
 add-x c = search needs
@@ -46,10 +43,9 @@ fill-spec =
     Inv-loop
     μ-loop
     loop-holds
-    wide-requires
+    cast-put
     ask-requires
-    coded-requires
-    put-at-requires
+    put-requires
     add-x
     loop-less
     loop-again

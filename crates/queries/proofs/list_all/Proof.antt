@@ -7,10 +7,10 @@ use Rattle.queries.proofs.list_all.Statement.{statement}
 use Rattle.queries.proofs.list_all.Tie as tie
 
 abbrev Inv-loop : tie.InvT-loop
-Inv-loop letter kind n list v2e e2e b2e end room x₀ x = Unit {0}
+Inv-loop letter numbers end x₀ x = Unit {0}
 
 abbrev μ-loop : tie.MeasureT-loop
-μ-loop letter kind n list v2e e2e b2e end room x₀ x = end - x
+μ-loop letter numbers end x₀ x = end - x
 
 loop-holds : tie.Need-loop-holds Inv-loop μ-loop
 loop-holds c = tt
@@ -31,4 +31,6 @@ returns : tie.Need-returns Inv-loop μ-loop
 returns c = search needs
 
 pub list-all-spec : {M : Type 1} → statement M
-list-all-spec = tie.close (tie.spec Inv-loop μ-loop loop-holds list-one-requires add-x loop-less loop-again returns)
+list-all-spec =
+    tie.close
+    (tie.spec Inv-loop μ-loop loop-holds list-one-requires add-x loop-less loop-again returns)

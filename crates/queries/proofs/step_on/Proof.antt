@@ -7,16 +7,16 @@ use Rattle.queries.proofs.step_on.Statement.{statement}
 use Rattle.queries.proofs.step_on.Tie as tie
 
 abbrev Inv-loop : tie.InvT-loop
-Inv-loop n list v2e e2e b2e first second third start₀ following₀ handed₀ i₀ start following handed i = Unit {0}
+Inv-loop numbers first second third start₀ following₀ handed₀ i₀ start following handed i = Unit {0}
 
 abbrev μ-loop : tie.MeasureT-loop
-μ-loop n list v2e e2e b2e first second third start₀ following₀ handed₀ i₀ start following handed i = 9 - i
+μ-loop numbers first second third start₀ following₀ handed₀ i₀ start following handed i = 9 - i
 
 loop-holds : tie.Need-loop-holds Inv-loop μ-loop
 loop-holds c = tt
 
-step-at-requires : tie.Need-step-at-requires Inv-loop μ-loop
-step-at-requires c κs = search needs
+step-requires : tie.Need-step-requires Inv-loop μ-loop
+step-requires c κs = search needs
 
 emit-moved-requires : tie.Need-emit-moved-requires Inv-loop μ-loop
 emit-moved-requires c κs = search needs
@@ -34,4 +34,15 @@ returns : tie.Need-returns Inv-loop μ-loop
 returns c = search needs
 
 pub step-on-spec : {M : Type 1} → statement M
-step-on-spec = tie.close (tie.spec Inv-loop μ-loop loop-holds step-at-requires emit-moved-requires add-i loop-less loop-again returns)
+step-on-spec =
+    tie.close
+    (tie.spec
+    Inv-loop
+    μ-loop
+    loop-holds
+    step-requires
+    emit-moved-requires
+    add-i
+    loop-less
+    loop-again
+    returns)

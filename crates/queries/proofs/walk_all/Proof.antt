@@ -7,10 +7,10 @@ use Rattle.queries.proofs.walk_all.Statement.{statement}
 use Rattle.queries.proofs.walk_all.Tie as tie
 
 abbrev Inv-loop : tie.InvT-loop
-Inv-loop n list v2e e2e b2e end v₀ v = Unit {0}
+Inv-loop numbers end v₀ v = Unit {0}
 
 abbrev μ-loop : tie.MeasureT-loop
-μ-loop n list v2e e2e b2e end v₀ v = end - v
+μ-loop numbers end v₀ v = end - v
 
 loop-holds : tie.Need-loop-holds Inv-loop μ-loop
 loop-holds c = tt
@@ -31,4 +31,6 @@ returns : tie.Need-returns Inv-loop μ-loop
 returns c = search needs
 
 pub walk-all-spec : {M : Type 1} → statement M
-walk-all-spec = tie.close (tie.spec Inv-loop μ-loop loop-holds walk-one-requires add-v loop-less loop-again returns)
+walk-all-spec =
+    tie.close
+    (tie.spec Inv-loop μ-loop loop-holds walk-one-requires add-v loop-less loop-again returns)

@@ -1,21 +1,22 @@
--- `recoveries::change_each` is safe and ends: the measure is what is left of the entries. The tables keep their length.
+-- `recoveries::change_each` is safe and ends: the measure is what is left of the entries.
 -- Assumes nothing.
-use mathlib.Core.Path.{_≡_}
 use Prim.Native.Nat.{_-_}
 use native.Mathlib.Omega.{arith}
 use borrow.Author.Needs.{needs}
-use lib.ListN.{length}
 use Rattle.recoveries.proofs.change_each.Statement.{statement}
 use Rattle.recoveries.proofs.change_each.Tie as tie
 
 abbrev Inv-loop : tie.InvT-loop
-Inv-loop n tables₀ letter counts₀ end p₀ tables counts p = length tables ≡ length tables₀
+Inv-loop numbers letter counts₀ end p₀ counts p = Unit {0}
 
 abbrev μ-loop : tie.MeasureT-loop
-μ-loop n tables₀ letter counts₀ end p₀ tables counts p = end - p
+μ-loop numbers letter counts₀ end p₀ counts p = end - p
+
+e2e-end-requires : tie.Need-e2e-end-requires Inv-loop μ-loop
+e2e-end-requires c κs = search needs
 
 loop-holds : tie.Need-loop-holds Inv-loop μ-loop
-loop-holds c = search needs
+loop-holds c = tt
 
 attempt-at-requires : tie.Need-attempt-at-requires Inv-loop μ-loop
 attempt-at-requires c κs = search needs
@@ -30,13 +31,10 @@ loop-less : tie.Need-loop-less Inv-loop μ-loop
 loop-less c = omega arith
 
 loop-again : tie.Need-loop-again Inv-loop μ-loop
-loop-again c = search needs
+loop-again c = tt
 
 emit-counts-requires : tie.Need-emit-counts-requires Inv-loop μ-loop
 emit-counts-requires c κs = search needs
-
-same-length : tie.Need-same-length Inv-loop μ-loop
-same-length c = search needs
 
 returns : tie.Need-returns Inv-loop μ-loop
 returns c = search needs
@@ -47,6 +45,7 @@ change-each-spec =
     (tie.spec
     Inv-loop
     μ-loop
+    e2e-end-requires
     loop-holds
     attempt-at-requires
     count-requires
@@ -54,5 +53,4 @@ change-each-spec =
     loop-less
     loop-again
     emit-counts-requires
-    same-length
     returns)

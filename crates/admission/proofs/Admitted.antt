@@ -1,0 +1,125 @@
+-- How a call goes on by what the checks before it found.
+-- Assumes nothing.
+use mathlib.Core.Bool.{Bool, true, false}
+use mathlib.Core.Option.{Option}
+use mathlib.Core.Path.{_≡_, refl, ap, sym, _∙_}
+use Prim.Native.Nat.{ℕ, zero, suc, _*_, _%_, _≤_, _<_}
+use native.Mathlib.Omega.{arith}
+use lib.Dec.{T, leb, eqb}
+use lib.ListN.{length}
+use Rattle.lists.specs.Tests.{both}
+use Rattle.lists.specs.TestLaws.{Means, means-both, means-eq, means-le}
+use Rattle.rules.specs.Elements.{maxVertex, maxElement, elements}
+use Rattle.rules.specs.Pairing.{sizesFit}
+use Rattle.rules.specs.Refusals.{Answer, refused, callSizes, lengthChecks}
+use Rattle.rules.specs.Queries.{Mesh, asked, defined, found, bySide, isHalfEdge}
+use Rattle.reads.specs.Meshes.{Fit, settle, Admits}
+use Rattle.reads.proofs.Readings.{at-border, at-side}
+
+pub holds : {b : Bool} → b ≡ true → T b
+holds e = rw e tt
+
+settle-any : (k : ℕ) (a b : Answer) → 0 < k → settle k a ≡ settle k b
+unfolding settle
+settle-any zero a b h = absurd (omega arith)
+settle-any (suc k) a b h = refl
+
+settle-refused : (k : ℕ) (a : Answer) → 0 < k → settle k a ≡ refused k 0 0
+unfolding settle
+settle-refused zero a h = absurd (omega arith)
+settle-refused (suc k) a h = refl
+
+settle-none : (k : ℕ) (a : Answer) → k ≤ 0 → settle k a ≡ a
+unfolding settle
+settle-none zero a h = refl
+settle-none (suc k) a h = absurd (omega arith)
+
+module _ (M : Mesh) where
+  abbrev lengths : Bool
+  lengths =
+      both (eqb (length (M .vertices)) (M .n))
+      (both (eqb (length (M .opposites)) (4 * elements (M .list))) (leb (length (M .border)) (4 * elements (M .list))))
+
+  abbrev sizes : Bool
+  sizes = callSizes (M .n) (M .list) (M .opposites)
+
+  fit-of : sizes ≡ true → lengths ≡ true → Fit M
+  unfolding callSizes sizesFit
+  fit-of s l =
+      let fours : (X : _) → Means (eqb (length X) (4 * elements X)) (length X ≡ 4 * elements X) = λ X. means-eq _ _ in
+      let ((a, (b, d)), e) = means-both (means-both (means-le (M .n) maxVertex) (means-both (means-le (elements (M .list)) maxElement) (fours (M .list)))) (fours (M .opposites)) .says (holds s) in
+      let (f, (g, h)) = means-both (means-eq (length (M .vertices)) (M .n)) (means-both (means-eq (length (M .opposites)) (4 * elements (M .list))) (means-le (length (M .border)) (4 * elements (M .list)))) .says (holds l) in
+      record { vertices = f; opposites = omega arith; border = h; elements = b }
+
+  -- checks 1 and 2
+  pub sizes-found : sizes ≡ false → Admits M true 1
+  unfolding asked lengthChecks settle
+  sizes-found s =
+      record {
+        fit = λ z. absurd (omega arith);
+        found = λ z. tt;
+        settled = λ a. ap (λ (b : Bool). lengthChecks b lengths (defined true a)) s;
+      }
+
+  pub lengths-found : sizes ≡ true → lengths ≡ false → Admits M true 2
+  unfolding asked lengthChecks settle
+  lengths-found s l =
+      record {
+        fit = λ z. absurd (omega arith);
+        found = λ z. tt;
+        settled = λ a. ap (λ (b : Bool). lengthChecks b lengths (defined true a)) s ∙ ap (λ (b : Bool). lengthChecks true b (defined true a)) l;
+      }
+
+  pub none-found : sizes ≡ true → lengths ≡ true → Admits M true 0
+  unfolding asked defined lengthChecks settle
+  none-found s l =
+      record {
+        fit = λ z. fit-of s l;
+        found = λ z. tt;
+        settled = λ a. ap (λ (b : Bool). lengthChecks b lengths a) s ∙ ap (λ (b : Bool). lengthChecks true b a) l;
+      }
+
+  -- check 11 after them
+  module _ {k : ℕ} (x : Admits M true k) {there : Bool} where
+    pub earlier : 0 < k → Admits M there k
+    unfolding defined
+    earlier h =
+        record {
+          fit = x .fit;
+          found = λ z. absurd (omega arith);
+          settled = λ a. x .settled (defined there a) ∙ settle-any k (defined there a) a h;
+        }
+
+    pub missing : k ≤ 0 → there ≡ false → Admits M there 11
+    unfolding defined settle
+    missing h e =
+        record {
+          fit = λ z. absurd (omega arith);
+          found = λ z. absurd (omega arith);
+          settled = λ a. x .settled (defined there a) ∙ settle-none k (defined there a) h ∙ ap (λ (b : Bool). defined b a) e;
+        }
+
+    pub present : k ≤ 0 → there ≡ true → Admits M there 0
+    unfolding defined settle
+    present h e =
+        record {
+          fit = λ z. x .fit h;
+          found = λ z. holds e;
+          settled = λ a. x .settled (defined there a) ∙ settle-none k (defined there a) h ∙ ap (λ (b : Bool). defined b a) e;
+        }
+
+  -- what the caller then answers
+  module _ {there : Bool} {k : ℕ} (x : Admits M there k) {r : Answer} (a : Answer) where
+    pub turned-away : 0 < k → r ≡ refused k 0 0 → r ≡ asked M (defined there a)
+    turned-away h e = e ∙ sym (x .settled a ∙ settle-refused k a h)
+
+    pub admitted : k ≤ 0 → r ≡ a → r ≡ asked M (defined there a)
+    admitted h e = e ∙ sym (x .settled a ∙ settle-none k a h)
+
+-- an answer about a half-edge that is read one way of a side, another way of a border
+module _ (M : Mesh) (c : ℕ) {k : ℕ} (x : Admits M (isHalfEdge M c) k) (h : k ≤ 0) {r : Answer} {o : Option ℕ} (e : r ≡ found o) (p q : Option ℕ) where
+  pub border-found : c % 8 ≡ 0 → o ≡ q → r ≡ asked M (defined (isHalfEdge M c) (found (bySide c p q)))
+  border-found z f = admitted M x _ h (e ∙ ap found (f ∙ sym (at-border c p q z)))
+
+  pub side-found : (c % 8 ≡ 0 → ⊥) → o ≡ p → r ≡ asked M (defined (isHalfEdge M c) (found (bySide c p q)))
+  side-found d f = admitted M x _ h (e ∙ ap found (f ∙ sym (at-side c p q d)))

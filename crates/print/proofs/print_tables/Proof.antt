@@ -1,0 +1,77 @@
+-- `print::print_tables` meets its contract: the line of V2e, those of the elements, the line of B2e.
+-- Assumes nothing.
+use borrow.Author.Needs.{needs}
+use mathlib.Core.List.{List, _++_}
+use mathlib.Core.Path.{refl}
+use Prim.Native.Nat.{ℕ, _+_, _*_, _≤_}
+use lib.ListN.{length}
+use Rattle.rules.specs.Elements.{elements}
+use Rattle.print.specs.Lines.{joined, rowLine, lineOf, tableLines}
+use Rattle.print.specs.LineLaws.{has-room, no-room, nothing-shown, written-next, counts}
+use native.Mathlib.Omega.{arith}
+use Rattle.print.proofs.print_tables.Statement.{statement}
+use Rattle.print.proofs.print_tables.Tie as tie
+
+abbrev numbers : tie.Start → ℕ
+numbers s = length (s .args .v2e .now) + length (s .args .b2e .now) + 5 * elements (s .args .e2e .now) + 1
+
+abbrev lines : tie.Start → List ℕ
+lines s = tableLines (s .args .v2e .now) (s .args .e2e .now) (s .args .b2e .now)
+
+add-if1 : tie.Need-add-if1
+add-if1 c = search needs
+
+mul-if1 : tie.Need-mul-if1
+mul-if1 c = search needs
+
+add-if1-2 : tie.Need-add-if1-2
+add-if1-2 c = search needs
+
+add-if1-3 : tie.Need-add-if1-3
+add-if1-3 c = search needs
+
+returns : tie.Need-returns
+returns c = let s = c .before .before .before .before .before in
+    let w = nothing-shown (s .args .out .now) (lines s) 0 (no-room (length (s .args .out .now)) 0 (numbers s) (omega arith)) in
+    (w, (omega arith, refl))
+
+put-line-requires : tie.Need-put-line-requires
+put-line-requires c κs = search needs
+
+put-rows-requires : tie.Need-put-rows-requires
+put-rows-requires c κs = search needs
+
+put-line-requires-2 : tie.Need-put-line-requires-2
+put-line-requires-2 c κs = search needs
+
+same-length : tie.Need-same-length
+same-length c = search needs
+
+returns-2 : tie.Need-returns-2
+returns-2 c = let z = c .before .before in
+    let r = z .before .before .before .before in
+    let l = r .before .before .before .before in
+    let s = l .before .before .before .before .before .before .before in
+    let a = s .args in
+    let rows = joined (rowLine (a .e2e .now)) (elements (a .e2e .now)) in
+    let last = lineOf 66 (a .b2e .now) in
+    let h = l .before .before .if1 .left in
+    let room = has-room (length (a .out .now)) 0 (numbers s) (omega arith) in
+    let fits : z .put-line2 .result ≤ length (a .out .now) = omega (arith, l .put-line .ensures .1, r .put-rows .ensures .1, z .put-line2 .ensures .1) in
+    let w = written-next (a .out .now) (lineOf 86 (a .v2e .now)) (rows ++ last) 0 (l .put-line .ensures .0) (written-next _ rows last _ (r .put-rows .ensures .0) (z .put-line2 .ensures .0)) in
+    (rw room w, counts (a .out .now) (lines s) fits w)
+
+pub print-tables-spec : {M : Type 1} → statement M
+print-tables-spec =
+    tie.close
+    (tie.spec
+    add-if1
+    mul-if1
+    add-if1-2
+    add-if1-3
+    returns
+    put-line-requires
+    put-rows-requires
+    put-line-requires-2
+    same-length
+    returns-2)

@@ -1,0 +1,66 @@
+-- Laws of reads: what a valid read says, and what is read from what was read.
+-- Assumes nothing.
+use mathlib.Core.Bool.{Bool, true, false}
+use mathlib.Core.Option.{Option, none, some}
+use mathlib.Core.Path.{_≡_, refl, ap, sym, subst, _∙_}
+use Prim.Native.Nat.{ℕ, _%_}
+use native.Mathlib.Omega.{arith}
+use lib.Dec.{T, eqb}
+use borrow.Author.Tests.{eq-eqb, ne-eqb}
+use Rattle.rules.specs.Queries.{read, andThen, bySide}
+use Rattle.reads.specs.declared.Read.{Read}
+use Rattle.reads.specs.declared.Read.the-variants.{Value, Broken}
+use Rattle.reads.specs.Readings.{readOf}
+
+pub nothing : {A : Type 0} {x : A} → none ≡ some x → ⊥
+nothing p = let z : _≡_ {A = ℕ} 0 1 = cc in omega arith
+
+-- in the code, a read taken apart
+pub value-of : {r : Read} {o : Option ℕ} {x : ℕ} → readOf r ≡ o → r ≡ Value x → o ≡ some x
+value-of e g = sym e ∙ ap readOf g
+
+pub broken-of : {r : Read} {o : Option ℕ} → readOf r ≡ o → r ≡ Broken → o ≡ none
+broken-of e g = sym e ∙ ap readOf g
+
+-- a read by a test that was made of the value
+pub read-as : (valid : ℕ → Bool) {ok : Bool} {x y : ℕ} {r : Option ℕ} → r ≡ read (λ _. ok) x → ok ≡ valid x → x ≡ y → r ≡ read valid y
+read-as valid {x = x} q e p = q ∙ ap (λ (b : Bool). read (λ _. b) x) e ∙ ap (read valid) p
+
+-- what was read is valid
+read-by : (b : Bool) (x y : ℕ) → read (λ _. b) x ≡ some y → (b ≡ true) × (x ≡ y)
+read-by true x y e = (refl, (cc))
+read-by false x y e = let z : _≡_ {A = ℕ} 0 1 = cc in absurd (omega arith)
+
+pub was-valid : (valid : ℕ → Bool) (x y : ℕ) → read valid x ≡ some y → T (valid y)
+was-valid valid x y e =
+    let (t, p) = read-by (valid x) x y e in subst (λ (z : ℕ). T (valid z)) p (rw t tt)
+
+pub and-none {ℓ} : {A : Type ℓ} {r : Option ℕ} (f : ℕ → Option A) → r ≡ none → andThen r f ≡ none
+unfolding andThen
+and-none f e = ap (λ (r : Option ℕ). andThen r f) e
+
+pub and-assoc {ℓ} : {A : Type ℓ} (r : Option ℕ) (f : ℕ → Option ℕ) (g : ℕ → Option A) → andThen (andThen r f) g ≡ andThen r (λ x. andThen (f x) g)
+unfolding andThen
+and-assoc (some x) f g = refl
+and-assoc none f g = refl
+
+-- what was read from what was read
+pub and-some : (r : Option ℕ) (f : ℕ → Option ℕ) (y : ℕ) → andThen r f ≡ some y → (x : ℕ) × (r ≡ some x) × (f x ≡ some y)
+unfolding andThen
+and-some (some x) f y e = (x, refl, e)
+and-some none f y e = let z : _≡_ {A = ℕ} 0 1 = cc in absurd (omega arith)
+
+-- by the number of a code
+pub at-border {ℓ} : {A : Type ℓ} (c : ℕ) (x y : A) → c % 8 ≡ 0 → bySide c x y ≡ y
+at-border c x y z = rw (eq-eqb (c % 8) 0 z, bySide)
+
+pub at-side {ℓ} : {A : Type ℓ} (c : ℕ) (x y : A) → (c % 8 ≡ 0 → ⊥) → bySide c x y ≡ x
+at-side c x y d = rw (ne-eqb (c % 8) 0 d, bySide)
+
+-- y where it is not the start, 0 where it is
+module _ {t y start : ℕ} (e : t ≡ y) where
+  pub stops : t ≡ start → _≡_ {A = Option ℕ} (elim (eqb y start) [ true ↦ some 0 | false ↦ some y ]) (some 0)
+  stops h = rw (eq-eqb y start (sym e ∙ h))
+
+  pub goes-on : (t ≡ start → ⊥) → _≡_ {A = Option ℕ} (elim (eqb y start) [ true ↦ some 0 | false ↦ some y ]) (some t)
+  goes-on d = rw (ne-eqb y start (λ h. d (e ∙ h)), e)

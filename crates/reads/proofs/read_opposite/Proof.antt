@@ -1,0 +1,50 @@
+-- `reads::read_opposite` meets its contract.
+-- Assumes nothing.
+use Prim.Native.Nat.{_<_}
+use Rattle.lists.specs.Search.{at}
+use Rattle.reads.proofs.Readings.{read-as}
+use Rattle.rules.specs.Queries.{isHalfEdge, readOpposite}
+use Rattle.theory.specs.Sides.{slot-below}
+use borrow.Author.Needs.{needs}
+use lib.ListN.{length}
+use mathlib.Core.Path.{ap}
+use native.Mathlib.Omega.{arith}
+use Rattle.reads.proofs.read_opposite.Statement.{statement}
+use Rattle.reads.proofs.read_opposite.Tie as tie
+
+inside : (c : tie.After-slot-of) → c .slot-of .result < length (c .before .before .before .before .before .args .e2e .now)
+inside c =
+    let s = c .before .before .before .before .before in
+    omega (arith, slot-below (s .args .list .now) (s .args .s) (s .pre .1), s .pre .0 .opposites, c .slot-of .ensures)
+
+slot-of-requires : tie.Need-slot-of-requires
+slot-of-requires c κs = search needs
+
+mul-opposed : tie.Need-mul-opposed
+mul-opposed c = omega (arith, inside c, c .before .before .before .before .before .good)
+
+shared-slice-read-opposed : tie.Need-shared-slice-read-opposed
+shared-slice-read-opposed c = inside (c .before)
+
+is-half-edge-requires : tie.Need-is-half-edge-requires
+is-half-edge-requires c κs = search needs
+
+checked-requires : tie.Need-checked-requires
+checked-requires c κs = search needs
+
+returns : tie.Need-returns
+unfolding readOpposite
+returns c =
+    let e = c .before .before .before .before .before .before .before .before .args .e2e .now in
+    read-as (isHalfEdge _) (c .checked .ensures) (c .before .is-half-edge .ensures) (ap (at e) (c .before .before .before .slot-of .ensures))
+
+pub read-opposite-spec : {M : Type 1} → statement M
+read-opposite-spec =
+    tie.close
+    (tie.spec
+    slot-of-requires
+    mul-opposed
+    shared-slice-read-opposed
+    is-half-edge-requires
+    checked-requires
+    returns)

@@ -1,0 +1,255 @@
+// What a query reads from the tables: a value that names something, or a broken entry.
+use halfedge::slot_of;
+use halfedge::wide;
+use sides::destination_of;
+use sides::is_side;
+use sides::next_code;
+use sides::origin_of;
+ghost use mathlib.Core.Path.{_≡_};
+ghost use Prim.Native.Nat.{_≤_};
+ghost use lib.Dec.{T};
+ghost use lib.ListN.{length};
+ghost use Rattle.lists.specs.Tests.{within};
+ghost use Rattle.rules.specs.Elements.{Side};
+ghost use Rattle.rules.specs.Queries.{read, andThen, isBorderCode, isHalfEdge, isVertex, readOpposite, readBorderSide, readVertexEntry, readOrigin, readDestination, borderNext, startSide, onward, loopNext};
+ghost use Rattle.reads.specs.Meshes.{mesh, Fit};
+ghost use Rattle.reads.specs.Readings.{readOf, priorVertex};
+
+pub enum Read {
+    Value(u32),
+    Broken,
+}
+
+// The value where it is valid.
+fn checked(valid: bool, x: u32) -> Read
+    ensures { λ r. ⌜ readOf r ≡ read (λ _. valid) x ⌝ }
+{
+    if !valid {
+        return Read::Broken;
+    }
+    Read::Value(x)
+}
+
+pub fn is_vertex(n: u32, list: &[u32], v2e: &[u32], e2e: &[u32], b2e: &[u32], v: u32) -> bool
+    ensures { λ r. ⌜ r ≡ isVertex (mesh n (now (list .entry)) (now (v2e .entry)) (now (e2e .entry)) (now (b2e .entry))) v ⌝ }
+{
+    if v < 1 {
+        return false;
+    }
+    v <= n
+}
+
+pub fn is_border_number(b2e: &[u32], b: u32) -> bool
+    ensures { λ r. ⌜ r ≡ within 1 (length (now (b2e .entry))) b ⌝ }
+{
+    if b < 1 {
+        return false;
+    }
+    wide(b - 1) < b2e.len()
+}
+
+fn is_border_code(n: u32, list: &[u32], v2e: &[u32], e2e: &[u32], b2e: &[u32], code: u32) -> bool
+    ensures { λ r. ⌜ r ≡ isBorderCode (mesh n (now (list .entry)) (now (v2e .entry)) (now (e2e .entry)) (now (b2e .entry))) code ⌝ }
+{
+    if code % 8 != 0 {
+        return false;
+    }
+    is_border_number(b2e, code / 8)
+}
+
+pub fn is_half_edge(n: u32, list: &[u32], v2e: &[u32], e2e: &[u32], b2e: &[u32], code: u32) -> bool
+    ensures { λ r. ⌜ r ≡ isHalfEdge (mesh n (now (list .entry)) (now (v2e .entry)) (now (e2e .entry)) (now (b2e .entry))) code ⌝ }
+{
+    if is_side(list, code) {
+        return true;
+    }
+    is_border_code(n, list, v2e, e2e, b2e, code)
+}
+
+pub fn read_opposite(n: u32, list: &[u32], v2e: &[u32], e2e: &[u32], b2e: &[u32], s: u32) -> Read
+    requires { ⌜ Fit (mesh n (now list) (now v2e) (now e2e) (now b2e)) × Side (now list) s ⌝ }
+    ensures { λ r. ⌜ readOf r ≡ readOpposite (mesh n (now (list .entry)) (now (v2e .entry)) (now (e2e .entry)) (now (b2e .entry))) s ⌝ }
+{
+    let opposed = e2e[slot_of(s)];
+    let valid = is_half_edge(n, list, v2e, e2e, b2e, opposed);
+    checked(valid, opposed)
+}
+
+pub fn read_border_side(
+    n: u32,
+    list: &[u32],
+    v2e: &[u32],
+    e2e: &[u32],
+    b2e: &[u32],
+    code: u32,
+) -> Read
+    requires { ⌜ T (isBorderCode (mesh n (now list) (now v2e) (now e2e) (now b2e)) code) ⌝ }
+    ensures { λ r. ⌜ readOf r ≡ readBorderSide (mesh n (now (list .entry)) (now (v2e .entry)) (now (e2e .entry)) (now (b2e .entry))) code ⌝ }
+{
+    let side = b2e[wide(code / 8) - 1];
+    let valid = is_side(list, side);
+    checked(valid, side)
+}
+
+pub fn read_vertex_entry(
+    n: u32,
+    list: &[u32],
+    v2e: &[u32],
+    e2e: &[u32],
+    b2e: &[u32],
+    v: u32,
+) -> Read
+    requires { ⌜ Fit (mesh n (now list) (now v2e) (now e2e) (now b2e)) × T (isVertex (mesh n (now list) (now v2e) (now e2e) (now b2e)) v) ⌝ }
+    ensures { λ r. ⌜ readOf r ≡ readVertexEntry (mesh n (now (list .entry)) (now (v2e .entry)) (now (e2e .entry)) (now (b2e .entry))) v ⌝ }
+{
+    let code = v2e[wide(v) - 1];
+    let valid = is_half_edge(n, list, v2e, e2e, b2e, code);
+    checked(valid, code)
+}
+
+pub fn read_origin(n: u32, list: &[u32], v2e: &[u32], e2e: &[u32], b2e: &[u32], s: u32) -> Read
+    requires { ⌜ Side (now list) s ⌝ }
+    ensures { λ r. ⌜ readOf r ≡ readOrigin (mesh n (now (list .entry)) (now (v2e .entry)) (now (e2e .entry)) (now (b2e .entry))) s ⌝ }
+{
+    let v = origin_of(list, s);
+    let valid = is_vertex(n, list, v2e, e2e, b2e, v);
+    checked(valid, v)
+}
+
+pub fn read_destination(n: u32, list: &[u32], v2e: &[u32], e2e: &[u32], b2e: &[u32], s: u32) -> Read
+    requires { ⌜ Side (now list) s ⌝ }
+    ensures { λ r. ⌜ readOf r ≡ readDestination (mesh n (now (list .entry)) (now (v2e .entry)) (now (e2e .entry)) (now (b2e .entry))) s ⌝ }
+{
+    let v = destination_of(list, s);
+    let valid = is_vertex(n, list, v2e, e2e, b2e, v);
+    checked(valid, v)
+}
+
+// The origin of a border half-edge.
+pub fn border_origin(n: u32, list: &[u32], v2e: &[u32], e2e: &[u32], b2e: &[u32], code: u32) -> Read
+    requires { ⌜ T (isBorderCode (mesh n (now list) (now v2e) (now e2e) (now b2e)) code) ⌝ }
+    ensures { λ r. ⌜ (let M = mesh n (now (list .entry)) (now (v2e .entry)) (now (e2e .entry)) (now (b2e .entry)) in readOf r ≡ andThen (readBorderSide M code) (readDestination M)) ⌝ }
+{
+    let side = read_border_side(n, list, v2e, e2e, b2e, code);
+    let Read::Value(s) = side else {
+        return Read::Broken;
+    };
+    read_destination(n, list, v2e, e2e, b2e, s)
+}
+
+pub fn border_destination(
+    n: u32,
+    list: &[u32],
+    v2e: &[u32],
+    e2e: &[u32],
+    b2e: &[u32],
+    code: u32,
+) -> Read
+    requires { ⌜ T (isBorderCode (mesh n (now list) (now v2e) (now e2e) (now b2e)) code) ⌝ }
+    ensures { λ r. ⌜ (let M = mesh n (now (list .entry)) (now (v2e .entry)) (now (e2e .entry)) (now (b2e .entry)) in readOf r ≡ andThen (readBorderSide M code) (readOrigin M)) ⌝ }
+{
+    let side = read_border_side(n, list, v2e, e2e, b2e, code);
+    let Read::Value(s) = side else {
+        return Read::Broken;
+    };
+    read_origin(n, list, v2e, e2e, b2e, s)
+}
+
+// The border half-edge after a border half-edge.
+pub fn border_next(n: u32, list: &[u32], v2e: &[u32], e2e: &[u32], b2e: &[u32], code: u32) -> Read
+    requires { ⌜ (let M = mesh n (now list) (now v2e) (now e2e) (now b2e) in Fit M × T (isBorderCode M code)) ⌝ }
+    ensures { λ r. ⌜ readOf r ≡ borderNext (mesh n (now (list .entry)) (now (v2e .entry)) (now (e2e .entry)) (now (b2e .entry))) code ⌝ }
+{
+    let end = border_destination(n, list, v2e, e2e, b2e, code);
+    let Read::Value(v) = end else {
+        return Read::Broken;
+    };
+    let following = v2e[wide(v) - 1];
+    let valid = is_border_code(n, list, v2e, e2e, b2e, following);
+    checked(valid, following)
+}
+
+// The side with which the ring of a vertex begins.
+pub fn start_side(n: u32, list: &[u32], v2e: &[u32], e2e: &[u32], b2e: &[u32], v: u32) -> Read
+    requires { ⌜ (let M = mesh n (now list) (now v2e) (now e2e) (now b2e) in Fit M × T (isVertex M v)) ⌝ }
+    ensures { λ r. ⌜ readOf r ≡ startSide (mesh n (now (list .entry)) (now (v2e .entry)) (now (e2e .entry)) (now (b2e .entry))) v ⌝ }
+{
+    let entry = read_vertex_entry(n, list, v2e, e2e, b2e, v);
+    let Read::Value(first) = entry else {
+        return Read::Broken;
+    };
+    if first % 8 != 0 {
+        return Read::Value(first);
+    }
+    let side = read_border_side(n, list, v2e, e2e, b2e, first);
+    let Read::Value(s) = side else {
+        return Read::Broken;
+    };
+    let begin = next_code(list, s);
+    Read::Value(begin)
+}
+
+// The side after s in the ring that began with a start side; 0 where the ring stops.
+pub fn ring_next(
+    n: u32,
+    list: &[u32],
+    v2e: &[u32],
+    e2e: &[u32],
+    b2e: &[u32],
+    start: u32,
+    s: u32,
+) -> Read
+    requires { ⌜ Fit (mesh n (now list) (now v2e) (now e2e) (now b2e)) × Side (now list) s ⌝ }
+    ensures { λ r. ⌜ readOf r ≡ onward (mesh n (now (list .entry)) (now (v2e .entry)) (now (e2e .entry)) (now (b2e .entry))) start s ⌝ }
+{
+    let across = read_opposite(n, list, v2e, e2e, b2e, s);
+    let Read::Value(t) = across else {
+        return Read::Broken;
+    };
+    if t % 8 == 0 {
+        return Read::Value(0);
+    }
+    let turn = next_code(list, t);
+    if turn == start {
+        return Read::Value(0);
+    }
+    Read::Value(turn)
+}
+
+// The border number after x in the loop that began with b; 0 where the loop closes.
+pub fn loop_next(
+    n: u32,
+    list: &[u32],
+    v2e: &[u32],
+    e2e: &[u32],
+    b2e: &[u32],
+    b: u32,
+    x: u32,
+) -> Read
+    requires { ⌜ Fit (mesh n (now list) (now v2e) (now e2e) (now b2e)) × ((1 ≤ x) × (x ≤ length (now b2e))) ⌝ }
+    ensures { λ r. ⌜ readOf r ≡ loopNext (mesh n (now (list .entry)) (now (v2e .entry)) (now (e2e .entry)) (now (b2e .entry))) b x ⌝ }
+{
+    let following = border_next(n, list, v2e, e2e, b2e, 8 * x);
+    let Read::Value(code) = following else {
+        return Read::Broken;
+    };
+    if code / 8 == b {
+        return Read::Value(0);
+    }
+    Read::Value(code / 8)
+}
+
+// The vertex before the ring of v: where V2e of v is a border, that border half-edge's destination, else 0.
+pub fn prior_vertex(n: u32, list: &[u32], v2e: &[u32], e2e: &[u32], b2e: &[u32], v: u32) -> Read
+    requires { ⌜ (let M = mesh n (now list) (now v2e) (now e2e) (now b2e) in Fit M × T (isVertex M v)) ⌝ }
+    ensures { λ r. ⌜ readOf r ≡ priorVertex (mesh n (now (list .entry)) (now (v2e .entry)) (now (e2e .entry)) (now (b2e .entry))) v ⌝ }
+{
+    let entry = read_vertex_entry(n, list, v2e, e2e, b2e, v);
+    let Read::Value(code) = entry else {
+        return Read::Broken;
+    };
+    if code % 8 != 0 {
+        return Read::Value(0);
+    }
+    border_destination(n, list, v2e, e2e, b2e, code)
+}

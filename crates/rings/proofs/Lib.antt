@@ -1,0 +1,5 @@
+pub mod Following
+pub mod Standing
+pub mod Passes
+pub mod Listing
+pub mod Rings

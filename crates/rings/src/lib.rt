@@ -1,0 +1,91 @@
+// The queries that write a list: ring, neighbours and border loop of document 01.
+mod walks;
+
+use admission::border_refusal;
+use admission::refuse;
+use admission::vertex_refusal;
+use answer::Answer;
+use reads::Read;
+use reads::prior_vertex;
+use reads::start_side;
+use walks::Walk;
+use walks::list_walk;
+ghost use mathlib.Core.Path.{_≡_};
+ghost use Rattle.answer.specs.Numbers.{numbers};
+ghost use Rattle.rules.specs.Queries.{ringAnswer, ringLeaves, neighboursAnswer, neighboursLeaves, borderLoopAnswer, borderLoopLeaves};
+ghost use Rattle.reads.specs.Meshes.{mesh};
+
+// The elements about a vertex, in turn order.
+pub fn ring(
+    n: u32,
+    list: &[u32],
+    v2e: &[u32],
+    e2e: &[u32],
+    b2e: &[u32],
+    v: u32,
+    out: &mut [u32],
+) -> Answer
+    ensures { λ r. ⌜ numbers r ≡ ringAnswer (mesh n (now (list .entry)) (now (v2e .entry)) (now (e2e .entry)) (now (b2e .entry))) v (now (out .entry)) ⌝ }
+    ensures { λ _. ⌜ now (out .exit) ≡ ringLeaves (mesh n (now (list .entry)) (now (v2e .entry)) (now (e2e .entry)) (now (b2e .entry))) v (now (out .entry)) ⌝ }
+{
+    let refusal = vertex_refusal(n, list, v2e, e2e, b2e, v);
+    if 0 < refusal {
+        return refuse(refusal);
+    }
+    let begun = start_side(n, list, v2e, e2e, b2e, v);
+    let Read::Value(start) = begun else {
+        return refuse(12);
+    };
+    let limit = (list.len() / 4) as u32;
+    list_walk(Walk::Elements, n, list, v2e, e2e, b2e, limit, start, 0, out)
+}
+
+// The vertices joined to a vertex, in turn order.
+pub fn neighbours(
+    n: u32,
+    list: &[u32],
+    v2e: &[u32],
+    e2e: &[u32],
+    b2e: &[u32],
+    v: u32,
+    out: &mut [u32],
+) -> Answer
+    ensures { λ r. ⌜ numbers r ≡ neighboursAnswer (mesh n (now (list .entry)) (now (v2e .entry)) (now (e2e .entry)) (now (b2e .entry))) v (now (out .entry)) ⌝ }
+    ensures { λ _. ⌜ now (out .exit) ≡ neighboursLeaves (mesh n (now (list .entry)) (now (v2e .entry)) (now (e2e .entry)) (now (b2e .entry))) v (now (out .entry)) ⌝ }
+{
+    let refusal = vertex_refusal(n, list, v2e, e2e, b2e, v);
+    if 0 < refusal {
+        return refuse(refusal);
+    }
+    let begun = start_side(n, list, v2e, e2e, b2e, v);
+    let Read::Value(start) = begun else {
+        return refuse(12);
+    };
+    let earlier = prior_vertex(n, list, v2e, e2e, b2e, v);
+    let Read::Value(prior) = earlier else {
+        return refuse(12);
+    };
+    let limit = (list.len() / 4) as u32;
+    list_walk(Walk::Ends, n, list, v2e, e2e, b2e, limit, start, prior, out)
+}
+
+// The border numbers from b on, until b returns.
+pub fn border_loop(
+    n: u32,
+    list: &[u32],
+    v2e: &[u32],
+    e2e: &[u32],
+    b2e: &[u32],
+    b: u32,
+    out: &mut [u32],
+) -> Answer
+    ensures { λ r. ⌜ numbers r ≡ borderLoopAnswer (mesh n (now (list .entry)) (now (v2e .entry)) (now (e2e .entry)) (now (b2e .entry))) b (now (out .entry)) ⌝ }
+    ensures { λ _. ⌜ now (out .exit) ≡ borderLoopLeaves (mesh n (now (list .entry)) (now (v2e .entry)) (now (e2e .entry)) (now (b2e .entry))) b (now (out .entry)) ⌝ }
+{
+    let refusal = border_refusal(n, list, v2e, e2e, b2e, b);
+    if 0 < refusal {
+        return refuse(refusal);
+    }
+    let limit = b2e.len() as u32;
+    list_walk(Walk::Borders, n, list, v2e, e2e, b2e, limit, b, 0, out)
+}

@@ -1,0 +1,69 @@
+// What the element list alone says of a side. Elements are read through their rows.
+use halfedge::corner;
+use halfedge::next_side;
+use halfedge::previous_side;
+use halfedge::row;
+use halfedge::side_count;
+use halfedge::wide;
+ghost use mathlib.Core.Path.{_≡_};
+ghost use Prim.Native.Nat.{_*_, _≤_};
+ghost use lib.ListN.{length};
+ghost use Rattle.rules.specs.Elements.{isSide, Side, origin, destination, next, previous};
+ghost use Rattle.rules.specs.Elements.{row as rowIn};
+ghost use Rattle.halfedge.specs.Rows.{rowOf};
+
+// The row of element f.
+fn row_at(list: &[u32], f: u32) -> [u32; 4]
+    requires { ⌜ (1 ≤ f) × (4 * f ≤ length (now list)) ⌝ }
+    ensures { λ r. ⌜ r ≡ rowOf (rowIn (now (list .entry)) f) ⌝ }
+{
+    let a = 4 * wide(f - 1);
+    let e = a + 4;
+    row(&list[a..e])
+}
+
+pub fn is_side(list: &[u32], code: u32) -> bool
+    ensures { λ r. ⌜ r ≡ isSide (now (list .entry)) code ⌝ }
+{
+    let f = code / 8;
+    let i = code % 8;
+    if f < 1 {
+        return false;
+    }
+    if list.len() / 4 < wide(f) {
+        return false;
+    }
+    if i < 1 {
+        return false;
+    }
+    i <= side_count(row_at(list, f))
+}
+
+pub fn next_code(list: &[u32], s: u32) -> u32
+    requires { ⌜ Side (now list) s ⌝ }
+    ensures { λ r. ⌜ r ≡ next (now (list .entry)) s ⌝ }
+{
+    8 * (s / 8) + next_side(row_at(list, s / 8), s % 8)
+}
+
+pub fn previous_code(list: &[u32], s: u32) -> u32
+    requires { ⌜ Side (now list) s ⌝ }
+    ensures { λ r. ⌜ r ≡ previous (now (list .entry)) s ⌝ }
+{
+    8 * (s / 8) + previous_side(row_at(list, s / 8), s % 8)
+}
+
+pub fn origin_of(list: &[u32], s: u32) -> u32
+    requires { ⌜ Side (now list) s ⌝ }
+    ensures { λ r. ⌜ r ≡ origin (now (list .entry)) s ⌝ }
+{
+    corner(row_at(list, s / 8), s % 8)
+}
+
+pub fn destination_of(list: &[u32], s: u32) -> u32
+    requires { ⌜ Side (now list) s ⌝ }
+    ensures { λ r. ⌜ r ≡ destination (now (list .entry)) s ⌝ }
+{
+    let row = row_at(list, s / 8);
+    corner(row, next_side(row, s % 8))
+}
