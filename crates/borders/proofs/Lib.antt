@@ -1,4 +1,3 @@
-pub mod Rows
 pub mod Starting
 pub mod Stepping
 pub mod Ending

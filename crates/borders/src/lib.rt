@@ -5,10 +5,10 @@
 ghost use mathlib.Core.Path.{_≡_};
 ghost use Prim.Native.Nat.{_+_, _*_, _-_, _/_, _≤_, _<_};
 ghost use lib.ListN.{length};
-ghost use Rattle.rules.specs.Elements.{elements, row, Side, destination, sideAt};
-ghost use Rattle.halfedge.specs.Rows.{rowOf};
+ghost use Rattle.rules.specs.Elements.{Side, destination, sideAt};
 ghost use Rattle.borders.specs.Numbers.{Ready, Numbered, Matched, Numbering, Put, entered};
 use halfedge::wide;
+use sides::destination_of;
 
 // How many border sides there are, and how many sides.
 pub struct Counts {
@@ -84,7 +84,7 @@ fn put_border(n: usize, list: &[u32], work: &mut [u32], p: usize, b: u32)
     let border = 8 * b;
     work[n + p] = border;
     work[n + list.len() + wide(b) - 1] = s;
-    put_vertex(work, wide(destination(list, s)) - 1, border);
+    put_vertex(work, wide(destination_of(list, s)) - 1, border);
 }
 
 // Puts a border into a V2e entry, unless it has a border already.
@@ -95,23 +95,4 @@ fn put_vertex(work: &mut [u32], i: usize, border: u32)
     if work[i] % 8 != 0 {
         work[i] = border;
     }
-}
-
-fn destination(list: &[u32], s: u32) -> u32
-    requires { ⌜ Side (now list) s ⌝ }
-    ensures { λ r. ⌜ r ≡ destination (now (list .entry)) s ⌝ }
-{
-    let row = row_of(list, s);
-    let i = halfedge::next_side(row, s % 8);
-    halfedge::corner(row, i)
-}
-
-// The row of the element of side s.
-fn row_of(list: &[u32], s: u32) -> [u32; 4]
-    requires { ⌜ (1 ≤ s / 8) × (s / 8 ≤ elements (now list)) ⌝ }
-    ensures { λ r. ⌜ r ≡ rowOf (row (now (list .entry)) (s / 8)) ⌝ }
-{
-    let start = wide(4 * (s / 8 - 1));
-    let end = start + 4;
-    halfedge::row(&list[start..end])
 }

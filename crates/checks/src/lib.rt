@@ -12,6 +12,7 @@ ghost use Rattle.theory.specs.Sides.{Fit};
 ghost use Rattle.checks.specs.Firsts.{FirstsFrom, Firsts};
 ghost use Rattle.checks.specs.Maps.{Mapped, CrowdedAt, AlikeAt};
 use halfedge::wide;
+use sides::origin_of;
 
 // The side that begins at place p is the least so far of its origin x; where x is 0 no side begins there.
 fn put_first(n: usize, list: &[u32], work: &mut [u32], p: usize, x: u32)
@@ -100,16 +101,6 @@ pub fn crowded_side(n: usize, list: &[u32], work: &[u32]) -> u32
         p += 1;
     }
     0
-}
-
-// The origin of side s.
-pub fn origin_of(list: &[u32], s: u32) -> u32
-    requires { ⌜ Side (now list) s × (elements (now list) ≤ 1_000_000) ⌝ }
-    ensures { λ r. ⌜ r ≡ origin (now (list .entry)) s ⌝ }
-{
-    let a = 4 * (wide(s / 8) - 1);
-    let e = a + 4;
-    halfedge::corner(halfedge::row(&list[a..e]), s % 8)
 }
 
 // Another side runs alike with the side that begins at place p.

@@ -1,5 +1,1 @@
-pub mod Following
-pub mod Standing
-pub mod Passes
-pub mod Listing
 pub mod Rings

@@ -12,13 +12,13 @@ use Rattle.lists.specs.TestLaws.{zero-or}
 use Rattle.rules.specs.Elements.{elements, isSide, Side, next}
 use Rattle.rules.specs.Queries.{Mesh, andThen, bySide, prepend, readAll, follow, over, isHalfEdge, isVertex, readVertexEntry, readBorderSide, readOrigin, readDestination, startSide, ringSides, ring, neighbours, loopNext, borderLoop}
 use Rattle.theory.specs.Sides.{next-side}
-use Rattle.rings.specs.declared.walks.Walk.the-variants.{Elements, Ends, Borders}
+use Rattle.passes.specs.declared.Walk.the-variants.{Elements, Ends, Borders}
 use Rattle.reads.specs.Readings.{priorVertex}
-use Rattle.rings.specs.Walks.{walked, preceded}
+use Rattle.passes.specs.Walks.{walked, preceded}
 use Rattle.theory.specs.Reads.{and-then}
 use Rattle.reads.proofs.Readings.{was-valid, and-none, and-some, at-border, at-side}
 use Rattle.reads.proofs.Tested.{half-side, vertex-facts}
-use Rattle.rings.proofs.Listing.{preceded-none}
+use Rattle.passes.proofs.Listing.{preceded-none}
 
 module _ (M : Mesh) (v : ℕ) where
   -- a ring starts with a side

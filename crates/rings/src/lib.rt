@@ -1,15 +1,13 @@
 // The queries that write a list: ring, neighbours and border loop of document 01.
-mod walks;
-
 use admission::border_refusal;
 use admission::refuse;
 use admission::vertex_refusal;
 use answer::Answer;
+use passes::Walk;
+use passes::list_walk;
 use reads::Read;
 use reads::prior_vertex;
 use reads::start_side;
-use walks::Walk;
-use walks::list_walk;
 ghost use mathlib.Core.Path.{_≡_};
 ghost use Rattle.answer.specs.Numbers.{numbers};
 ghost use Rattle.rules.specs.Queries.{ringAnswer, ringLeaves, neighboursAnswer, neighboursLeaves, borderLoopAnswer, borderLoopLeaves};

@@ -13,7 +13,7 @@ ghost use Rattle.rules.specs.Elements.{row as rowIn};
 ghost use Rattle.halfedge.specs.Rows.{rowOf};
 
 // The row of element f.
-fn row_at(list: &[u32], f: u32) -> [u32; 4]
+pub fn row_at(list: &[u32], f: u32) -> [u32; 4]
     requires { ⌜ (1 ≤ f) × (4 * f ≤ length (now list)) ⌝ }
     ensures { λ r. ⌜ r ≡ rowOf (rowIn (now (list .entry)) f) ⌝ }
 {

@@ -12,7 +12,7 @@ use Rattle.borders.proofs.put_border.Tie as tie
 ends : (c : tie.After-wide2) → let a = c .before .before .before .before .before .before .before .args in c .wide2 .result ≡ destination (a .list .now) (sideAt (a .p))
 ends c =
     c .wide2 .ensures
-    ∙ c .before .destination .ensures
+    ∙ c .before .destination-of .ensures
     ∙ ap (destination (c .before .before .before .before .before .before .before .args .list .now)) (c .before .before .before .before .code-at .ensures)
 
 code-at-requires : tie.Need-code-at-requires
@@ -48,8 +48,8 @@ mul-work-2 c = search needs
 slice-write-work-2 : tie.Need-slice-write-work-2
 slice-write-work-2 c = simp length-set (omega (arith, c .wide .ensures))
 
-destination-requires : tie.Need-destination-requires
-destination-requires c κs = rw (c .before .before .code-at .ensures) (c .before .before .before .before .before .pre .1 .0)
+destination-of-requires : tie.Need-destination-of-requires
+destination-of-requires c κs = rw (c .before .before .code-at .ensures) (c .before .before .before .before .before .pre .1 .0)
 
 wide-requires-2 : tie.Need-wide-requires-2
 wide-requires-2 c κs = search needs
@@ -83,7 +83,7 @@ put-border-spec =
     sub-work
     mul-work-2
     slice-write-work-2
-    destination-requires
+    destination-of-requires
     wide-requires-2
     sub-put-vertex
     put-vertex-requires

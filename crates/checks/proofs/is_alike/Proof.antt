@@ -46,10 +46,10 @@ returns-2 : tie.Need-returns-2
 returns-2 c = record { says = λ t. absurd t; shows = λ (a, d, o). d (sym (read (c .before .before)) ∙ c .if2 .taken ∙ c .before .code-at .ensures) }
 
 origin-of-requires : tie.Need-origin-of-requires
-origin-of-requires c κs = (rw (read (c .before .before)) (sibling-side (c .before .before .before .before .before .before .args .list .now) (sideAt (c .before .before .before .before .before .before .args .p)) (there (c .before .before))), c .before .before .before .before .before .before .pre .0 .fit .size)
+origin-of-requires c κs = rw (read (c .before .before)) (sibling-side (c .before .before .before .before .before .before .args .list .now) (sideAt (c .before .before .before .before .before .before .args .p)) (there (c .before .before)))
 
 origin-of-requires-2 : tie.Need-origin-of-requires-2
-origin-of-requires-2 c κs = (rw (c .before .before .code-at .ensures) (there (c .before .before .before)), c .before .before .before .before .before .before .before .pre .0 .fit .size)
+origin-of-requires-2 c κs = rw (c .before .before .code-at .ensures) (there (c .before .before .before))
 
 returns-3 : tie.Need-returns-3
 returns-3 c = record { says = λ t. absurd t; shows = λ (a, d, o). c .if3 .taken (first (c .before) ∙ o ∙ sym (second (c .before))) }

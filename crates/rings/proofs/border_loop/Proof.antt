@@ -1,9 +1,9 @@
 -- `rings::border_loop` meets its contract: a walk over the border numbers from b.
 -- Assumes nothing.
 use Rattle.lists.specs.TestLaws.{means-within}
-use Rattle.rings.proofs.Listing.{list-refused, list-done}
+use Rattle.passes.proofs.Listing.{list-refused, list-done}
 use Rattle.rings.proofs.Rings.{border-walk}
-use Rattle.rings.specs.Walks.{preceded}
+use Rattle.passes.specs.Walks.{preceded}
 use Rattle.rules.specs.Queries.{borderLoopAnswer, borderLoopLeaves}
 use borrow.Author.Needs.{needs}
 use native.Mathlib.Omega.{arith}

@@ -1,6 +1,6 @@
 -- `rings::neighbours` meets its contract: a walk over the ends from the start side, after the vertex before them.
 -- Assumes nothing.
-use Rattle.rings.proofs.Listing.{list-refused, list-broken, list-done}
+use Rattle.passes.proofs.Listing.{list-refused, list-broken, list-done}
 use Rattle.reads.proofs.Readings.{value-of, broken-of}
 use Rattle.rings.proofs.Rings.{start-side, neighbours-walk, neighbours-unstarted, neighbours-unread}
 use Rattle.rules.specs.Queries.{neighboursAnswer, neighboursLeaves}

@@ -1,9 +1,9 @@
 -- `rings::ring` meets its contract: a walk over the elements from the start side.
 -- Assumes nothing.
-use Rattle.rings.proofs.Listing.{list-refused, list-broken, list-done}
+use Rattle.passes.proofs.Listing.{list-refused, list-broken, list-done}
 use Rattle.reads.proofs.Readings.{value-of, broken-of}
 use Rattle.rings.proofs.Rings.{start-side, ring-walk, ring-none}
-use Rattle.rings.specs.Walks.{preceded}
+use Rattle.passes.specs.Walks.{preceded}
 use Rattle.rules.specs.Queries.{ringAnswer, ringLeaves}
 use borrow.Author.Needs.{needs}
 use native.Mathlib.Omega.{arith}

@@ -1,0 +1,4 @@
+pub mod Following
+pub mod Standing
+pub mod Passes
+pub mod Listing
