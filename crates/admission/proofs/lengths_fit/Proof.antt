@@ -16,12 +16,14 @@ returns c =
 
 returns-2 : tie.Need-returns-2
 returns-2 c =
-    let h : c .before .before .before .args .v2e ≡ c .before .before .before .args .n = omega arith in
+    let args = c .before .before .before .args in
+    let h : args .v2e ≡ args .n = omega arith in
     simp (eq-eqb _ _ h, ne-eqb _ _ (c .if2 .taken))
 
 returns-3 : tie.Need-returns-3
 returns-3 c =
-    let h : c .before .before .before .args .v2e ≡ c .before .before .before .args .n = omega arith in
+    let args = c .before .before .before .args in
+    let h : args .v2e ≡ args .n = omega arith in
     simp (eq-eqb _ _ h, eq-eqb _ _ (c .if2 .left))
 
 pub lengths-fit-spec : {M : Type 1} → statement M

@@ -19,8 +19,9 @@ loop-holds c = (omega arith, c .before .before .pre .1)
 
 number-place-requires : tie.Need-number-place-requires Inv-loop μ-loop
 number-place-requires c κs =
+    let pre = c .before .before .before .before .before .pre in
     let l = c .before .before .loop in
-    (c .before .before .before .before .before .pre .0, (c .before .loop-test .taken, l .inv .1))
+    (pre .0, (c .before .loop-test .taken, l .inv .1))
 
 add-p : tie.Need-add-p Inv-loop μ-loop
 add-p c = omega arith
@@ -32,12 +33,15 @@ loop-again : tie.Need-loop-again Inv-loop μ-loop
 loop-again c = (omega arith, c .before .before .number-place .ensures)
 
 same-length : tie.Need-same-length Inv-loop μ-loop
-same-length c = c .before .loop .inv .1 .long ∙ sym (c .before .before .before .before .pre .1 .long)
+same-length c =
+    let pre = c .before .before .before .before .pre in
+    c .before .loop .inv .1 .long ∙ sym (pre .1 .long)
 
 returns : tie.Need-returns Inv-loop μ-loop
 returns c =
+    let args = c .before .before .before .before .args in
     let l = c .before .loop in
-    let e : l .p ≡ length (c .before .before .before .before .args .list .now) = omega (arith, l .inv .0, c .loop-test .left) in
+    let e : l .p ≡ length (args .list .now) = omega (arith, l .inv .0, c .loop-test .left) in
     rw e at (l .inv .1)
 
 pub number-spec : {M : Type 1} → statement M

@@ -33,8 +33,9 @@ clear-requires c κs = search needs
 
 number-requires : tie.Need-number-requires
 number-requires c κs =
+    let clear = c .before .before .before .clear in
     let p = c .before .before .before .before .before .before .before in
-    let l = c .before .before .before .clear in
+    let l = clear in
     let n = p .args .n in
     let list = p .args .list .now in
     let k : n + length list + length list - (n + length list) ≡ length list = omega arith in

@@ -11,9 +11,11 @@ use Rattle.borders.proofs.put_border.Tie as tie
 
 ends : (c : tie.After-wide2) → let a = c .before .before .before .before .before .before .before .args in c .wide2 .result ≡ destination (a .list .now) (sideAt (a .p))
 ends c =
+    let args = c .before .before .before .before .before .before .before .args in
+    let code-at = c .before .before .before .before .code-at in
     c .wide2 .ensures
     ∙ c .before .destination-of .ensures
-    ∙ ap (destination (c .before .before .before .before .before .before .before .args .list .now)) (c .before .before .before .before .code-at .ensures)
+    ∙ ap (destination (args .list .now)) (code-at .ensures)
 
 code-at-requires : tie.Need-code-at-requires
 code-at-requires c κs = search needs
@@ -49,7 +51,9 @@ slice-write-work-2 : tie.Need-slice-write-work-2
 slice-write-work-2 c = simp length-set (omega (arith, c .wide .ensures))
 
 destination-of-requires : tie.Need-destination-of-requires
-destination-of-requires c κs = rw (c .before .before .code-at .ensures) (c .before .before .before .before .before .pre .1 .0)
+destination-of-requires c κs =
+    let pre = c .before .before .before .before .before .pre in
+    rw (c .before .before .code-at .ensures) (pre .1 .0)
 
 wide-requires-2 : tie.Need-wide-requires-2
 wide-requires-2 c κs = search needs

@@ -17,7 +17,8 @@ same-length c = search needs
 
 returns : tie.Need-returns
 returns c =
-    let asked = c .before .before .before .border-loop .ensures in
+    let border-loop = c .before .before .before .border-loop in
+    let asked = border-loop .ensures in
     (c .pack .ensures ∙ ap packedAnswer (asked .0), asked .1)
 
 pub borzhanu-border-loop-spec : {M : Type 1} → statement M

@@ -26,7 +26,8 @@ same-length-4 c = search needs
 
 returns : tie.Need-returns
 returns c =
-    let built = c .before .before .before .before .before .before .before .before .before .build .ensures in
+    let build = c .before .before .before .before .before .before .before .before .before .build in
+    let built = build .ensures in
     (c .pack .ensures ∙ ap packedAnswer (built .0), built .1)
 
 pub borzhanu-build-spec : {M : Type 1} → statement M

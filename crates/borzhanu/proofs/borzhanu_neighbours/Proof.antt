@@ -17,7 +17,8 @@ same-length c = search needs
 
 returns : tie.Need-returns
 returns c =
-    let asked = c .before .before .before .neighbours .ensures in
+    let neighbours = c .before .before .before .neighbours in
+    let asked = neighbours .ensures in
     (c .pack .ensures ∙ ap packedAnswer (asked .0), asked .1)
 
 pub borzhanu-neighbours-spec : {M : Type 1} → statement M

@@ -20,7 +20,8 @@ same-length-2 c = search needs
 
 returns : tie.Need-returns
 returns c =
-    let recovered = c .before .before .before .before .before .recover .ensures in
+    let recover = c .before .before .before .before .before .recover in
+    let recovered = recover .ensures in
     (c .pack .ensures ∙ ap packedAnswer (recovered .0), recovered .1)
 
 pub borzhanu-recover-spec : {M : Type 1} → statement M

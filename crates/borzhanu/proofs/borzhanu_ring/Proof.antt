@@ -17,7 +17,8 @@ same-length c = search needs
 
 returns : tie.Need-returns
 returns c =
-    let asked = c .before .before .before .ring .ensures in
+    let ring = c .before .before .before .ring in
+    let asked = ring .ensures in
     (c .pack .ensures ∙ ap packedAnswer (asked .0), asked .1)
 
 pub borzhanu-ring-spec : {M : Type 1} → statement M

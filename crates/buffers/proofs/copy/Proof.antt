@@ -31,7 +31,9 @@ mul-out-2 : tie.Need-mul-out-2 Inv-loop μ-loop
 mul-out-2 c = search needs
 
 slice-write-out : tie.Need-slice-write-out Inv-loop μ-loop
-slice-write-out c = omega (arith, c .before .before .before .pre)
+slice-write-out c =
+    let pre = c .before .before .before .pre in
+    omega (arith, pre)
 
 add-i : tie.Need-add-i Inv-loop μ-loop
 add-i c = search needs
@@ -40,7 +42,10 @@ loop-less : tie.Need-loop-less Inv-loop μ-loop
 loop-less c = omega arith
 
 loop-again : tie.Need-loop-again Inv-loop μ-loop
-loop-again c = let i = c .before .before .loop .i in let k = c .before .before .loop .inv in let s = c .before .before .before .args in (omega arith, ap (λ (l : List ℕ). set l i (at (s .from .now) i)) (k .1) ∙ copy-more (s .from .now) (s .out .now) i (omega arith) (omega (arith, c .before .before .before .pre)), simp length-set (k .2))
+loop-again c =
+    let pre = c .before .before .before .pre in
+    let args = c .before .before .before .args in
+    let i = c .before .before .loop .i in let k = c .before .before .loop .inv in let s = args in (omega arith, ap (λ (l : List ℕ). set l i (at (s .from .now) i)) (k .1) ∙ copy-more (s .from .now) (s .out .now) i (omega arith) (omega (arith, pre)), simp length-set (k .2))
 
 same-length : tie.Need-same-length Inv-loop μ-loop
 same-length c = search needs

@@ -47,7 +47,10 @@ shared-slice-read-if2-2 : tie.Need-shared-slice-read-if2-2 Inv-loop μ-loop
 shared-slice-read-if2-2 c = search needs
 
 returns-2 : tie.Need-returns-2 Inv-loop μ-loop
-returns-2 c = differ (c .before .before .before .before .before .before .args .a .now) (c .before .before .before .before .before .before .args .b .now) (λ e. c .if2 .taken (ap (λ (l : List ℕ). at l (c .before .before .before .before .loop .i)) e))
+returns-2 c =
+    let args = c .before .before .before .before .before .before .args in
+    let loop = c .before .before .before .before .loop in
+    differ (args .a .now) (args .b .now) (λ e. c .if2 .taken (ap (λ (l : List ℕ). at l (loop .i)) e))
 
 add-i : tie.Need-add-i Inv-loop μ-loop
 add-i c = search needs
@@ -56,10 +59,14 @@ loop-less : tie.Need-loop-less Inv-loop μ-loop
 loop-less c = omega arith
 
 loop-again : tie.Need-loop-again Inv-loop μ-loop
-loop-again c = (omega arith, below-more _ _ (c .before .before .before .before .loop .inv .1) (c .if2 .left))
+loop-again c =
+    let loop = c .before .before .before .before .loop in
+    (omega arith, below-more _ _ (loop .inv .1) (c .if2 .left))
 
 returns-3 : tie.Need-returns-3 Inv-loop μ-loop
-returns-3 c = agree (c .before .before .before .args .a .now) (c .before .before .before .args .b .now) (c .before .before .if1 .left) (λ k h. c .before .loop .inv .1 k (omega arith))
+returns-3 c =
+    let args = c .before .before .before .args in
+    agree (args .a .now) (args .b .now) (c .before .before .if1 .left) (λ k h. c .before .loop .inv .1 k (omega arith))
 
 pub is-same-spec : {M : Type 1} → statement M
 is-same-spec =

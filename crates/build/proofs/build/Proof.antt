@@ -34,13 +34,19 @@ sizes-fit-requires : tie.Need-sizes-fit-requires
 sizes-fit-requires c κs = search needs
 
 returns : tie.Need-returns
-returns c = unsized (c .before .before .before .before .before .before .before .args .n) (c .before .before .before .before .before .before .before .args .list .now) (c .before .before .before .before .before .before .before .args .v2e .now) (c .before .before .before .before .before .before .before .args .e2e .now) (c .before .before .before .before .before .before .before .args .b2e .now) (c .before .before .before .before .before .before .before .args .work .now) (sym (sizes (c .before)) ∙ not-true (c .before .sizes-fit .result) (c .if1 .taken))
+returns c =
+    let args = c .before .before .before .before .before .before .before .args in
+    unsized (args .n) (args .list .now) (args .v2e .now) (args .e2e .now) (args .b2e .now) (args .work .now) (sym (sizes (c .before)) ∙ not-true (c .before .sizes-fit .result) (c .if1 .taken))
 
 lengths-fit-requires : tie.Need-lengths-fit-requires
-lengths-fit-requires c κs = means-sizes (c .before .before .before .before .before .before .before .args .n) (c .before .before .before .before .before .before .before .args .list .now) .says (sizes-known (c .before .before .before .before .before .before .before .args .n) (c .before .before .before .before .before .before .before .args .list .now) (c .before .before .before .before .before .before .before .args .e2e .now) (sized c) .0) .1 .0
+lengths-fit-requires c κs =
+    let args = c .before .before .before .before .before .before .before .args in
+    means-sizes (args .n) (args .list .now) .says (sizes-known (args .n) (args .list .now) (args .e2e .now) (sized c) .0) .1 .0
 
 returns-2 : tie.Need-returns-2
-returns-2 c = unlengthened (c .before .before .before .before .before .before .before .before .before .args .n) (c .before .before .before .before .before .before .before .before .before .args .list .now) (c .before .before .before .before .before .before .before .before .before .args .v2e .now) (c .before .before .before .before .before .before .before .before .before .args .e2e .now) (c .before .before .before .before .before .before .before .before .before .args .b2e .now) (c .before .before .before .before .before .before .before .before .before .args .work .now) (sized (c .before .before)) (sym (lengths (c .before)) ∙ not-true (c .before .lengths-fit .result) (c .if2 .taken))
+returns-2 c =
+    let args = c .before .before .before .before .before .before .before .before .before .args in
+    unlengthened (args .n) (args .list .now) (args .v2e .now) (args .e2e .now) (args .b2e .now) (args .work .now) (sized (c .before .before)) (sym (lengths (c .before)) ∙ not-true (c .before .lengths-fit .result) (c .if2 .taken))
 
 build-fit-requires : tie.Need-build-fit-requires
 build-fit-requires c κs = (sized (c .before .before .before .before .before .before), lengthened (c .before .before .before .before))
@@ -61,7 +67,10 @@ same-length-4 : tie.Need-same-length-4
 same-length-4 c = search needs
 
 returns-3 : tie.Need-returns-3
-returns-3 c = built (c .before .before .before .before .before .before .before .before .before .before .before .before .before .before .before .before .before .before .before .before .before .before .before .before .before .before .args .n) (c .before .before .before .before .before .before .before .before .before .before .before .before .before .before .before .before .before .before .before .before .before .before .before .before .before .before .args .list .now) (c .before .before .before .before .before .before .before .before .before .before .before .before .before .before .before .before .before .before .before .before .before .before .before .before .before .before .args .v2e .now) (c .before .before .before .before .before .before .before .before .before .before .before .before .before .before .before .before .before .before .before .before .before .before .before .before .before .before .args .e2e .now) (c .before .before .before .before .before .before .before .before .before .before .before .before .before .before .before .before .before .before .before .before .before .before .before .before .before .before .args .b2e .now) (c .before .before .before .before .before .before .before .before .before .before .before .before .before .before .before .before .before .before .before .before .before .before .before .before .before .before .args .work .now) (numbers (c .before .before .before .before .before .before .before .before .before .before .before .before .build-fit .result)) _ _ _ _ (sized (c .before .before .before .before .before .before .before .before .before .before .before .before .before .before .before .before .before .before .before)) (lengthened (c .before .before .before .before .before .before .before .before .before .before .before .before .before .before .before .before .before)) (c .before .before .before .before .before .before .before .before .before .before .before .before .build-fit .ensures .0) (c .before .before .clear .ensures ∙ ap (λ (k : ℕ). replicate k 0) (c .before .before .before .before .before .before .before .before .before .before .before .before .build-fit .ensures .1))
+returns-3 c =
+    let args = c .before .before .before .before .before .before .before .before .before .before .before .before .before .before .before .before .before .before .before .before .before .before .before .before .before .before .args in
+    let build-fit = c .before .before .before .before .before .before .before .before .before .before .before .before .build-fit in
+    built (args .n) (args .list .now) (args .v2e .now) (args .e2e .now) (args .b2e .now) (args .work .now) (numbers (build-fit .result)) _ _ _ _ (sized (c .before .before .before .before .before .before .before .before .before .before .before .before .before .before .before .before .before .before .before)) (lengthened (c .before .before .before .before .before .before .before .before .before .before .before .before .before .before .before .before .before)) (build-fit .ensures .0) (c .before .before .clear .ensures ∙ ap (λ (k : ℕ). replicate k 0) (build-fit .ensures .1))
 
 pub build-spec : {M : Type 1} → statement M
 build-spec =

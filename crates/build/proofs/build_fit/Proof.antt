@@ -22,20 +22,30 @@ abbrev Tabled : Type 0
 Tabled = tie.After-tabulate
 
 abbrev list : Tabled → List ℕ
-list c = c .before .before .before .before .before .before .before .before .args .list .now
+list c =
+    let args = c .before .before .before .before .before .before .before .before .args in
+    args .list .now
 
 abbrev scratch : Tabled → List ℕ
 scratch c = c .tabulate .last .1 .1 .0
 
 -- the scratch buffer back in front of the rest of the work buffer
 abbrev work-now : Tabled → List ℕ
-work-now c = scratch c ++ drop (c .before .before .wide .result + 12 * elements (list c) - 0) (c .before .before .before .before .before .before .before .before .args .work .now)
+work-now c =
+    let args = c .before .before .before .before .before .before .before .before .args in
+    scratch c ++ drop (c .before .before .wide .result + 12 * elements (list c) - 0) (args .work .now)
 
 scratch-long : (c : Tabled) → length (scratch c) ≡ c .before .before .before .before .before .before .before .before .args .n + 12 * elements (list c)
-scratch-long c = c .tabulate .ensures .long ∙ simp length-take (omega (arith, c .before .before .wide .ensures, lengths-known (c .before .before .before .before .before .before .before .before .args .n) (c .before .before .before .before .before .before .before .before .args .list .now) (c .before .before .before .before .before .before .before .before .args .e2e .now) (c .before .before .before .before .before .before .before .before .args .v2e .now) (c .before .before .before .before .before .before .before .before .args .work .now) (c .before .before .before .before .before .before .before .before .pre .1)))
+scratch-long c =
+    let pre = c .before .before .before .before .before .before .before .before .pre in
+    let args = c .before .before .before .before .before .before .before .before .args in
+    c .tabulate .ensures .long ∙ simp length-take (omega (arith, c .before .before .wide .ensures, lengths-known (args .n) (args .list .now) (args .e2e .now) (args .v2e .now) (args .work .now) (pre .1)))
 
 same-long : (c : Tabled) → length (work-now c) ≡ length (c .before .before .before .before .before .before .before .before .args .work .now)
-same-long c = simp (length-append, length-drop) (omega (arith, scratch-long c, c .before .before .wide .ensures, lengths-known (c .before .before .before .before .before .before .before .before .args .n) (c .before .before .before .before .before .before .before .before .args .list .now) (c .before .before .before .before .before .before .before .before .args .e2e .now) (c .before .before .before .before .before .before .before .before .args .v2e .now) (c .before .before .before .before .before .before .before .before .args .work .now) (c .before .before .before .before .before .before .before .before .pre .1)))
+same-long c =
+    let pre = c .before .before .before .before .before .before .before .before .pre in
+    let args = c .before .before .before .before .before .before .before .before .args in
+    simp (length-append, length-drop) (omega (arith, scratch-long c, c .before .before .wide .ensures, lengths-known (args .n) (args .list .now) (args .e2e .now) (args .v2e .now) (args .work .now) (pre .1)))
 
 stated : (c : Tabled) → numbers (c .tabulate .result) ≡ listAnswer (c .before .before .before .before .before .before .before .before .args .n) (list c)
 stated c = c .tabulate .ensures .answer
@@ -56,10 +66,16 @@ part-tabulate-start : tie.Need-part-tabulate-start
 part-tabulate-start c = search needs
 
 part-tabulate-end : tie.Need-part-tabulate-end
-part-tabulate-end c = let h : c .wide .result + 12 * elements (c .before .before .before .before .before .before .args .list .now) ≤ length (c .before .before .before .before .before .before .args .work .now) = omega (arith, c .wide .ensures, lengths-known (c .before .before .before .before .before .before .args .n) (c .before .before .before .before .before .before .args .list .now) (c .before .before .before .before .before .before .args .e2e .now) (c .before .before .before .before .before .before .args .v2e .now) (c .before .before .before .before .before .before .args .work .now) (c .before .before .before .before .before .before .pre .1)) in search needs
+part-tabulate-end c =
+    let pre = c .before .before .before .before .before .before .pre in
+    let args = c .before .before .before .before .before .before .args in
+    let h : c .wide .result + 12 * elements (args .list .now) ≤ length (args .work .now) = omega (arith, c .wide .ensures, lengths-known (args .n) (args .list .now) (args .e2e .now) (args .v2e .now) (args .work .now) (pre .1)) in search needs
 
 tabulate-requires : tie.Need-tabulate-requires
-tabulate-requires c κs = record { sizes = sizes-known (c .before .before .before .before .before .before .before .args .n) (c .before .before .before .before .before .before .before .args .list .now) (c .before .before .before .before .before .before .before .args .e2e .now) (c .before .before .before .before .before .before .before .pre .0) .0; long = (simp length-take (omega (arith, c .before .wide .ensures, lengths-known (c .before .before .before .before .before .before .before .args .n) (c .before .before .before .before .before .before .before .args .list .now) (c .before .before .before .before .before .before .before .args .e2e .now) (c .before .before .before .before .before .before .before .args .v2e .now) (c .before .before .before .before .before .before .before .args .work .now) (c .before .before .before .before .before .before .before .pre .1)))) }
+tabulate-requires c κs =
+    let pre = c .before .before .before .before .before .before .before .pre in
+    let args = c .before .before .before .before .before .before .before .args in
+    record { sizes = sizes-known (args .n) (args .list .now) (args .e2e .now) (pre .0) .0; long = (simp length-take (omega (arith, c .before .wide .ensures, lengths-known (args .n) (args .list .now) (args .e2e .now) (args .v2e .now) (args .work .now) (pre .1)))) }
 
 enum-known-t : tie.Need-enum-known-t
 enum-known-t c = search needs
@@ -72,9 +88,10 @@ same-length c = search needs
 
 returns : tie.Need-returns
 returns c =
+    let args = c .before .before .before .before .before .before .before .before .before .before .before .before .args in
     let t = c .before .before .before .before in
     let e = ap numbers (c .enum-told .given .1) in
-    (built-refused (c .before .before .before .before .before .before .before .before .before .before .before .before .args .n) (c .before .before .before .before .before .before .before .before .before .before .before .before .args .list .now) (c .before .before .before .before .before .before .before .before .before .before .before .before .args .v2e .now) (c .before .before .before .before .before .before .before .before .before .before .before .before .args .e2e .now) (c .before .before .before .before .before .before .before .before .before .before .before .before .args .b2e .now) (numbers (t .tabulate .result)) _ _ _ e (refused-room (length (c .before .before .before .before .before .before .before .before .before .before .before .before .args .b2e .now)) _ _ _ _ _ e (stated t)), same-long t)
+    (built-refused (args .n) (args .list .now) (args .v2e .now) (args .e2e .now) (args .b2e .now) (numbers (t .tabulate .result)) _ _ _ e (refused-room (length (args .b2e .now)) _ _ _ _ _ e (stated t)), same-long t)
 
 wide-requires-2 : tie.Need-wide-requires-2
 wide-requires-2 c κs = search needs
@@ -84,27 +101,35 @@ same-length-2 c = search needs
 
 returns-2 : tie.Need-returns-2
 returns-2 c =
+    let args = c .before .before .before .before .before .before .before .before .before .before .before .before .before .before .before .args in
+    let t′ = c .before .before .before .t in
     let t = c .before .before .before .before .before .before .before in
-    let k = c .before .before .before .t .given .0 .0 in
-    let e = c .before .before .before .t .given .0 .1 .0 in
-    let g : listAnswer (c .before .before .before .before .before .before .before .before .before .before .before .before .before .before .before .args .n) (c .before .before .before .before .before .before .before .before .before .before .before .before .before .before .before .args .list .now) ≡ gives k e = sym (stated t) ∙ ap numbers (c .before .before .before .t .given .1) in
-    (built-refused (c .before .before .before .before .before .before .before .before .before .before .before .before .before .before .before .args .n) (c .before .before .before .before .before .before .before .before .before .before .before .before .before .before .before .args .list .now) (c .before .before .before .before .before .before .before .before .before .before .before .before .before .before .before .args .v2e .now) (c .before .before .before .before .before .before .before .before .before .before .before .before .before .before .before .args .e2e .now) (c .before .before .before .before .before .before .before .before .before .before .before .before .before .before .before .args .b2e .now) _ 9 k 0 refl (sym (ap (roomCheck (length (c .before .before .before .before .before .before .before .before .before .before .before .before .before .before .before .args .b2e .now))) g ∙ room-short (length (c .before .before .before .before .before .before .before .before .before .before .before .before .before .before .before .args .b2e .now)) k e (omega (arith, c .before .wide2 .ensures)))), same-long t)
+    let k = t′ .given .0 .0 in
+    let e = t′ .given .0 .1 .0 in
+    let g : listAnswer (args .n) (args .list .now) ≡ gives k e = sym (stated t) ∙ ap numbers (t′ .given .1) in
+    (built-refused (args .n) (args .list .now) (args .v2e .now) (args .e2e .now) (args .b2e .now) _ 9 k 0 refl (sym (ap (roomCheck (length (args .b2e .now))) g ∙ room-short (length (args .b2e .now)) k e (omega (arith, c .before .wide2 .ensures)))), same-long t)
 
 wide-requires-3 : tie.Need-wide-requires-3
 wide-requires-3 c κs = search needs
 
 commit-requires : tie.Need-commit-requires
 commit-requires c κs =
+    let pre = c .before .before .before .before .before .before .before .before .before .before .before .before .before .before .before .before .before .before .before .before .pre in
+    let args = c .before .before .before .before .before .before .before .before .before .before .before .before .before .before .before .before .before .before .before .before .args in
+    let t′ = c .before .before .before .before .before .before .before .before .t in
+    let wide2 = c .before .before .before .before .before .before .wide2 in
+    let if1 = c .before .before .before .before .before .if1 in
+    let wide3 = c .before .before .before .before .wide3 in
     let t = c .before .before .before .before .before .before .before .before .before .before .before .before in
-    let k = c .before .before .before .before .before .before .before .before .t .given .0 .0 in
-    let b = counts-are (c .before .before .before .before .before .before .before .before .before .before .before .before .before .before .before .before .before .before .before .before .args .n) (c .before .before .before .before .before .before .before .before .before .before .before .before .before .before .before .before .before .before .before .before .args .list .now) k _ (sym (stated t) ∙ ap numbers (c .before .before .before .before .before .before .before .before .t .given .1)) in
-    let l = lengths-known (c .before .before .before .before .before .before .before .before .before .before .before .before .before .before .before .before .before .before .before .before .args .n) (c .before .before .before .before .before .before .before .before .before .before .before .before .before .before .before .before .before .before .before .before .args .list .now) (c .before .before .before .before .before .before .before .before .before .before .before .before .before .before .before .before .before .before .before .before .args .e2e .now) (c .before .before .before .before .before .before .before .before .before .before .before .before .before .before .before .before .before .before .before .before .args .v2e .now) (c .before .before .before .before .before .before .before .before .before .before .before .before .before .before .before .before .before .before .before .before .args .work .now) (c .before .before .before .before .before .before .before .before .before .before .before .before .before .before .before .before .before .before .before .before .pre .1) in
-    let z = means-sizes (c .before .before .before .before .before .before .before .before .before .before .before .before .before .before .before .before .before .before .before .before .args .n) (c .before .before .before .before .before .before .before .before .before .before .before .before .before .before .before .before .before .before .before .before .args .list .now) .says (sizes-known (c .before .before .before .before .before .before .before .before .before .before .before .before .before .before .before .before .before .before .before .before .args .n) (c .before .before .before .before .before .before .before .before .before .before .before .before .before .before .before .before .before .before .before .before .args .list .now) (c .before .before .before .before .before .before .before .before .before .before .before .before .before .before .before .before .before .before .before .before .args .e2e .now) (c .before .before .before .before .before .before .before .before .before .before .before .before .before .before .before .before .before .before .before .before .pre .0) .0) in (
-      omega (arith, same-long t, l, c .before .before .before .before .wide3 .ensures, c .before .before .before .before .before .before .wide2 .ensures, b, borders-bound (list t), z .1 .1),
-      omega (arith, l, c .before .before .before .before .wide3 .ensures),
+    let k = t′ .given .0 .0 in
+    let b = counts-are (args .n) (args .list .now) k _ (sym (stated t) ∙ ap numbers (t′ .given .1)) in
+    let l = lengths-known (args .n) (args .list .now) (args .e2e .now) (args .v2e .now) (args .work .now) (pre .1) in
+    let z = means-sizes (args .n) (args .list .now) .says (sizes-known (args .n) (args .list .now) (args .e2e .now) (pre .0) .0) in (
+      omega (arith, same-long t, l, wide3 .ensures, wide2 .ensures, b, borders-bound (list t), z .1 .1),
+      omega (arith, l, wide3 .ensures),
       l .1,
-      omega (arith, c .before .before .before .before .before .if1 .left),
-      omega (arith, z, c .before .before .before .before .wide3 .ensures),
+      omega (arith, if1 .left),
+      omega (arith, z, wide3 .ensures),
       omega (arith, z),
     )
 
@@ -122,15 +147,22 @@ same-length-6 c = search needs
 
 returns-3 : tie.Need-returns-3
 returns-3 c =
+    let pre = c .before .before .before .before .before .before .before .before .before .before .before .before .before .before .before .before .before .before .before .before .before .before .before .before .before .before .before .pre in
+    let args = c .before .before .before .before .before .before .before .before .before .before .before .before .before .before .before .before .before .before .before .before .before .before .before .before .before .before .before .args in
+    let t′ = c .before .before .before .before .before .before .before .before .before .before .before .before .before .before .before .t in
+    let wide2 = c .before .before .before .before .before .before .before .before .before .before .before .before .before .wide2 in
+    let if1 = c .before .before .before .before .before .before .before .before .before .before .before .before .if1 in
+    let wide3 = c .before .before .before .before .before .before .before .before .before .before .before .wide3 in
+    let commit = c .before .before .before .before .before .before .commit in
     let t = c .before .before .before .before .before .before .before .before .before .before .before .before .before .before .before .before .before .before .before in
-    let k = c .before .before .before .before .before .before .before .before .before .before .before .before .before .before .before .t .given .0 .0 in
-    let e = c .before .before .before .before .before .before .before .before .before .before .before .before .before .before .before .t .given .0 .1 .0 in
-    let g : numbers (t .tabulate .result) ≡ gives k e = ap numbers (c .before .before .before .before .before .before .before .before .before .before .before .before .before .before .before .t .given .1) in
-    let b = counts-are (c .before .before .before .before .before .before .before .before .before .before .before .before .before .before .before .before .before .before .before .before .before .before .before .before .before .before .before .args .n) (c .before .before .before .before .before .before .before .before .before .before .before .before .before .before .before .before .before .before .before .before .before .before .before .before .before .before .before .args .list .now) k e (sym (stated t) ∙ g) in
-    let z = means-sizes (c .before .before .before .before .before .before .before .before .before .before .before .before .before .before .before .before .before .before .before .before .before .before .before .before .before .before .before .args .n) (c .before .before .before .before .before .before .before .before .before .before .before .before .before .before .before .before .before .before .before .before .before .before .before .before .before .before .before .args .list .now) .says (sizes-known (c .before .before .before .before .before .before .before .before .before .before .before .before .before .before .before .before .before .before .before .before .before .before .before .before .before .before .before .args .n) (c .before .before .before .before .before .before .before .before .before .before .before .before .before .before .before .before .before .before .before .before .before .before .before .before .before .before .before .args .list .now) (c .before .before .before .before .before .before .before .before .before .before .before .before .before .before .before .before .before .before .before .before .before .before .before .before .before .before .before .args .e2e .now) (c .before .before .before .before .before .before .before .before .before .before .before .before .before .before .before .before .before .before .before .before .before .before .before .before .before .before .before .pre .0) .0) in (
-      built-counts (c .before .before .before .before .before .before .before .before .before .before .before .before .before .before .before .before .before .before .before .before .before .before .before .before .before .before .before .args .n) (c .before .before .before .before .before .before .before .before .before .before .before .before .before .before .before .before .before .before .before .before .before .before .before .before .before .before .before .args .list .now) (c .before .before .before .before .before .before .before .before .before .before .before .before .before .before .before .before .before .before .before .before .before .before .before .before .before .before .before .args .v2e .now) (c .before .before .before .before .before .before .before .before .before .before .before .before .before .before .before .before .before .before .before .before .before .before .before .before .before .before .before .args .e2e .now) (c .before .before .before .before .before .before .before .before .before .before .before .before .before .before .before .before .before .before .before .before .before .before .before .before .before .before .before .args .b2e .now) (gives k e) k e (elements (list t)) (work-now t) _ _ _ refl (sym g ∙ stated t) (omega (arith, c .before .before .before .before .before .before .before .before .before .before .before .before .before .wide2 .ensures, c .before .before .before .before .before .before .before .before .before .before .before .before .if1 .left)) b refl (lengths-known (c .before .before .before .before .before .before .before .before .before .before .before .before .before .before .before .before .before .before .before .before .before .before .before .before .before .before .before .args .n) (c .before .before .before .before .before .before .before .before .before .before .before .before .before .before .before .before .before .before .before .before .before .before .before .before .before .before .before .args .list .now) (c .before .before .before .before .before .before .before .before .before .before .before .before .before .before .before .before .before .before .before .before .before .before .before .before .before .before .before .args .e2e .now) (c .before .before .before .before .before .before .before .before .before .before .before .before .before .before .before .before .before .before .before .before .before .before .before .before .before .before .before .args .v2e .now) (c .before .before .before .before .before .before .before .before .before .before .before .before .before .before .before .before .before .before .before .before .before .before .before .before .before .before .before .args .work .now) (c .before .before .before .before .before .before .before .before .before .before .before .before .before .before .before .before .before .before .before .before .before .before .before .before .before .before .before .pre .1) .1)
-          (holds-front (c .before .before .before .before .before .before .before .before .before .before .before .before .before .before .before .before .before .before .before .before .before .before .before .before .before .before .before .args .n) (c .before .before .before .before .before .before .before .before .before .before .before .before .before .before .before .before .before .before .before .before .before .before .before .before .before .before .before .args .list .now) (scratch t) _ (scratch-long t) (omega (arith, borders-bound (list t), z .1 .1)) (t .tabulate .ensures .holds k e g))
-          (rw (c .before .before .before .before .before .before .before .before .before .before .before .wide3 .ensures, c .before .before .before .before .before .before .before .before .before .before .before .before .before .wide2 .ensures) at (c .before .before .before .before .before .before .commit .ensures)),
+    let k = t′ .given .0 .0 in
+    let e = t′ .given .0 .1 .0 in
+    let g : numbers (t .tabulate .result) ≡ gives k e = ap numbers (t′ .given .1) in
+    let b = counts-are (args .n) (args .list .now) k e (sym (stated t) ∙ g) in
+    let z = means-sizes (args .n) (args .list .now) .says (sizes-known (args .n) (args .list .now) (args .e2e .now) (pre .0) .0) in (
+      built-counts (args .n) (args .list .now) (args .v2e .now) (args .e2e .now) (args .b2e .now) (gives k e) k e (elements (list t)) (work-now t) _ _ _ refl (sym g ∙ stated t) (omega (arith, wide2 .ensures, if1 .left)) b refl (lengths-known (args .n) (args .list .now) (args .e2e .now) (args .v2e .now) (args .work .now) (pre .1) .1)
+          (holds-front (args .n) (args .list .now) (scratch t) _ (scratch-long t) (omega (arith, borders-bound (list t), z .1 .1)) (t .tabulate .ensures .holds k e g))
+          (rw (wide3 .ensures, wide2 .ensures) at (commit .ensures)),
       same-long t,
     )
 

@@ -73,12 +73,16 @@ same-length-3 c = search needs
 
 returns : tie.Need-returns
 returns c =
-    let s = c .before .before .before .before .before .before .before .before .before .before .before .before .before .before .before .before .before .before .before .args in
-    let h = c .before .before .before .before .before .before .before .before .before .before .before .before .before .before .before .before .before .before .before .pre in
+    let pre = c .before .before .before .before .before .before .before .before .before .before .before .before .before .before .before .before .before .before .before .pre in
+    let args = c .before .before .before .before .before .before .before .before .before .before .before .before .before .before .before .before .before .before .before .args in
+    let copy = c .before .before .before .before .before .before .before .before .before .before .before .before .copy in
+    let copy2 = c .before .before .before .before .before .before .before .copy2 in
+    let s = args in
+    let h = pre in
     record {
-      vertices = front-copied (s .n) (s .work .now) (s .v2e .now) _ (omega (arith, h)) (h .1) (c .before .before .before .before .before .before .before .before .before .before .before .before .copy .ensures);
+      vertices = front-copied (s .n) (s .work .now) (s .v2e .now) _ (omega (arith, h)) (h .1) (copy .ensures);
       opposites =
-          part-copied (s .n) (s .n + 4 * s .m) (4 * s .m) (s .work .now) (s .e2e .now) _ refl (c .before .before .before .before .before .before .before .copy2 .ensures)
+          part-copied (s .n) (s .n + 4 * s .m) (4 * s .m) (s .work .now) (s .e2e .now) _ refl (copy2 .ensures)
           ∙ onto-full (part (s .n) (4 * s .m) (s .work .now)) (s .e2e .now) (length-part (s .n) (4 * s .m) (s .work .now) (omega (arith, h)) ∙ sym (h .2));
       border = part-copied (s .n + 4 * s .m) (s .n + 4 * s .m + s .k) (s .k) (s .work .now) (s .b2e .now) _ refl (c .before .before .copy3 .ensures);
     }

@@ -27,13 +27,20 @@ loop-holds : tie.Need-loop-holds Inv-loop μ-loop
 loop-holds c = ((λ s a h. absurd (omega arith)), omega arith)
 
 is-alike-requires : tie.Need-is-alike-requires Inv-loop μ-loop
-is-alike-requires c κs = (c .before .before .before .before .pre .0, omega arith)
+is-alike-requires c κs =
+    let pre = c .before .before .before .before .pre in
+    (pre .0, omega arith)
 
 code-at-requires : tie.Need-code-at-requires Inv-loop μ-loop
-code-at-requires c κs = omega (arith, c .before .before .before .before .before .before .pre .0 .fit .size, c .before .before .before .before .before .before .pre .0 .fit .fours)
+code-at-requires c κs =
+    let pre = c .before .before .before .before .before .before .pre in
+    omega (arith, pre .0 .fit .size, pre .0 .fit .fours)
 
 returns : tie.Need-returns Inv-loop μ-loop
-returns c = c .code-at .ensures ∙ alike-found (c .before .before .before .before .before .before .before .args .n) (c .before .before .before .before .before .before .before .args .list .now) (two (c .before .before .before .before .before .before .before)) (c .before .before .before .before .loop .p) (c .before .before .before .before .loop .inv .0) (c .before .before .is-alike .ensures .says (rw (c .before .if1 .taken) tt))
+returns c =
+    let args = c .before .before .before .before .before .before .before .args in
+    let loop = c .before .before .before .before .loop in
+    c .code-at .ensures ∙ alike-found (args .n) (args .list .now) (two (c .before .before .before .before .before .before .before)) (loop .p) (loop .inv .0) (c .before .before .is-alike .ensures .says (rw (c .before .if1 .taken) tt))
 
 add-p : tie.Need-add-p Inv-loop μ-loop
 add-p c = search needs
@@ -42,10 +49,15 @@ loop-less : tie.Need-loop-less Inv-loop μ-loop
 loop-less c = omega arith
 
 loop-again : tie.Need-loop-again Inv-loop μ-loop
-loop-again c = (alike-later (c .before .before .before .before .before .before .args .n) (c .before .before .before .before .before .before .args .list .now) (two (c .before .before .before .before .before .before)) (c .before .before .before .loop .p) (c .before .before .before .loop .inv .0) (λ x. T-not (c .before .is-alike .result) (rw (c .if1 .left) tt) (c .before .is-alike .ensures .shows x)), omega arith)
+loop-again c =
+    let args = c .before .before .before .before .before .before .args in
+    let loop = c .before .before .before .loop in
+    (alike-later (args .n) (args .list .now) (two (c .before .before .before .before .before .before)) (loop .p) (loop .inv .0) (λ x. T-not (c .before .is-alike .result) (rw (c .if1 .left) tt) (c .before .is-alike .ensures .shows x)), omega arith)
 
 returns-2 : tie.Need-returns-2 Inv-loop μ-loop
-returns-2 c = alike-nowhere (c .before .before .before .before .args .n) (c .before .before .before .before .args .list .now) (two (c .before .before .before .before)) (c .before .loop .p) (omega arith) (c .before .loop .inv .0)
+returns-2 c =
+    let args = c .before .before .before .before .args in
+    alike-nowhere (args .n) (args .list .now) (two (c .before .before .before .before)) (c .before .loop .p) (omega arith) (c .before .loop .inv .0)
 
 pub alike-side-spec : {M : Type 1} → statement M
 alike-side-spec =

@@ -24,13 +24,21 @@ loop-holds : tie.Need-loop-holds Inv-loop μ-loop
 loop-holds c = ((λ s a h. absurd (omega arith)), omega arith)
 
 is-crowded-requires : tie.Need-is-crowded-requires Inv-loop μ-loop
-is-crowded-requires c κs = (c .before .before .before .before .pre, omega arith)
+is-crowded-requires c κs =
+    let pre = c .before .before .before .before .pre in
+    (pre, omega arith)
 
 code-at-requires : tie.Need-code-at-requires Inv-loop μ-loop
-code-at-requires c κs = omega (arith, c .before .before .before .before .before .before .pre .fit .size, c .before .before .before .before .before .before .pre .fit .fours)
+code-at-requires c κs =
+    let pre = c .before .before .before .before .before .before .pre in
+    omega (arith, pre .fit .size, pre .fit .fours)
 
 returns : tie.Need-returns Inv-loop μ-loop
-returns c = c .code-at .ensures ∙ crowded-found (c .before .before .before .before .before .before .before .args .n) (c .before .before .before .before .before .before .before .args .list .now) (c .before .before .before .before .before .before .before .pre .fit) (c .before .before .before .before .loop .p) (c .before .before .before .before .loop .inv .0) (c .before .before .is-crowded .ensures .says (rw (c .before .if1 .taken) tt))
+returns c =
+    let pre = c .before .before .before .before .before .before .before .pre in
+    let args = c .before .before .before .before .before .before .before .args in
+    let loop = c .before .before .before .before .loop in
+    c .code-at .ensures ∙ crowded-found (args .n) (args .list .now) (pre .fit) (loop .p) (loop .inv .0) (c .before .before .is-crowded .ensures .says (rw (c .before .if1 .taken) tt))
 
 add-p : tie.Need-add-p Inv-loop μ-loop
 add-p c = search needs
@@ -39,10 +47,17 @@ loop-less : tie.Need-loop-less Inv-loop μ-loop
 loop-less c = omega arith
 
 loop-again : tie.Need-loop-again Inv-loop μ-loop
-loop-again c = (crowded-later (c .before .before .before .before .before .before .args .n) (c .before .before .before .before .before .before .args .list .now) (c .before .before .before .before .before .before .pre .fit) (c .before .before .before .loop .p) (c .before .before .before .loop .inv .0) (λ x. T-not (c .before .is-crowded .result) (rw (c .if1 .left) tt) (c .before .is-crowded .ensures .shows x)), omega arith)
+loop-again c =
+    let pre = c .before .before .before .before .before .before .pre in
+    let args = c .before .before .before .before .before .before .args in
+    let loop = c .before .before .before .loop in
+    (crowded-later (args .n) (args .list .now) (pre .fit) (loop .p) (loop .inv .0) (λ x. T-not (c .before .is-crowded .result) (rw (c .if1 .left) tt) (c .before .is-crowded .ensures .shows x)), omega arith)
 
 returns-2 : tie.Need-returns-2 Inv-loop μ-loop
-returns-2 c = crowded-nowhere (c .before .before .before .before .args .n) (c .before .before .before .before .args .list .now) (c .before .before .before .before .pre .fit) (c .before .loop .p) (omega arith) (c .before .loop .inv .0)
+returns-2 c =
+    let pre = c .before .before .before .before .pre in
+    let args = c .before .before .before .before .args in
+    crowded-nowhere (args .n) (args .list .now) (pre .fit) (c .before .loop .p) (omega arith) (c .before .loop .inv .0)
 
 pub crowded-side-spec : {M : Type 1} → statement M
 crowded-side-spec =

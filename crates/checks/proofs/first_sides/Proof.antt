@@ -15,28 +15,36 @@ use Rattle.checks.proofs.first_sides.Tie as tie
 
 -- the work buffer with its first part cleared
 abbrev the-work : tie.After-clear → List ℕ
-the-work c = c .before .before .before .before .args .work .now
+the-work c =
+    let args = c .before .before .before .before .args in
+    args .work .now
 
 abbrev n : tie.After-clear → ℕ
-n c = c .before .before .before .before .args .n
+n c =
+    let args = c .before .before .before .before .args in
+    args .n
 
 abbrev now-work : tie.After-clear → List ℕ
 now-work c = c .clear .last .0 ++ drop (n c - 0) (the-work c)
 
 zeroed : (c : tie.After-clear) → c .clear .last .0 ≡ replicate (n c) 0
 zeroed c =
-    let e : length (take (n c - 0) (the-work c)) ≡ n c = simp length-take (omega (arith, c .before .before .before .before .pre .1)) in
+    let pre = c .before .before .before .before .pre in
+    let e : length (take (n c - 0) (the-work c)) ≡ n c = simp length-take (omega (arith, pre .1)) in
     c .clear .ensures ∙ ap (λ (k : ℕ). replicate k 0) e
 
 many : (c : tie.After-clear) → length (c .clear .last .0) ≡ n c
 many c = ap length (zeroed c) ∙ length-replicate (n c) 0
 
 kept : (c : tie.After-clear) → Kept (n c) (the-work c) (now-work c)
-kept c = front-kept (n c) (the-work c) (c .clear .last .0) (c .before .before .before .before .pre .1) (many c)
+kept c =
+    let pre = c .before .before .before .before .pre in
+    front-kept (n c) (the-work c) (c .clear .last .0) (pre .1) (many c)
 
 clear : (c : tie.After-clear) (i : ℕ) → i < n c → at (now-work c) i ≡ 0
 clear c i h =
-    front-at (n c) (the-work c) (c .clear .last .0) (c .before .before .before .before .pre .1) (many c) i h
+    let pre = c .before .before .before .before .pre in
+    front-at (n c) (the-work c) (c .clear .last .0) (pre .1) (many c) i h
     ∙ ap (λ (l : List ℕ). at l i) (zeroed c)
     ∙ at-blank (n c) i
 
@@ -53,13 +61,18 @@ clear-requires : tie.Need-clear-requires
 clear-requires c κs = search needs
 
 put-rows-requires : tie.Need-put-rows-requires
-put-rows-requires c κs = (c .before .before .before .before .before .before .before .pre .0, omega (arith, c .before .before .before .before .before .before .before .pre .1, kept (c .before .before .before) .long), firsts-none (c .before .before .before .before .before .before .before .args .n) (c .before .before .before .before .before .before .before .args .list .now) (now-work (c .before .before .before)) (clear (c .before .before .before)))
+put-rows-requires c κs =
+    let pre = c .before .before .before .before .before .before .before .pre in
+    let args = c .before .before .before .before .before .before .before .args in
+    (pre .0, omega (arith, pre .1, kept (c .before .before .before) .long), firsts-none (args .n) (args .list .now) (now-work (c .before .before .before)) (clear (c .before .before .before)))
 
 same-length : tie.Need-same-length
 same-length c = search needs
 
 returns : tie.Need-returns
-returns c = (kept-on (kept (c .before .before .before .before .before .before)) (c .before .before .put-rows .ensures .0), firsts-all (c .before .before .before .before .before .before .before .before .before .before .args .n) (c .before .before .before .before .before .before .before .before .before .before .args .list .now) (c .before .before .put-rows .last .1 .1 .0) (c .before .before .put-rows .ensures .1))
+returns c =
+    let args = c .before .before .before .before .before .before .before .before .before .before .args in
+    (kept-on (kept (c .before .before .before .before .before .before)) (c .before .before .put-rows .ensures .0), firsts-all (args .n) (args .list .now) (c .before .before .put-rows .last .1 .1 .0) (c .before .before .put-rows .ensures .1))
 
 pub first-sides-spec : {M : Type 1} → statement M
 first-sides-spec =

@@ -14,18 +14,29 @@ use Rattle.checks.proofs.is_alike.Statement.{statement}
 use Rattle.checks.proofs.is_alike.Tie as tie
 
 there : (c : tie.Else1) → Side (c .before .before .before .before .args .list .now) (sideAt (c .before .before .before .before .args .p))
-there c = map-side (c .before .before .before .before .args .n) (c .before .before .before .before .args .list .now) (c .before .before .before .before .args .work .now) (c .before .before .before .before .pre .0) (c .before .before .before .before .args .p) (c .before .before .before .before .pre .1) (c .if1 .left)
+there c =
+    let pre = c .before .before .before .before .pre in
+    let args = c .before .before .before .before .args in
+    map-side (args .n) (args .list .now) (args .work .now) (pre .0) (args .p) (pre .1) (c .if1 .left)
 
 -- what was read at the side's place is its sibling
 read : (c : tie.Else1) → at (c .before .before .before .before .args .work .now) (c .before .before .before .before .args .n + c .before .before .before .before .args .p) ≡ sibling (c .before .before .before .before .args .list .now) (sideAt (c .before .before .before .before .args .p))
-read c = map-at (c .before .before .before .before .args .n) (c .before .before .before .before .args .list .now) (c .before .before .before .before .args .work .now) (c .before .before .before .before .pre .0) (c .before .before .before .before .args .p) (c .before .before .before .before .pre .1) (there c)
+read c =
+    let pre = c .before .before .before .before .pre in
+    let args = c .before .before .before .before .args in
+    map-at (args .n) (args .list .now) (args .work .now) (pre .0) (args .p) (pre .1) (there c)
 
 -- the two origins
 first : (c : tie.After-origin-of2) → c .before .origin-of .result ≡ origin (c .before .before .before .before .before .before .before .before .args .list .now) (sibling (c .before .before .before .before .before .before .before .before .args .list .now) (sideAt (c .before .before .before .before .before .before .before .before .args .p)))
-first c = c .before .origin-of .ensures ∙ ap (origin (c .before .before .before .before .before .before .before .before .args .list .now)) (read (c .before .before .before .before))
+first c =
+    let args = c .before .before .before .before .before .before .before .before .args in
+    c .before .origin-of .ensures ∙ ap (origin (args .list .now)) (read (c .before .before .before .before))
 
 second : (c : tie.After-origin-of2) → c .origin-of2 .result ≡ origin (c .before .before .before .before .before .before .before .before .args .list .now) (sideAt (c .before .before .before .before .before .before .before .before .args .p))
-second c = c .origin-of2 .ensures ∙ ap (origin (c .before .before .before .before .before .before .before .before .args .list .now)) (c .before .before .before .code-at .ensures)
+second c =
+    let args = c .before .before .before .before .before .before .before .before .args in
+    let code-at = c .before .before .before .code-at in
+    c .origin-of2 .ensures ∙ ap (origin (args .list .now)) (code-at .ensures)
 
 add-t : tie.Need-add-t
 add-t c = search needs
@@ -37,7 +48,10 @@ shared-slice-read-t : tie.Need-shared-slice-read-t
 shared-slice-read-t c = search needs
 
 returns : tie.Need-returns
-returns c = record { says = λ t. absurd t; shows = λ (a, d, o). map-none (c .before .before .before .before .args .n) (c .before .before .before .before .args .list .now) (c .before .before .before .before .args .work .now) (c .before .before .before .before .pre .0) (c .before .before .before .before .args .p) (c .before .before .before .before .pre .1) (c .if1 .taken) a }
+returns c =
+    let pre = c .before .before .before .before .pre in
+    let args = c .before .before .before .before .args in
+    record { says = λ t. absurd t; shows = λ (a, d, o). map-none (args .n) (args .list .now) (args .work .now) (pre .0) (args .p) (pre .1) (c .if1 .taken) a }
 
 code-at-requires : tie.Need-code-at-requires
 code-at-requires c κs = search needs
@@ -46,7 +60,9 @@ returns-2 : tie.Need-returns-2
 returns-2 c = record { says = λ t. absurd t; shows = λ (a, d, o). d (sym (read (c .before .before)) ∙ c .if2 .taken ∙ c .before .code-at .ensures) }
 
 origin-of-requires : tie.Need-origin-of-requires
-origin-of-requires c κs = rw (read (c .before .before)) (sibling-side (c .before .before .before .before .before .before .args .list .now) (sideAt (c .before .before .before .before .before .before .args .p)) (there (c .before .before)))
+origin-of-requires c κs =
+    let args = c .before .before .before .before .before .before .args in
+    rw (read (c .before .before)) (sibling-side (args .list .now) (sideAt (args .p)) (there (c .before .before)))
 
 origin-of-requires-2 : tie.Need-origin-of-requires-2
 origin-of-requires-2 c κs = rw (c .before .before .code-at .ensures) (there (c .before .before .before))
@@ -55,7 +71,10 @@ returns-3 : tie.Need-returns-3
 returns-3 c = record { says = λ t. absurd t; shows = λ (a, d, o). c .if3 .taken (first (c .before) ∙ o ∙ sym (second (c .before))) }
 
 returns-4 : tie.Need-returns-4
-returns-4 c = record { says = λ t. (there (c .before .before .before .before .before), (λ e. c .before .before .before .if2 .left (read (c .before .before .before .before .before) ∙ e ∙ sym (c .before .before .before .before .code-at .ensures))), sym (first (c .before)) ∙ c .if3 .left ∙ second (c .before)); shows = λ x. tt }
+returns-4 c =
+    let code-at = c .before .before .before .before .code-at in
+    let if2 = c .before .before .before .if2 in
+    record { says = λ t. (there (c .before .before .before .before .before), (λ e. if2 .left (read (c .before .before .before .before .before) ∙ e ∙ sym (code-at .ensures))), sym (first (c .before)) ∙ c .if3 .left ∙ second (c .before)); shows = λ x. tt }
 
 pub is-alike-spec : {M : Type 1} → statement M
 is-alike-spec =

@@ -16,20 +16,30 @@ use Rattle.checks.proofs.is_crowded.Tie as tie
 
 -- what was read at the side's place is its sibling
 there : (c : tie.After-slot-of) → Side (c .before .before .before .before .before .args .list .now) (sideAt (c .before .before .before .before .before .args .p))
-there c = map-side (c .before .before .before .before .before .args .n) (c .before .before .before .before .before .args .list .now) (c .before .before .before .before .before .args .work .now) (c .before .before .before .before .before .pre .0) (c .before .before .before .before .before .args .p) (c .before .before .before .before .before .pre .1) (c .before .if1 .left)
+there c =
+    let pre = c .before .before .before .before .before .pre in
+    let args = c .before .before .before .before .before .args in
+    map-side (args .n) (args .list .now) (args .work .now) (pre .0) (args .p) (pre .1) (c .before .if1 .left)
 
 read : (c : tie.After-slot-of) → at (c .before .before .before .before .before .args .work .now) (c .before .before .before .before .before .args .n + c .before .before .before .before .before .args .p) ≡ sibling (c .before .before .before .before .before .args .list .now) (sideAt (c .before .before .before .before .before .args .p))
-read c = map-at (c .before .before .before .before .before .args .n) (c .before .before .before .before .before .args .list .now) (c .before .before .before .before .before .args .work .now) (c .before .before .before .before .before .pre .0) (c .before .before .before .before .before .args .p) (c .before .before .before .before .before .pre .1) (there c)
+read c =
+    let pre = c .before .before .before .before .before .pre in
+    let args = c .before .before .before .before .before .args in
+    map-at (args .n) (args .list .now) (args .work .now) (pre .0) (args .p) (pre .1) (there c)
 
 place : (c : tie.After-slot-of) → c .before .before .before .before .before .args .n + c .slot-of .result < length (c .before .before .before .before .before .args .work .now)
 place c =
-    let b = slot-below (c .before .before .before .before .before .args .list .now) (sibling (c .before .before .before .before .before .args .list .now) (sideAt (c .before .before .before .before .before .args .p))) (sibling-side (c .before .before .before .before .before .args .list .now) (sideAt (c .before .before .before .before .before .args .p)) (there c)) in
-    omega (arith, c .slot-of .ensures ∙ ap slot (read c), c .before .before .before .before .before .pre .0 .room)
+    let pre = c .before .before .before .before .before .pre in
+    let args = c .before .before .before .before .before .args in
+    let b = slot-below (args .list .now) (sibling (args .list .now) (sideAt (args .p))) (sibling-side (args .list .now) (sideAt (args .p)) (there c)) in
+    omega (arith, c .slot-of .ensures ∙ ap slot (read c), pre .0 .room)
 
 twice : (c : tie.After-slot-of) → at (c .before .before .before .before .before .args .work .now) (c .before .before .before .before .before .args .n + c .slot-of .result) ≡ sibling (c .before .before .before .before .before .args .list .now) (sibling (c .before .before .before .before .before .args .list .now) (sideAt (c .before .before .before .before .before .args .p)))
 twice c =
-    ap (λ (i : ℕ). at (c .before .before .before .before .before .args .work .now) (c .before .before .before .before .before .args .n + i)) (c .slot-of .ensures)
-    ∙ map-twice (c .before .before .before .before .before .args .n) (c .before .before .before .before .before .args .list .now) (c .before .before .before .before .before .args .work .now) (c .before .before .before .before .before .pre .0) (c .before .before .before .before .before .args .p) (c .before .before .before .before .before .pre .1) _ refl (c .before .if1 .left)
+    let pre = c .before .before .before .before .before .pre in
+    let args = c .before .before .before .before .before .args in
+    ap (λ (i : ℕ). at (args .work .now) (args .n + i)) (c .slot-of .ensures)
+    ∙ map-twice (args .n) (args .list .now) (args .work .now) (pre .0) (args .p) (pre .1) _ refl (c .before .if1 .left)
 
 add-t : tie.Need-add-t
 add-t c = search needs
@@ -41,7 +51,10 @@ shared-slice-read-t : tie.Need-shared-slice-read-t
 shared-slice-read-t c = search needs
 
 returns : tie.Need-returns
-returns c = record { says = λ t. absurd t; shows = λ (a, d). map-none (c .before .before .before .before .args .n) (c .before .before .before .before .args .list .now) (c .before .before .before .before .args .work .now) (c .before .before .before .before .pre .0) (c .before .before .before .before .args .p) (c .before .before .before .before .pre .1) (c .if1 .taken) a }
+returns c =
+    let pre = c .before .before .before .before .pre in
+    let args = c .before .before .before .before .args in
+    record { says = λ t. absurd t; shows = λ (a, d). map-none (args .n) (args .list .now) (args .work .now) (pre .0) (args .p) (pre .1) (c .if1 .taken) a }
 
 slot-of-requires : tie.Need-slot-of-requires
 slot-of-requires c κs = search needs

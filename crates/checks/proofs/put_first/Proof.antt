@@ -12,10 +12,16 @@ use Rattle.checks.proofs.put_first.Statement.{statement}
 use Rattle.checks.proofs.put_first.Tie as tie
 
 vertex : (c : tie.After-code-at) → (1 ≤ c .before .before .before .before .before .args .x) × (c .before .before .before .before .before .args .x ≤ c .before .before .before .before .before .args .n)
-vertex c = entry-vertex (c .before .before .before .before .before .args .n) (c .before .before .before .before .before .args .list .now) (c .before .before .before .before .before .pre .0) (c .before .before .before .before .before .args .p) (c .before .before .before .before .before .args .x) (c .before .before .before .before .before .pre .2) (c .before .before .before .before .before .pre .3) (c .before .before .if1 .left)
+vertex c =
+    let pre = c .before .before .before .before .before .pre in
+    let args = c .before .before .before .before .before .args in
+    entry-vertex (args .n) (args .list .now) (pre .0) (args .p) (args .x) (pre .2) (pre .3) (c .before .before .if1 .left)
 
 returns : tie.Need-returns
-returns c = (kept-itself (c .before .before .before .args .n) (c .before .before .before .args .work .now), firsts-skip (c .before .before .before .args .n) (c .before .before .before .args .list .now) (c .before .before .before .args .work .now) (c .before .before .before .pre .0) (c .before .before .before .pre .1) (c .before .before .before .args .p) (c .before .before .before .pre .2) (c .before .before .before .pre .4) (sym (c .before .before .before .pre .3) ∙ c .if1 .taken))
+returns c =
+    let pre = c .before .before .before .pre in
+    let args = c .before .before .before .args in
+    (kept-itself (args .n) (args .work .now), firsts-skip (args .n) (args .list .now) (args .work .now) (pre .0) (pre .1) (args .p) (pre .2) (pre .4) (sym (pre .3) ∙ c .if1 .taken))
 
 wide-requires : tie.Need-wide-requires
 wide-requires c κs = search needs
@@ -30,16 +36,21 @@ mul-work : tie.Need-mul-work
 mul-work c = search needs
 
 slice-write-work : tie.Need-slice-write-work
-slice-write-work c = omega (arith, vertex c, c .before .wide .ensures, c .before .before .before .before .before .pre .1)
+slice-write-work c =
+    let pre = c .before .before .before .before .before .pre in
+    omega (arith, vertex c, c .before .wide .ensures, pre .1)
 
 same-length : tie.Need-same-length
 same-length c = search needs
 
 returns-2 : tie.Need-returns-2
-returns-2 c = rw (c .before .wide .ensures, c .code-at .ensures) (
-  kept-set (c .before .before .before .before .before .args .x - 1) _ (kept-itself (c .before .before .before .before .before .args .n) (c .before .before .before .before .before .args .work .now)) (omega (arith, vertex c)),
-  firsts-put (c .before .before .before .before .before .args .n) (c .before .before .before .before .before .args .list .now) (c .before .before .before .before .before .args .work .now) (c .before .before .before .before .before .pre .0) (c .before .before .before .before .before .pre .1) (c .before .before .before .before .before .args .p) (c .before .before .before .before .before .pre .2) (c .before .before .before .before .before .pre .4) (c .before .before .before .before .before .args .x) (c .before .before .before .before .before .pre .3) (c .before .before .if1 .left),
-)
+returns-2 c =
+    let pre = c .before .before .before .before .before .pre in
+    let args = c .before .before .before .before .before .args in
+    rw (c .before .wide .ensures, c .code-at .ensures) (
+      kept-set (args .x - 1) _ (kept-itself (args .n) (args .work .now)) (omega (arith, vertex c)),
+      firsts-put (args .n) (args .list .now) (args .work .now) (pre .0) (pre .1) (args .p) (pre .2) (pre .4) (args .x) (pre .3) (c .before .before .if1 .left),
+    )
 
 pub put-first-spec : {M : Type 1} → statement M
 put-first-spec =

@@ -15,7 +15,8 @@ use Rattle.checks.proofs.put_row.Tie as tie
 -- the row's entries are the list's
 entry : (c : tie.After-row) (j : ℕ) → j < 4 → at (c .row .result) j ≡ at (c .before .before .before .before .args .list .now) (c .before .before .before .before .args .a + j)
 entry c j h =
-    ap (λ (row : List ℕ). at row j) (c .row .ensures) ∙ part-at (c .before .before .before .before .args .list .now) (c .before .before .before .before .args .a) (c .before .before .before .before .args .a + 4) j refl h
+    let args = c .before .before .before .before .args in
+    ap (λ (row : List ℕ). at row j) (c .row .ensures) ∙ part-at (args .list .now) (args .a) (args .a + 4) j refl h
 
 add-e : tie.Need-add-e
 add-e c = search needs
@@ -42,7 +43,10 @@ array-read-put-first : tie.Need-array-read-put-first
 array-read-put-first c = search needs
 
 put-first-requires : tie.Need-put-first-requires
-put-first-requires c κs = (c .before .before .before .before .before .pre .0, c .before .before .before .before .before .pre .1, omega (arith, c .before .before .before .before .before .pre .2), entry (c .before) 3 (omega arith), (let e : c .before .before .before .before .before .args .a + 3 + 1 ≡ c .before .before .before .before .before .args .a + 4 = omega arith in rw e (c .before .before .before .before .before .pre .3)))
+put-first-requires c κs =
+    let pre = c .before .before .before .before .before .pre in
+    let args = c .before .before .before .before .before .args in
+    (pre .0, pre .1, omega (arith, pre .2), entry (c .before) 3 (omega arith), (let e : args .a + 3 + 1 ≡ args .a + 4 = omega arith in rw e (pre .3)))
 
 add-put-first-2 : tie.Need-add-put-first-2
 add-put-first-2 c = search needs
@@ -51,7 +55,11 @@ array-read-put-first-2 : tie.Need-array-read-put-first-2
 array-read-put-first-2 c = search needs
 
 put-first-requires-2 : tie.Need-put-first-requires-2
-put-first-requires-2 c κs = (c .before .before .before .before .before .before .before .before .before .pre .0, omega (arith, c .before .before .before .before .before .before .before .before .before .pre .1, c .before .before .before .put-first .ensures .0 .long), omega (arith, c .before .before .before .before .before .before .before .before .before .pre .2), entry (c .before .before .before .before .before) 2 (omega arith), (let e : c .before .before .before .before .before .before .before .before .before .args .a + 2 + 1 ≡ c .before .before .before .before .before .before .before .before .before .args .a + 3 = omega arith in rw e (c .before .before .before .put-first .ensures .1)))
+put-first-requires-2 c κs =
+    let pre = c .before .before .before .before .before .before .before .before .before .pre in
+    let args = c .before .before .before .before .before .before .before .before .before .args in
+    let put-first = c .before .before .before .put-first in
+    (pre .0, omega (arith, pre .1, put-first .ensures .0 .long), omega (arith, pre .2), entry (c .before .before .before .before .before) 2 (omega arith), (let e : args .a + 2 + 1 ≡ args .a + 3 = omega arith in rw e (put-first .ensures .1)))
 
 add-put-first-3 : tie.Need-add-put-first-3
 add-put-first-3 c = search needs
@@ -60,19 +68,34 @@ array-read-put-first-3 : tie.Need-array-read-put-first-3
 array-read-put-first-3 c = search needs
 
 put-first-requires-3 : tie.Need-put-first-requires-3
-put-first-requires-3 c κs = (c .before .before .before .before .before .before .before .before .before .before .before .before .before .pre .0, omega (arith, c .before .before .before .before .before .before .before .before .before .before .before .before .before .pre .1, c .before .before .before .before .before .before .before .put-first .ensures .0 .long, c .before .before .before .put-first2 .ensures .0 .long), omega (arith, c .before .before .before .before .before .before .before .before .before .before .before .before .before .pre .2), entry (c .before .before .before .before .before .before .before .before .before) 1 (omega arith), (let e : c .before .before .before .before .before .before .before .before .before .before .before .before .before .args .a + 1 + 1 ≡ c .before .before .before .before .before .before .before .before .before .before .before .before .before .args .a + 2 = omega arith in rw e (c .before .before .before .put-first2 .ensures .1)))
+put-first-requires-3 c κs =
+    let pre = c .before .before .before .before .before .before .before .before .before .before .before .before .before .pre in
+    let args = c .before .before .before .before .before .before .before .before .before .before .before .before .before .args in
+    let put-first = c .before .before .before .before .before .before .before .put-first in
+    let put-first2 = c .before .before .before .put-first2 in
+    (pre .0, omega (arith, pre .1, put-first .ensures .0 .long, put-first2 .ensures .0 .long), omega (arith, pre .2), entry (c .before .before .before .before .before .before .before .before .before) 1 (omega arith), (let e : args .a + 1 + 1 ≡ args .a + 2 = omega arith in rw e (put-first2 .ensures .1)))
 
 array-read-put-first-4 : tie.Need-array-read-put-first-4
 array-read-put-first-4 c = search needs
 
 put-first-requires-4 : tie.Need-put-first-requires-4
-put-first-requires-4 c κs = (c .before .before .before .before .before .before .before .before .before .before .before .before .before .before .before .before .before .pre .0, omega (arith, c .before .before .before .before .before .before .before .before .before .before .before .before .before .before .before .before .before .pre .1, c .before .before .before .before .before .before .before .before .before .before .before .put-first .ensures .0 .long, c .before .before .before .before .before .before .before .put-first2 .ensures .0 .long, c .before .before .before .put-first3 .ensures .0 .long), omega (arith, c .before .before .before .before .before .before .before .before .before .before .before .before .before .before .before .before .before .pre .2), entry (c .before .before .before .before .before .before .before .before .before .before .before .before .before) 0 (omega arith) ∙ (let e : c .before .before .before .before .before .before .before .before .before .before .before .before .before .before .before .before .before .args .a + 0 ≡ c .before .before .before .before .before .before .before .before .before .before .before .before .before .before .before .before .before .args .a = omega arith in ap (at (c .before .before .before .before .before .before .before .before .before .before .before .before .before .before .before .before .before .args .list .now)) e), c .before .before .before .put-first3 .ensures .1)
+put-first-requires-4 c κs =
+    let pre = c .before .before .before .before .before .before .before .before .before .before .before .before .before .before .before .before .before .pre in
+    let args = c .before .before .before .before .before .before .before .before .before .before .before .before .before .before .before .before .before .args in
+    let put-first = c .before .before .before .before .before .before .before .before .before .before .before .put-first in
+    let put-first2 = c .before .before .before .before .before .before .before .put-first2 in
+    let put-first3 = c .before .before .before .put-first3 in
+    (pre .0, omega (arith, pre .1, put-first .ensures .0 .long, put-first2 .ensures .0 .long, put-first3 .ensures .0 .long), omega (arith, pre .2), entry (c .before .before .before .before .before .before .before .before .before .before .before .before .before) 0 (omega arith) ∙ (let e : args .a + 0 ≡ args .a = omega arith in ap (at (args .list .now)) e), put-first3 .ensures .1)
 
 same-length : tie.Need-same-length
 same-length c = search needs
 
 returns : tie.Need-returns
-returns c = (kept-on (kept-on (kept-on (c .before .before .before .before .before .before .before .before .before .before .before .before .before .before .put-first .ensures .0) (c .before .before .before .before .before .before .before .before .before .before .put-first2 .ensures .0)) (c .before .before .before .before .before .before .put-first3 .ensures .0)) (c .before .before .put-first4 .ensures .0), c .before .before .put-first4 .ensures .1)
+returns c =
+    let put-first = c .before .before .before .before .before .before .before .before .before .before .before .before .before .before .put-first in
+    let put-first2 = c .before .before .before .before .before .before .before .before .before .before .put-first2 in
+    let put-first3 = c .before .before .before .before .before .before .put-first3 in
+    (kept-on (kept-on (kept-on (put-first .ensures .0) (put-first2 .ensures .0)) (put-first3 .ensures .0)) (c .before .before .put-first4 .ensures .0), c .before .before .put-first4 .ensures .1)
 
 pub put-row-spec : {M : Type 1} → statement M
 put-row-spec =

@@ -24,19 +24,27 @@ sub-a : tie.Need-sub-a Inv-loop μ-loop
 sub-a c = omega (arith, c .before .loop .inv .1)
 
 put-row-requires : tie.Need-put-row-requires Inv-loop μ-loop
-put-row-requires c κs = (c .before .before .before .before .before .pre .0, omega (arith, c .before .before .before .before .before .pre .1, c .before .before .loop .inv .2 .long), omega (arith, c .before .before .loop .inv), (let e : c .before .before .loop .a - 4 + 4 ≡ c .before .before .loop .a = omega (arith, c .before .before .loop .inv .1) in rw e (c .before .before .loop .inv .3)))
+put-row-requires c κs =
+    let pre = c .before .before .before .before .before .pre in
+    (pre .0, omega (arith, pre .1, c .before .before .loop .inv .2 .long), omega (arith, c .before .before .loop .inv), (let e : c .before .before .loop .a - 4 + 4 ≡ c .before .before .loop .a = omega (arith, c .before .before .loop .inv .1) in rw e (c .before .before .loop .inv .3)))
 
 loop-less : tie.Need-loop-less Inv-loop μ-loop
-loop-less c = omega (arith, c .before .before .before .before .before .loop .inv .1)
+loop-less c =
+    let loop = c .before .before .before .before .before .loop in
+    omega (arith, loop .inv .1)
 
 loop-again : tie.Need-loop-again Inv-loop μ-loop
-loop-again c = (omega (arith, c .before .before .before .before .before .loop .inv), omega (arith, c .before .before .before .before .before .loop .inv .1), kept-on (c .before .before .before .before .before .loop .inv .2) (c .before .before .put-row .ensures .0), c .before .before .put-row .ensures .1)
+loop-again c =
+    let loop = c .before .before .before .before .before .loop in
+    (omega (arith, loop .inv), omega (arith, loop .inv .1), kept-on (loop .inv .2) (c .before .before .put-row .ensures .0), c .before .before .put-row .ensures .1)
 
 same-length : tie.Need-same-length Inv-loop μ-loop
 same-length c = c .before .loop .inv .2 .long
 
 returns : tie.Need-returns Inv-loop μ-loop
-returns c = (c .before .loop .inv .2, (let e : c .before .loop .a ≡ 0 = omega arith in subst (λ (p : ℕ). FirstsFrom (c .before .before .before .before .args .n) (c .before .before .before .before .args .list .now) p (c .before .loop .work)) e (c .before .loop .inv .3)))
+returns c =
+    let args = c .before .before .before .before .args in
+    (c .before .loop .inv .2, (let e : c .before .loop .a ≡ 0 = omega arith in subst (λ (p : ℕ). FirstsFrom (args .n) (args .list .now) p (c .before .loop .work)) e (c .before .loop .inv .3)))
 
 pub put-rows-spec : {M : Type 1} → statement M
 put-rows-spec =

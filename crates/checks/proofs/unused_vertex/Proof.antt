@@ -24,16 +24,23 @@ wide-requires : tie.Need-wide-requires Inv-loop μ-loop
 wide-requires c κs = tt
 
 mul-if1 : tie.Need-mul-if1 Inv-loop μ-loop
-mul-if1 c = omega (arith, c .wide .ensures, c .before .before .before .before .pre)
+mul-if1 c =
+    let pre = c .before .before .before .before .pre in
+    omega (arith, c .wide .ensures, pre)
 
 shared-slice-read-if1 : tie.Need-shared-slice-read-if1 Inv-loop μ-loop
-shared-slice-read-if1 c = omega (arith, c .before .wide .ensures, c .before .before .before .before .before .pre)
+shared-slice-read-if1 c =
+    let pre = c .before .before .before .before .before .pre in
+    omega (arith, c .before .wide .ensures, pre)
 
 add-result : tie.Need-add-result Inv-loop μ-loop
 add-result c = search needs
 
 returns : tie.Need-returns Inv-loop μ-loop
-returns c = λ L k. unused-found (c .before .before .before .before .before .before .args .n) L (c .before .before .before .before .before .before .args .work .now) k (c .before .before .before .before .loop .v) (omega arith) (rw (c .before .before .wide .ensures) at (c .if1 .taken)) (c .before .before .before .before .loop .inv .1)
+returns c =
+    let args = c .before .before .before .before .before .before .args in
+    let loop = c .before .before .before .before .loop in
+    λ L k. unused-found (args .n) L (args .work .now) k (loop .v) (omega arith) (rw (c .before .before .wide .ensures) at (c .if1 .taken)) (loop .inv .1)
 
 add-v : tie.Need-add-v Inv-loop μ-loop
 add-v c = search needs
@@ -42,10 +49,14 @@ loop-less : tie.Need-loop-less Inv-loop μ-loop
 loop-less c = omega arith
 
 loop-again : tie.Need-loop-again Inv-loop μ-loop
-loop-again c = (omega arith, below-more _ _ (c .before .before .before .before .loop .inv .1) (rw (c .before .before .wide .ensures) at (c .if1 .left)))
+loop-again c =
+    let loop = c .before .before .before .before .loop in
+    (omega arith, below-more _ _ (loop .inv .1) (rw (c .before .before .wide .ensures) at (c .if1 .left)))
 
 returns-2 : tie.Need-returns-2 Inv-loop μ-loop
-returns-2 c = λ L k. unused-none (c .before .before .before .args .n) L (c .before .before .before .args .work .now) k (λ u h. c .before .loop .inv .1 u (omega arith))
+returns-2 c =
+    let args = c .before .before .before .args in
+    λ L k. unused-none (args .n) L (args .work .now) k (λ u h. c .before .loop .inv .1 u (omega arith))
 
 pub unused-vertex-spec : {M : Type 1} → statement M
 unused-vertex-spec =

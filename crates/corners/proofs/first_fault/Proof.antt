@@ -27,7 +27,9 @@ abbrev start : Inside → tie.Start Inv-loop μ-loop
 start c = c .before .before .before
 
 abbrev the-list : Inside → List ℕ
-the-list c = c .before .before .before .args .list .now
+the-list c =
+    let args = c .before .before .before .args in
+    args .list .now
 
 -- a whole row begins at a
 fits : (c : Inside) → c .before .loop .a + 4 ≤ length (the-list c)
@@ -107,18 +109,23 @@ loop-less c = omega (arith, fits (c .before .before .before .before .before))
 
 loop-again : tie.Need-loop-again Inv-loop μ-loop
 loop-again c =
+    let row = c .before .before .before .row in
     let k = c .before .before .before .before .before in
     let a = k .before .loop .a in
-    let e = c .before .before .before .row .ensures in
+    let e = row .ensures in
     scan-row (start k .args .n) (the-list k) a (k .before .loop .repeated) (a + 4) (k .before .loop .inv) refl (fits k)
     (rw (c .before .if1 .left, e) at (c .before .before .unfit-in .ensures)) (c .first-repeated .result)
     (rw e at (c .first-repeated .ensures))
 
 returns-2 : tie.Need-returns-2 Inv-loop μ-loop
-returns-2 c = sym (scan-repeated (c .before .before .before .before .args .n) (c .before .before .before .before .args .list .now) (c .before .before .loop .a) (c .before .before .loop .repeated) (c .before .before .loop .inv) (omega arith) (c .if2 .taken))
+returns-2 c =
+    let args = c .before .before .before .before .args in
+    sym (scan-repeated (args .n) (args .list .now) (c .before .before .loop .a) (c .before .before .loop .repeated) (c .before .before .loop .inv) (omega arith) (c .if2 .taken))
 
 returns-3 : tie.Need-returns-3 Inv-loop μ-loop
-returns-3 c = sym (scan-nothing (c .before .before .before .before .args .n) (c .before .before .before .before .args .list .now) (c .before .before .loop .a) (c .before .before .loop .repeated) (c .before .before .loop .inv) (omega arith) (c .if2 .left))
+returns-3 c =
+    let args = c .before .before .before .before .args in
+    sym (scan-nothing (args .n) (args .list .now) (c .before .before .loop .a) (c .before .before .loop .repeated) (c .before .before .loop .inv) (omega arith) (c .if2 .left))
 
 pub first-fault-spec : {M : Type 1} → statement M
 first-fault-spec =

@@ -13,7 +13,9 @@ use Rattle.corners.proofs.first_repeated.Tie as tie
 
 -- a corner's number is from 1 to 4
 small : (c : tie.Else2) → c .before .repeated-in .result ≤ 4
-small c = first-le-four (at (c .before .before .before .args .row) 3) (repeats (c .before .before .before .args .row)) (c .before .repeated-in .result) (c .before .repeated-in .ensures)
+small c =
+    let args = c .before .before .before .args in
+    first-le-four (at (args .row) 3) (repeats (args .row)) (c .before .repeated-in .result) (c .before .repeated-in .ensures)
 
 positive : (c : tie.Else2) → 1 ≤ c .before .repeated-in .result
 positive c = let d = c .if2 .left in omega arith
@@ -37,10 +39,16 @@ sub-code-at : tie.Need-sub-code-at
 sub-code-at c = omega (arith, c .wide .ensures, positive (c .before))
 
 code-at-requires : tie.Need-code-at-requires
-code-at-requires c κs = omega (arith, small (c .before), c .wide .ensures, positive (c .before), c .before .before .before .before .pre)
+code-at-requires c κs =
+    let pre = c .before .before .before .before .pre in
+    omega (arith, small (c .before), c .wide .ensures, positive (c .before), pre)
 
 returns-3 : tie.Need-returns-3
-returns-3 c = let i = c .before .before .before .repeated-in .result in new i (c .before .before .before .before .if1 .left) (c .before .before .if2 .left) (c .before .before .before .repeated-in .ensures) (c .code-at .ensures ∙ ap (λ (x : ℕ). sideAt (c .before .before .before .before .before .args .a + x - 1)) (c .before .wide .ensures))
+returns-3 c =
+    let args = c .before .before .before .before .before .args in
+    let if1 = c .before .before .before .before .if1 in
+    let repeated-in = c .before .before .before .repeated-in in
+    let i = repeated-in .result in new i (if1 .left) (c .before .before .if2 .left) (repeated-in .ensures) (c .code-at .ensures ∙ ap (λ (x : ℕ). sideAt (args .a + x - 1)) (c .before .wide .ensures))
 
 pub first-repeated-spec : {M : Type 1} → statement M
 first-repeated-spec =

@@ -12,14 +12,20 @@ use Rattle.corners.proofs.repeated_in.Statement.{statement}
 use Rattle.corners.proofs.repeated_in.Tie as tie
 
 abbrev row : tie.Else4 → List ℕ
-row c = c .before .before .before .before .args .t1
+row c =
+    let args = c .before .before .before .before .args in
+    args .t1
 
 -- past the first four tests
 four : (c : tie.Else4) (j : ℕ) → 1 ≤ j → j ≤ 3 → at (row c) 3 ≡ at (row c) (j - 1) → RepeatedIn (row c) 4
-four c = repeats-four (row c) (c .before .before .before .if1 .left) (c .before .before .if2 .left) (c .before .if3 .left) (c .if4 .left)
+four c =
+    let if1 = c .before .before .before .if1 in
+    repeats-four (row c) (if1 .left) (c .before .before .if2 .left) (c .before .if3 .left) (c .if4 .left)
 
 none : (c : tie.Else4) → (at (row c) 3 ≡ at (row c) 0 → ⊥) → (at (row c) 3 ≡ at (row c) 1 → ⊥) → (at (row c) 3 ≡ at (row c) 2 → ⊥) → RepeatedIn (row c) 0
-none c = repeats-none-of-four (row c) (c .before .before .before .if1 .left) (c .before .before .if2 .left) (c .before .if3 .left) (c .if4 .left)
+none c =
+    let if1 = c .before .before .before .if1 in
+    repeats-none-of-four (row c) (if1 .left) (c .before .before .if2 .left) (c .before .if3 .left) (c .if4 .left)
 
 array-read-if1 : tie.Need-array-read-if1
 array-read-if1 c = search needs
@@ -46,13 +52,18 @@ array-read-if3-2 : tie.Need-array-read-if3-2
 array-read-if3-2 c = search needs
 
 returns-3 : tie.Need-returns-3
-returns-3 c = repeats-three (c .before .before .before .args .t1) (c .before .before .if1 .left) 2 (lit≤ tt) (lit≤ tt) (c .if3 .taken)
+returns-3 c =
+    let args = c .before .before .before .args in
+    repeats-three (args .t1) (c .before .before .if1 .left) 2 (lit≤ tt) (lit≤ tt) (c .if3 .taken)
 
 array-read-if4 : tie.Need-array-read-if4
 array-read-if4 c = search needs
 
 returns-4 : tie.Need-returns-4
-returns-4 c = repeats-none-of-three (c .before .before .before .before .args .t1) (c .before .before .before .if1 .left) (c .before .before .if2 .left) (c .before .if3 .left) (c .if4 .taken)
+returns-4 c =
+    let args = c .before .before .before .before .args in
+    let if1 = c .before .before .before .if1 in
+    repeats-none-of-three (args .t1) (if1 .left) (c .before .before .if2 .left) (c .before .if3 .left) (c .if4 .taken)
 
 array-read-if5 : tie.Need-array-read-if5
 array-read-if5 c = search needs

@@ -40,7 +40,9 @@ no-vertex-requires-2 : tie.Need-no-vertex-requires-2
 no-vertex-requires-2 c κs = search needs
 
 returns-2 : tie.Need-returns-2
-returns-2 c = unfit-two (c .before .before .before .before .args .n) (row (c .before .before .before .before)) (one (c .before .before)) (sym (c .before .no-vertex2 .ensures) ∙ c .if2 .taken)
+returns-2 c =
+    let args = c .before .before .before .before .args in
+    unfit-two (args .n) (row (c .before .before .before .before)) (one (c .before .before)) (sym (c .before .no-vertex2 .ensures) ∙ c .if2 .taken)
 
 array-read-no-vertex-3 : tie.Need-array-read-no-vertex-3
 array-read-no-vertex-3 c = search needs
@@ -49,16 +51,22 @@ no-vertex-requires-3 : tie.Need-no-vertex-requires-3
 no-vertex-requires-3 c κs = search needs
 
 returns-3 : tie.Need-returns-3
-returns-3 c = unfit-three (c .before .before .before .before .before .before .args .n) (row (c .before .before .before .before .before .before)) (one (c .before .before .before .before)) (two (c .before .before)) (sym (c .before .no-vertex3 .ensures) ∙ c .if3 .taken)
+returns-3 c =
+    let args = c .before .before .before .before .before .before .args in
+    unfit-three (args .n) (row (c .before .before .before .before .before .before)) (one (c .before .before .before .before)) (two (c .before .before)) (sym (c .before .no-vertex3 .ensures) ∙ c .if3 .taken)
 
 array-read-if4 : tie.Need-array-read-if4
 array-read-if4 c = search needs
 
 returns-4 : tie.Need-returns-4
-returns-4 c = unfit-four (c .before .before .before .before .before .before .before .args .n) (row (c .before .before .before .before .before .before .before)) (one (c .before .before .before .before .before)) (two (c .before .before .before)) (three (c .before)) (c .if4 .taken)
+returns-4 c =
+    let args = c .before .before .before .before .before .before .before .args in
+    unfit-four (args .n) (row (c .before .before .before .before .before .before .before)) (one (c .before .before .before .before .before)) (two (c .before .before .before)) (three (c .before)) (c .if4 .taken)
 
 returns-5 : tie.Need-returns-5
-returns-5 c = unfit-none (c .before .before .before .before .before .before .before .args .n) (row (c .before .before .before .before .before .before .before)) (one (c .before .before .before .before .before)) (two (c .before .before .before)) (three (c .before)) (c .if4 .left)
+returns-5 c =
+    let args = c .before .before .before .before .before .before .before .args in
+    unfit-none (args .n) (row (c .before .before .before .before .before .before .before)) (one (c .before .before .before .before .before)) (two (c .before .before .before)) (three (c .before)) (c .if4 .left)
 
 pub unfit-in-spec : {M : Type 1} → statement M
 unfit-in-spec =

@@ -29,8 +29,10 @@ returns-2 c = rw (eq-eqb _ _ (c .if2 .taken), nextNumber) at (turned-from (c .be
 
 add-result : tie.Need-add-result
 add-result c =
-    let k = c .before .before .before .side-count in
-    let i = c .before .before .before .before .args .i in
+    let args = c .before .before .before .before .args in
+    let side-count = c .before .before .before .side-count in
+    let k = side-count in
+    let i = args .i in
     omega (arith, inside 1 (k .result) i (passed (c .before .before .is-within .ensures) (c .before .if1 .left)), k .ok)
 
 returns-3 : tie.Need-returns-3

@@ -28,7 +28,8 @@ returns-2 c = rw (eq-eqb _ _ (c .if2 .taken), previousNumber) at (turned-from (c
 
 sub-result : tie.Need-sub-result
 sub-result c =
-    inside 1 (c .before .before .before .side-count .result) _ (passed (c .before .before .is-within .ensures) (c .before .if1 .left)) .0
+    let side-count = c .before .before .before .side-count in
+    inside 1 (side-count .result) _ (passed (c .before .before .is-within .ensures) (c .before .if1 .left)) .0
 
 returns-3 : tie.Need-returns-3
 unfolding previousNumber

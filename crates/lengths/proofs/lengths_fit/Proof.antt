@@ -19,7 +19,9 @@ mul-if2 : tie.Need-mul-if2
 mul-if2 c = search needs
 
 returns-2 : tie.Need-returns-2
-returns-2 c = let h : c .before .before .before .args .v2e ≡ c .before .before .before .args .n = omega arith in simp (eq-eqb _ _ h, ne-eqb _ _ (c .if2 .taken))
+returns-2 c =
+    let args = c .before .before .before .args in
+    let h : args .v2e ≡ args .n = omega arith in simp (eq-eqb _ _ h, ne-eqb _ _ (c .if2 .taken))
 
 wide-requires-2 : tie.Need-wide-requires-2
 wide-requires-2 c κs = search needs
@@ -31,7 +33,9 @@ add-result : tie.Need-add-result
 add-result c = search needs
 
 returns-3 : tie.Need-returns-3
-returns-3 c = let h : c .before .before .before .before .args .v2e ≡ c .before .before .before .before .args .n = omega arith in simp (eq-eqb _ _ h, eq-eqb _ _ (c .before .if2 .left)) (ap (λ (i : ℕ). leb (i + 16 * (c .before .before .before .before .args .first / 4)) (c .before .before .before .before .args .work)) (c .wide2 .ensures))
+returns-3 c =
+    let args = c .before .before .before .before .args in
+    let h : args .v2e ≡ args .n = omega arith in simp (eq-eqb _ _ h, eq-eqb _ _ (c .before .if2 .left)) (ap (λ (i : ℕ). leb (i + 16 * (args .first / 4)) (args .work)) (c .wide2 .ensures))
 
 pub lengths-fit-spec : {M : Type 1} → statement M
 lengths-fit-spec =

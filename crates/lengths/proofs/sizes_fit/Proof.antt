@@ -15,19 +15,27 @@ wide-requires : tie.Need-wide-requires
 wide-requires c κs = search needs
 
 returns-2 : tie.Need-returns-2
-returns-2 c = let h : maxElement < c .before .before .before .args .first / 4 = omega arith in simp (le-leb _ maxVertex (c .before .before .if1 .left), lt-leb _ _ h)
+returns-2 c =
+    let args = c .before .before .before .args in
+    let h : maxElement < args .first / 4 = omega arith in simp (le-leb _ maxVertex (c .before .before .if1 .left), lt-leb _ _ h)
 
 mul-if3 : tie.Need-mul-if3
 mul-if3 c = search needs
 
 returns-3 : tie.Need-returns-3
-returns-3 c = let h : c .before .before .before .before .args .first / 4 ≤ maxElement = omega arith in simp (le-leb _ maxVertex (c .before .before .before .if1 .left), le-leb _ _ h, ne-eqb _ _ (c .if3 .taken))
+returns-3 c =
+    let args = c .before .before .before .before .args in
+    let if1 = c .before .before .before .if1 in
+    let h : args .first / 4 ≤ maxElement = omega arith in simp (le-leb _ maxVertex (if1 .left), le-leb _ _ h, ne-eqb _ _ (c .if3 .taken))
 
 mul-result : tie.Need-mul-result
 mul-result c = search needs
 
 returns-4 : tie.Need-returns-4
-returns-4 c = let h : c .before .before .before .before .args .first / 4 ≤ maxElement = omega arith in simp (le-leb _ maxVertex (c .before .before .before .if1 .left), le-leb _ _ h, eq-eqb _ _ (c .if3 .left))
+returns-4 c =
+    let args = c .before .before .before .before .args in
+    let if1 = c .before .before .before .if1 in
+    let h : args .first / 4 ≤ maxElement = omega arith in simp (le-leb _ maxVertex (if1 .left), le-leb _ _ h, eq-eqb _ _ (c .if3 .left))
 
 pub sizes-fit-spec : {M : Type 1} → statement M
 sizes-fit-spec =

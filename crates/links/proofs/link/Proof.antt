@@ -11,13 +11,19 @@ use Rattle.links.proofs.link.Statement.{statement}
 use Rattle.links.proofs.link.Tie as tie
 
 abbrev n : tie.After-clear → ℕ
-n c = c .before .before .before .args .n
+n c =
+    let args = c .before .before .before .args in
+    args .n
 
 abbrev m : tie.After-clear → ℕ
-m c = c .before .before .before .args .m
+m c =
+    let args = c .before .before .before .args in
+    args .m
 
 abbrev the-work : tie.After-clear → List ℕ
-the-work c = c .before .before .before .args .work .now
+the-work c =
+    let args = c .before .before .before .args in
+    args .work .now
 
 abbrev many : tie.After-clear → ℕ
 many c = n c + 8 * m c - (n c + 4 * m c)
@@ -28,11 +34,14 @@ now-work c = take (n c + 4 * m c) (the-work c) ++ (c .clear .last .0 ++ drop (ma
 
 zeroed : (c : tie.After-clear) → c .clear .last .0 ≡ replicate (4 * m c) 0
 zeroed c =
-    let e : length (take (many c) (drop (n c + 4 * m c) (the-work c))) ≡ 4 * m c = simp (length-take, length-drop) (omega (arith, c .before .before .before .pre .long)) in
+    let pre = c .before .before .before .pre in
+    let e : length (take (many c) (drop (n c + 4 * m c) (the-work c))) ≡ 4 * m c = simp (length-take, length-drop) (omega (arith, pre .long)) in
     c .clear .ensures ∙ ap (λ (k : ℕ). replicate k 0) e
 
 start : (c : tie.After-clear) → Linking (n c) (m c) (4 * m c) (the-work c) (now-work c)
-start c = linking-start (n c) (m c) (the-work c) (c .before .before .before .pre) (c .clear .last .0) (zeroed c) (many c) (omega arith)
+start c =
+    let pre = c .before .before .before .pre in
+    linking-start (n c) (m c) (the-work c) (pre) (c .clear .last .0) (zeroed c) (many c) (omega arith)
 
 mul-a : tie.Need-mul-a
 mul-a c = search needs
@@ -62,13 +71,19 @@ clear-requires : tie.Need-clear-requires
 clear-requires c κs = search needs
 
 link-places-requires : tie.Need-link-places-requires
-link-places-requires c κs = (linking-sizes (c .before .before .before .before .before .before .args .n) (c .before .before .before .before .before .before .args .m) (c .before .before .before .before .before .before .args .work .now) (c .before .before .before .before .before .before .pre) (4 * c .before .before .before .before .before .before .args .m) (now-work (c .before .before .before)) (start (c .before .before .before)), linking-links (c .before .before .before .before .before .before .args .n) (c .before .before .before .before .before .before .args .m) (c .before .before .before .before .before .before .args .work .now) (c .before .before .before .before .before .before .pre) (4 * c .before .before .before .before .before .before .args .m) (now-work (c .before .before .before)) (start (c .before .before .before)) (4 * c .before .before .before .before .before .before .args .m) refl)
+link-places-requires c κs =
+    let pre = c .before .before .before .before .before .before .pre in
+    let args = c .before .before .before .before .before .before .args in
+    (linking-sizes (args .n) (args .m) (args .work .now) (pre) (4 * args .m) (now-work (c .before .before .before)) (start (c .before .before .before)), linking-links (args .n) (args .m) (args .work .now) (pre) (4 * args .m) (now-work (c .before .before .before)) (start (c .before .before .before)) (4 * args .m) refl)
 
 same-length : tie.Need-same-length
 same-length c = search needs
 
 returns : tie.Need-returns
-returns c = linking-all (c .before .before .before .before .before .before .before .before .before .args .n) (c .before .before .before .before .before .before .before .before .before .args .m) (c .before .before .before .before .before .before .before .before .before .args .work .now) (c .before .before .before .before .before .before .before .before .before .pre) _ (linking-on (c .before .before .before .before .before .before .before .before .before .args .n) (c .before .before .before .before .before .before .before .before .before .args .m) (c .before .before .before .before .before .before .before .before .before .args .work .now) (c .before .before .before .before .before .before .before .before .before .pre) (4 * c .before .before .before .before .before .before .before .before .before .args .m) (now-work (c .before .before .before .before .before .before)) (start (c .before .before .before .before .before .before)) 0 _ (c .before .before .link-places .ensures))
+returns c =
+    let pre = c .before .before .before .before .before .before .before .before .before .pre in
+    let args = c .before .before .before .before .before .before .before .before .before .args in
+    linking-all (args .n) (args .m) (args .work .now) (pre) _ (linking-on (args .n) (args .m) (args .work .now) (pre) (4 * args .m) (now-work (c .before .before .before .before .before .before)) (start (c .before .before .before .before .before .before)) 0 _ (c .before .before .link-places .ensures))
 
 pub link-spec : {M : Type 1} → statement M
 link-spec =

@@ -18,19 +18,28 @@ slice-read-c : tie.Need-slice-read-c
 slice-read-c c = search needs
 
 returns : tie.Need-returns
-returns c = link-skip (c .before .before .before .args .n) (c .before .before .before .args .m) (c .before .before .before .args .work .now) (c .before .before .before .pre .0) (c .before .before .before .args .p) (c .before .before .before .pre .1) (c .before .before .before .pre .2) (λ b x y e. c .if1 .taken (omega arith))
+returns c =
+    let pre = c .before .before .before .pre in
+    let args = c .before .before .before .args in
+    link-skip (args .n) (args .m) (args .work .now) (pre .0) (args .p) (pre .1) (pre .2) (λ b x y e. c .if1 .taken (omega arith))
 
 wide-requires : tie.Need-wide-requires
 wide-requires c κs = search needs
 
 returns-2 : tie.Need-returns-2
-returns-2 c = link-skip (c .before .before .before .before .before .args .n) (c .before .before .before .before .before .args .m) (c .before .before .before .before .before .args .work .now) (c .before .before .before .before .before .pre .0) (c .before .before .before .before .before .args .p) (c .before .before .before .before .before .pre .1) (c .before .before .before .before .before .pre .2) (λ b x y e. omega (arith, c .before .wide .ensures))
+returns-2 c =
+    let pre = c .before .before .before .before .before .pre in
+    let args = c .before .before .before .before .before .args in
+    link-skip (args .n) (args .m) (args .work .now) (pre .0) (args .p) (pre .1) (pre .2) (λ b x y e. omega (arith, c .before .wide .ensures))
 
 mul-if3 : tie.Need-mul-if3
 mul-if3 c = search needs
 
 returns-3 : tie.Need-returns-3
-returns-3 c = link-skip (c .before .before .before .before .before .before .args .n) (c .before .before .before .before .before .before .args .m) (c .before .before .before .before .before .before .args .work .now) (c .before .before .before .before .before .before .pre .0) (c .before .before .before .before .before .before .args .p) (c .before .before .before .before .before .before .pre .1) (c .before .before .before .before .before .before .pre .2) (λ b x y e. omega (arith, c .before .before .wide .ensures))
+returns-3 c =
+    let pre = c .before .before .before .before .before .before .pre in
+    let args = c .before .before .before .before .before .before .args in
+    link-skip (args .n) (args .m) (args .work .now) (pre .0) (args .p) (pre .1) (pre .2) (λ b x y e. omega (arith, c .before .before .wide .ensures))
 
 mul-i : tie.Need-mul-i
 mul-i c = search needs
@@ -57,7 +66,11 @@ same-length : tie.Need-same-length
 same-length c = search needs
 
 returns-4 : tie.Need-returns-4
-returns-4 c = rw (c .code-at .ensures) (link-put (c .before .before .before .before .before .before .before .args .n) (c .before .before .before .before .before .before .before .args .m) (c .before .before .before .before .before .before .before .args .work .now) (c .before .before .before .before .before .before .before .pre .0) (c .before .before .before .before .before .before .before .args .p) (c .before .before .before .before .before .before .before .pre .1) (c .before .before .before .before .before .before .before .pre .2) (at (c .before .before .before .before .before .before .before .args .work .now) (c .before .before .before .before .before .before .before .args .n + c .before .before .before .before .before .before .before .args .p) / 8) _ (omega (arith, c .before .before .before .wide .ensures)) (omega (arith, c .before .before .before .wide .ensures)) (omega arith) (omega (arith, c .before .before .before .wide .ensures)))
+returns-4 c =
+    let pre = c .before .before .before .before .before .before .before .pre in
+    let args = c .before .before .before .before .before .before .before .args in
+    let wide = c .before .before .before .wide in
+    rw (c .code-at .ensures) (link-put (args .n) (args .m) (args .work .now) (pre .0) (args .p) (pre .1) (pre .2) (at (args .work .now) (args .n + args .p) / 8) _ (omega (arith, wide .ensures)) (omega (arith, wide .ensures)) (omega arith) (omega (arith, wide .ensures)))
 
 pub link-place-spec : {M : Type 1} → statement M
 link-place-spec =

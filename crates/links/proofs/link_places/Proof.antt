@@ -23,19 +23,28 @@ sub-p : tie.Need-sub-p Inv-loop μ-loop
 sub-p c = omega arith
 
 link-place-requires : tie.Need-link-place-requires Inv-loop μ-loop
-link-place-requires c κs = (linking-sizes (c .before .before .before .before .args .n) (c .before .before .before .before .args .m) (c .before .before .before .before .args .work .now) (c .before .before .before .before .pre .0) (c .before .before .loop .p) (c .before .before .loop .work) (c .before .before .loop .inv .1), omega (arith, c .before .before .loop .inv .0), linking-links (c .before .before .before .before .args .n) (c .before .before .before .before .args .m) (c .before .before .before .before .args .work .now) (c .before .before .before .before .pre .0) (c .before .before .loop .p) (c .before .before .loop .work) (c .before .before .loop .inv .1) (c .before .before .loop .p - 1 + 1) (omega arith))
+link-place-requires c κs =
+    let pre = c .before .before .before .before .pre in
+    let args = c .before .before .before .before .args in
+    (linking-sizes (args .n) (args .m) (args .work .now) (pre .0) (c .before .before .loop .p) (c .before .before .loop .work) (c .before .before .loop .inv .1), omega (arith, c .before .before .loop .inv .0), linking-links (args .n) (args .m) (args .work .now) (pre .0) (c .before .before .loop .p) (c .before .before .loop .work) (c .before .before .loop .inv .1) (c .before .before .loop .p - 1 + 1) (omega arith))
 
 loop-less : tie.Need-loop-less Inv-loop μ-loop
 loop-less c = omega arith
 
 loop-again : tie.Need-loop-again Inv-loop μ-loop
-loop-again c = (omega (arith, c .before .before .before .before .before .loop .inv .0), linking-on (c .before .before .before .before .before .before .before .args .n) (c .before .before .before .before .before .before .before .args .m) (c .before .before .before .before .before .before .before .args .work .now) (c .before .before .before .before .before .before .before .pre .0) (c .before .before .before .before .before .loop .p) (c .before .before .before .before .before .loop .work) (c .before .before .before .before .before .loop .inv .1) (c .before .before .before .before .before .loop .p - 1) _ (c .before .before .link-place .ensures))
+loop-again c =
+    let pre = c .before .before .before .before .before .before .before .pre in
+    let args = c .before .before .before .before .before .before .before .args in
+    let loop = c .before .before .before .before .before .loop in
+    (omega (arith, loop .inv .0), linking-on (args .n) (args .m) (args .work .now) (pre .0) (loop .p) (loop .work) (loop .inv .1) (loop .p - 1) _ (c .before .before .link-place .ensures))
 
 same-length : tie.Need-same-length Inv-loop μ-loop
 same-length c = c .before .loop .inv .1 .long
 
 returns : tie.Need-returns Inv-loop μ-loop
-returns c = let e : c .before .loop .p ≡ 0 = omega arith in subst (λ (p : ℕ). Linking (c .before .before .before .args .n) (c .before .before .before .args .m) p (c .before .before .before .args .work .now) (c .before .loop .work)) e (c .before .loop .inv .1)
+returns c =
+    let args = c .before .before .before .args in
+    let e : c .before .loop .p ≡ 0 = omega arith in subst (λ (p : ℕ). Linking (args .n) (args .m) p (args .work .now) (c .before .loop .work)) e (c .before .loop .inv .1)
 
 pub link-places-spec : {M : Type 1} → statement M
 link-places-spec =

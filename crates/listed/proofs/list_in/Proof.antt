@@ -18,16 +18,21 @@ abbrev parsing : tie.After-wide2 → tie.After-parse
 parsing c = c .before .before .before .before .before .before .before
 
 abbrev n : tie.After-wide2 → ℕ
-n c = c .before .before .before .p .given .0 .0
+n c =
+    let p = c .before .before .before .p in
+    p .given .0 .0
 
 abbrev m : tie.After-wide2 → ℕ
-m c = c .before .before .before .p .given .0 .1 .0
+m c =
+    let p = c .before .before .before .p in
+    p .given .0 .1 .0
 
 known : (c : tie.After-wide2) → Read (start (parsing c) .args .text .now) (parsing c .parse .last .1 .0) (n c) (m c)
 known c =
+    let p = c .before .before .before .p in
     let a = parsing c in
     let s = start a in
-    read-mesh (s .args .text .now) (s .args .list .now) (a .parse .result) (s .pre .0 .0) (a .parse .ensures .0) (a .parse .last .1 .0) (n c) (m c) (c .before .before .before .p .given .1) (a .parse .ensures .1)
+    read-mesh (s .args .text .now) (s .args .list .now) (a .parse .result) (s .pre .0 .0) (a .parse .ensures .0) (a .parse .last .1 .0) (n c) (m c) (p .given .1) (a .parse .ensures .1)
 
 rows : (c : tie.After-wide2) → 4 * c .wide2 .result ≡ 4 * m c
 rows c = ap (λ (i : ℕ). 4 * i) (c .wide2 .ensures)

@@ -32,7 +32,9 @@ abbrev refusing : tie.After-a2 → tie.Start
 refusing c = start (c .before .before .before .before .before .before .before .before .before .before)
 
 no-tables : (c : tie.After-a2) → refused (c .a2 .given .0 .0) (c .a2 .given .0 .1 .0) (c .a2 .given .0 .1 .1 .0) ≡ buildAnswer (refusing c .args .n) (refusing c .args .list .now) (lent-to (refusing c))
-no-tables c = sym (ap numbers (c .a2 .given .1)) ∙ c .before .before .before .before .before .before .before .before .before .before .build .ensures .0
+no-tables c =
+    let build = c .before .before .before .before .before .before .before .before .before .before .build in
+    sym (ap numbers (c .a2 .given .1)) ∙ build .ensures .0
 
 build-requires : tie.Need-build-requires
 build-requires c κs = search needs

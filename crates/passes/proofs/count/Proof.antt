@@ -15,13 +15,17 @@ abbrev μ-loop : tie.MeasureT-loop
 μ-loop walk n list v2e e2e b2e limit start x₀ count₀ x count = limit - count
 
 loop-holds : tie.Need-loop-holds Inv-loop μ-loop
-loop-holds c = counting-none _ _ _ _ (c .before .before .before .before .pre .1)
+loop-holds c =
+    let pre = c .before .before .before .before .pre in
+    counting-none _ _ _ _ (pre .1)
 
 returns : tie.Need-returns Inv-loop μ-loop
 returns c = overlong _ _ _ (c .before .before .loop .inv) (c .before .loop-test .taken) (c .if1 .taken)
 
 visit-requires : tie.Need-visit-requires Inv-loop μ-loop
-visit-requires c κs = (c .before .before .before .before .before .before .before .pre .0, c .before .before .loop .inv .stands (c .before .loop-test .taken))
+visit-requires c κs =
+    let pre = c .before .before .before .before .before .before .before .pre in
+    (pre .0, c .before .before .loop .inv .stands (c .before .loop-test .taken))
 
 enum-known-step : tie.Need-enum-known-step Inv-loop μ-loop
 enum-known-step c = search needs
@@ -31,19 +35,27 @@ enum-told c = search needs
 
 returns-2 : tie.Need-returns-2 Inv-loop μ-loop
 returns-2 c =
+    let if1 = c .before .before .before .if1 in
     let l = c .before .before .before .before in
-    counting-lost _ _ _ (l .before .loop .inv) (c .before .before .before .if1 .left) _ (c .before .before .visit .ensures) (l .loop-test .taken) (c .enum-told .given .1)
+    counting-lost _ _ _ (l .before .loop .inv) (if1 .left) _ (c .before .before .visit .ensures) (l .loop-test .taken) (c .enum-told .given .1)
 
 add-count : tie.Need-add-count Inv-loop μ-loop
-add-count c = omega (arith, c .before .before .before .before .if1 .left, c .before .before .before .before .before .before .before .before .before .before .before .fits .limit)
+add-count c =
+    let fits = c .before .before .before .before .before .before .before .before .before .before .before .fits in
+    let if1 = c .before .before .before .before .if1 in
+    omega (arith, if1 .left, fits .limit)
 
 loop-less : tie.Need-loop-less Inv-loop μ-loop
-loop-less c = omega (arith, c .before .before .before .before .if1 .left)
+loop-less c =
+    let if1 = c .before .before .before .before .if1 in
+    omega (arith, if1 .left)
 
 loop-again : tie.Need-loop-again Inv-loop μ-loop
 loop-again c =
+    let if1 = c .before .before .before .before .if1 in
+    let visit = c .before .before .before .visit in
     let l = c .before .before .before .before .before in
-    counting-more _ _ _ (l .before .loop .inv) (c .before .before .before .before .if1 .left) _ (c .before .before .before .visit .ensures) (l .loop-test .taken) _ _ (c .before .step .given .1)
+    counting-more _ _ _ (l .before .loop .inv) (if1 .left) _ (visit .ensures) (l .loop-test .taken) _ _ (c .before .step .given .1)
 
 returns-3 : tie.Need-returns-3 Inv-loop μ-loop
 returns-3 c = counted _ _ _ (c .before .loop .inv) (c .loop-test .left)

@@ -22,7 +22,9 @@ found : (c : tie.After-counted) → let s = c .before .before .before .before .b
 found c = sized _ _ _ _ _ (value-of (c .before .before .count .ensures) (c .counted .given .1))
 
 count-requires : tie.Need-count-requires
-count-requires c κs = c .before .before .before .before .before .pre .0
+count-requires c κs =
+    let pre = c .before .before .before .before .before .pre in
+    pre .0
 
 enum-known-counted : tie.Need-enum-known-counted
 enum-known-counted c = search needs
@@ -34,13 +36,18 @@ refuse-requires : tie.Need-refuse-requires
 refuse-requires c κs = search needs
 
 returns : tie.Need-returns
-returns c = none-listed _ _ _ (broken-of (c .before .before .before .count .ensures) (c .before .enum-told .given .1)) (c .refuse .ensures)
+returns c =
+    let count = c .before .before .before .count in
+    none-listed _ _ _ (broken-of (count .ensures) (c .before .enum-told .given .1)) (c .refuse .ensures)
 
 places-requires : tie.Need-places-requires
 places-requires c κs = search needs
 
 add-needed : tie.Need-add-needed
-add-needed c = omega (arith, leading-one (c .before .before .before .before .before .before .before .before .before .before .args .prior), c .places .ensures, found (c .before .before) .bound, c .before .before .before .before .before .before .before .before .before .before .pre .1)
+add-needed c =
+    let pre = c .before .before .before .before .before .before .before .before .before .before .pre in
+    let args = c .before .before .before .before .before .before .before .before .before .before .args in
+    omega (arith, leading-one (args .prior), c .places .ensures, found (c .before .before) .bound, pre .1)
 
 wide-requires : tie.Need-wide-requires
 wide-requires c κs = search needs
@@ -62,10 +69,13 @@ wide-requires-3 c κs = search needs
 
 write-requires : tie.Need-write-requires
 write-requires c κs =
+    let wide = c .before .before .before .before .before .before .before .before .wide in
+    let if1 = c .before .before .before .before .before .before .before .if1 in
+    let lead = c .before .before .before .before .before .lead in
     let p = c .before .before .before .before .before .before .before .before .before in
     let s = p .before .before .before .before .before .before .before .before .before .before in
     let z = found (p .before .before) in
-    (s .pre .0, (rw (c .before .wide3 .ensures) (sized-again _ _ z), omega (arith, c .before .before .before .before .before .before .before .if1 .left, c .before .before .before .before .before .before .before .before .wide .ensures, c .before .wide3 .ensures, c .before .before .wide2 .ensures, c .before .before .before .before .before .lead .kept)))
+    (s .pre .0, (rw (c .before .wide3 .ensures) (sized-again _ _ z), omega (arith, if1 .left, wide .ensures, c .before .wide3 .ensures, c .before .before .wide2 .ensures, lead .kept)))
 
 same-length : tie.Need-same-length
 same-length c = search needs

@@ -8,19 +8,25 @@ enum-told : tie.Need-enum-told
 enum-told c = search needs
 
 ring-next-requires : tie.Need-ring-next-requires
-ring-next-requires c κs = rw (c .enum-told .given .1) at (c .before .before .before .before .before .before .pre)
+ring-next-requires c κs =
+    let pre = c .before .before .before .before .before .before .pre in
+    rw (c .enum-told .given .1) at (pre)
 
 enum-told-2 : tie.Need-enum-told-2
 enum-told-2 c = search needs
 
 ring-next-requires-2 : tie.Need-ring-next-requires-2
-ring-next-requires-2 c κs = rw (c .enum-told2 .given .1) at (c .before .before .before .before .before .before .pre)
+ring-next-requires-2 c κs =
+    let pre = c .before .before .before .before .before .before .pre in
+    rw (c .enum-told2 .given .1) at (pre)
 
 enum-told-3 : tie.Need-enum-told-3
 enum-told-3 c = search needs
 
 loop-next-requires : tie.Need-loop-next-requires
-loop-next-requires c κs = rw (c .enum-told3 .given .1) at (c .before .before .before .before .before .before .pre)
+loop-next-requires c κs =
+    let pre = c .before .before .before .before .before .before .pre in
+    rw (c .enum-told3 .given .1) at (pre)
 
 returns : tie.Need-returns
 returns c = rw (c .before .enum-told .given .1) (c .ring-next .ensures)

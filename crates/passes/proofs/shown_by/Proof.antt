@@ -11,7 +11,9 @@ enum-told-2 : tie.Need-enum-told-2
 enum-told-2 c = search needs
 
 read-destination-requires : tie.Need-read-destination-requires
-read-destination-requires c κs = rw (c .enum-told2 .given .1) at (c .before .before .before .before .before .before .pre)
+read-destination-requires c κs =
+    let pre = c .before .before .before .before .before .before .pre in
+    rw (c .enum-told2 .given .1) at (pre)
 
 enum-told-3 : tie.Need-enum-told-3
 enum-told-3 c = search needs

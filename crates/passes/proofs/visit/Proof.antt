@@ -7,7 +7,9 @@ use Rattle.passes.proofs.visit.Statement.{statement}
 use Rattle.passes.proofs.visit.Tie as tie
 
 shown-by-requires : tie.Need-shown-by-requires
-shown-by-requires c κs = c .before .before .before .before .pre .1
+shown-by-requires c κs =
+    let pre = c .before .before .before .before .pre in
+    pre .1
 
 enum-known-listed : tie.Need-enum-known-listed
 enum-known-listed c = search needs
@@ -19,7 +21,9 @@ returns : tie.Need-returns
 returns c = inl (broken-of (c .before .before .shown-by .ensures) (c .enum-told .given .1))
 
 next-by-requires : tie.Need-next-by-requires
-next-by-requires c κs = c .before .before .before .before .before .before .before .before .pre
+next-by-requires c κs =
+    let pre = c .before .before .before .before .before .before .before .before .pre in
+    pre
 
 enum-known-following : tie.Need-enum-known-following
 enum-known-following c = search needs

@@ -17,16 +17,18 @@ abbrev μ-loop : tie.MeasureT-loop
 
 room : (c : tie.After-known-told Inv-loop μ-loop) → let l = c .before .before .before .before .before in let o = length (l .loop .out) in (l .before .before .before .before .before .before .args .from + l .loop .at < o) × (o * 4 < 2 ^ 63)
 room c =
+    let loop-test = c .before .before .before .before .loop-test in
     let l = c .before .before .before .before .before in
     let s = l .before .before .before .before .before .before in
-    omega (arith, l .loop .inv .same, c .before .before .before .before .loop-test .taken, s .pre .1 .1, s .good)
+    omega (arith, l .loop .inv .same, loop-test .taken, s .pre .1 .1, s .good)
 
 loop-holds : tie.Need-loop-holds Inv-loop μ-loop
 loop-holds c = let s = c .before .before .before .before .before in writing-none _ _ _ _ _ _ (s .pre .0 .1) (s .pre .1 .0)
 
 visit-requires : tie.Need-visit-requires Inv-loop μ-loop
 visit-requires c κs =
-    (c .before .before .before .before .before .before .before .pre .0 .0, c .before .loop .inv .stands (c .loop-test .taken))
+    let pre = c .before .before .before .before .before .before .before .pre in
+    (pre .0 .0, c .before .loop .inv .stands (c .loop-test .taken))
 
 enum-known-step : tie.Need-enum-known-step Inv-loop μ-loop
 enum-known-step c = search needs
@@ -35,7 +37,9 @@ enum-told : tie.Need-enum-told Inv-loop μ-loop
 enum-told c = search needs
 
 same-length : tie.Need-same-length Inv-loop μ-loop
-same-length c = c .before .before .before .before .loop .inv .same
+same-length c =
+    let loop = c .before .before .before .before .loop in
+    loop .inv .same
 
 returns : tie.Need-returns Inv-loop μ-loop
 returns c =
@@ -55,12 +59,15 @@ add-at : tie.Need-add-at Inv-loop μ-loop
 add-at c = omega (arith, room c)
 
 loop-less : tie.Need-loop-less Inv-loop μ-loop
-loop-less c = omega (arith, c .before .before .before .before .loop-test .taken)
+loop-less c =
+    let loop-test = c .before .before .before .before .loop-test in
+    omega (arith, loop-test .taken)
 
 loop-again : tie.Need-loop-again Inv-loop μ-loop
 loop-again c =
+    let visit = c .before .before .before .visit in
     let l = c .before .before .before .before in
-    writing-more _ _ _ (l .before .loop .inv) (l .loop-test .taken) _ (c .before .before .before .visit .ensures) _ _ (c .before .step .given .1)
+    writing-more _ _ _ (l .before .loop .inv) (l .loop-test .taken) _ (visit .ensures) _ _ (c .before .step .given .1)
 
 same-length-2 : tie.Need-same-length-2 Inv-loop μ-loop
 same-length-2 c = c .before .loop .inv .same

@@ -38,7 +38,9 @@ same-length : tie.Need-same-length Inv-loop μ-loop
 same-length c = search needs
 
 returns : tie.Need-returns Inv-loop μ-loop
-returns c = let i : c .before .loop .i ≡ length (c .before .before .before .before .args .numbers .now) = omega arith in
+returns c =
+    let args = c .before .before .before .before .args in
+    let i : c .before .loop .i ≡ length (args .numbers .now) = omega arith in
     (rw i at (c .before .loop .inv .3), omega arith)
 
 pub put-items-spec : {M : Type 1} → statement M

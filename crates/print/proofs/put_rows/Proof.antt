@@ -39,7 +39,9 @@ same-length : tie.Need-same-length Inv-loop μ-loop
 same-length c = search needs
 
 returns : tie.Need-returns Inv-loop μ-loop
-returns c = let k : c .before .loop .k ≡ elements (c .before .before .before .before .args .e2e .now) = omega arith in
+returns c =
+    let args = c .before .before .before .before .args in
+    let k : c .before .loop .k ≡ elements (args .e2e .now) = omega arith in
     (rw k at (c .before .loop .inv .3), omega arith)
 
 pub put-rows-spec : {M : Type 1} → statement M

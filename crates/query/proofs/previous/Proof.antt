@@ -28,7 +28,8 @@ give-requires c κs = search needs
 returns-2 : tie.Need-returns-2
 unfolding previousAnswer
 returns-2 c =
-    admitted _ (c .before .before .before .side-refusal .ensures) _ (c .before .before .if1 .left)
+    let side-refusal = c .before .before .before .side-refusal in
+    admitted _ (side-refusal .ensures) _ (c .before .before .if1 .left)
     (c .give .ensures ∙ ap (λ (i : ℕ). gives i 0) (c .before .previous-code .ensures))
 
 pub previous-spec : {M : Type 1} → statement M

@@ -18,7 +18,9 @@ is-vertex : (c : tie.After-end) → let s = c .before .before .before .before .b
 is-vertex c = origin-vertex _ _ _ (value-of (c .before .before .border-destination .ensures) (c .end .given .1))
 
 border-destination-requires : tie.Need-border-destination-requires
-border-destination-requires c κs = c .before .before .before .before .pre .1
+border-destination-requires c κs =
+    let pre = c .before .before .before .before .pre in
+    pre .1
 
 enum-known-end : tie.Need-enum-known-end
 enum-known-end c = search needs
@@ -54,9 +56,10 @@ checked-requires c κs = search needs
 returns-2 : tie.Need-returns-2
 unfolding borderNext
 returns-2 c =
+    let wide = c .before .before .before .wide in
     let e = c .before .before .before .before .before in
     let s = e .before .before .before .before .before .before .before .args in
-    read-as (isBorderCode _) (c .checked .ensures) (c .before .is-border-code .ensures) (ap (λ (i : ℕ). at (s .v2e .now) (i - 1)) (c .before .before .before .wide .ensures))
+    read-as (isBorderCode _) (c .checked .ensures) (c .before .is-border-code .ensures) (ap (λ (i : ℕ). at (s .v2e .now) (i - 1)) (wide .ensures))
     ∙ sym (sym (and-assoc _ _ _) ∙ and-then _ (value-of (e .before .before .border-destination .ensures) (e .end .given .1)))
 
 pub border-next-spec : {M : Type 1} → statement M

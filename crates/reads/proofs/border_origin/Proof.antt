@@ -24,11 +24,13 @@ returns c = sym (and-none _ (broken-of (c .before .before .read-border-side .ens
 read-destination-requires : tie.Need-read-destination-requires
 unfolding readBorderSide
 read-destination-requires c κs =
-    was-valid (isSide _) _ _ (value-of (c .before .before .before .read-border-side .ensures) (c .before .side .given .1))
+    let read-border-side = c .before .before .before .read-border-side in
+    was-valid (isSide _) _ _ (value-of (read-border-side .ensures) (c .before .side .given .1))
 
 returns-2 : tie.Need-returns-2
 returns-2 c =
-    c .read-destination .ensures ∙ sym (and-then _ (value-of (c .before .before .before .before .read-border-side .ensures) (c .before .before .side .given .1)))
+    let read-border-side = c .before .before .before .before .read-border-side in
+    c .read-destination .ensures ∙ sym (and-then _ (value-of (read-border-side .ensures) (c .before .before .side .given .1)))
 
 pub border-origin-spec : {M : Type 1} → statement M
 border-origin-spec =

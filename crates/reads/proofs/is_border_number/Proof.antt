@@ -16,7 +16,8 @@ wide-requires c κs = search needs
 
 returns-2 : tie.Need-returns-2
 returns-2 c =
-    let e : suc (c .wide .result) ≡ c .before .before .before .args .b = omega (arith, c .wide .ensures, c .before .if1 .left) in
+    let args = c .before .before .before .args in
+    let e : suc (c .wide .result) ≡ args .b = omega (arith, c .wide .ensures, c .before .if1 .left) in
     simp (le-leb 1 _ (c .before .if1 .left), e)
 
 pub is-border-number-spec : {M : Type 1} → statement M

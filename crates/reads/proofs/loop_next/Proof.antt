@@ -29,12 +29,14 @@ returns c = sym (and-none _ (broken-of (c .before .before .border-next .ensures)
 returns-2 : tie.Need-returns-2
 unfolding loopNext
 returns-2 c =
-    sym (and-then _ (value-of (c .before .before .before .before .border-next .ensures) (c .before .before .following .given .1)) ∙ stops refl (c .if1 .taken))
+    let border-next = c .before .before .before .before .border-next in
+    sym (and-then _ (value-of (border-next .ensures) (c .before .before .following .given .1)) ∙ stops refl (c .if1 .taken))
 
 returns-3 : tie.Need-returns-3
 unfolding loopNext
 returns-3 c =
-    sym (and-then _ (value-of (c .before .before .before .before .border-next .ensures) (c .before .before .following .given .1)) ∙ goes-on refl (c .if1 .left))
+    let border-next = c .before .before .before .before .border-next in
+    sym (and-then _ (value-of (border-next .ensures) (c .before .before .following .given .1)) ∙ goes-on refl (c .if1 .left))
 
 pub loop-next-spec : {M : Type 1} → statement M
 loop-next-spec =

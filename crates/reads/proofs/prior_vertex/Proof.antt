@@ -11,7 +11,9 @@ use Rattle.reads.proofs.prior_vertex.Statement.{statement}
 use Rattle.reads.proofs.prior_vertex.Tie as tie
 
 read-vertex-entry-requires : tie.Need-read-vertex-entry-requires
-read-vertex-entry-requires c κs = c .before .before .before .before .pre
+read-vertex-entry-requires c κs =
+    let pre = c .before .before .before .before .pre in
+    pre
 
 enum-known-entry : tie.Need-enum-known-entry
 enum-known-entry c = search needs
@@ -26,18 +28,22 @@ returns c = sym (and-none _ (broken-of (c .before .before .read-vertex-entry .en
 returns-2 : tie.Need-returns-2
 unfolding priorVertex
 returns-2 c =
-    sym (and-then _ (value-of (c .before .before .before .before .read-vertex-entry .ensures) (c .before .before .entry .given .1)) ∙ at-side _ _ _ (c .if1 .taken))
+    let read-vertex-entry = c .before .before .before .before .read-vertex-entry in
+    sym (and-then _ (value-of (read-vertex-entry .ensures) (c .before .before .entry .given .1)) ∙ at-side _ _ _ (c .if1 .taken))
 
 border-destination-requires : tie.Need-border-destination-requires
 unfolding readVertexEntry
 border-destination-requires c κs =
-    half-border _ _ (was-valid (isHalfEdge _) _ _ (value-of (c .before .before .before .before .read-vertex-entry .ensures) (c .before .before .entry .given .1))) (c .if1 .left)
+    let read-vertex-entry = c .before .before .before .before .read-vertex-entry in
+    half-border _ _ (was-valid (isHalfEdge _) _ _ (value-of (read-vertex-entry .ensures) (c .before .before .entry .given .1))) (c .if1 .left)
 
 returns-3 : tie.Need-returns-3
 unfolding priorVertex
 returns-3 c =
+    let read-vertex-entry = c .before .before .before .before .before .read-vertex-entry in
+    let entry = c .before .before .before .entry in
     c .border-destination .ensures
-    ∙ sym (and-then _ (value-of (c .before .before .before .before .before .read-vertex-entry .ensures) (c .before .before .before .entry .given .1)) ∙ at-border _ _ _ (c .before .if1 .left))
+    ∙ sym (and-then _ (value-of (read-vertex-entry .ensures) (entry .given .1)) ∙ at-border _ _ _ (c .before .if1 .left))
 
 pub prior-vertex-spec : {M : Type 1} → statement M
 prior-vertex-spec =

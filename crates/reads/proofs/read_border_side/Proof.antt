@@ -16,13 +16,17 @@ wide-requires : tie.Need-wide-requires
 wide-requires c κs = search needs
 
 sub-side : tie.Need-sub-side
-sub-side c = omega (arith, border-facts _ _ (c .before .before .before .before .before .pre), c .wide .ensures)
+sub-side c =
+    let pre = c .before .before .before .before .before .pre in
+    omega (arith, border-facts _ _ (pre), c .wide .ensures)
 
 mul-side : tie.Need-mul-side
 mul-side c = search needs
 
 shared-slice-read-side : tie.Need-shared-slice-read-side
-shared-slice-read-side c = omega (arith, border-facts _ _ (c .before .before .before .before .before .before .pre), c .before .wide .ensures)
+shared-slice-read-side c =
+    let pre = c .before .before .before .before .before .before .pre in
+    omega (arith, border-facts _ _ (pre), c .before .wide .ensures)
 
 is-side-requires : tie.Need-is-side-requires
 is-side-requires c κs = search needs
@@ -33,8 +37,10 @@ checked-requires c κs = search needs
 returns : tie.Need-returns
 unfolding readBorderSide
 returns c =
-    let s = c .before .before .before .before .before .before .before .before .args in
-    read-as (isSide (s .list .now)) (c .checked .ensures) (c .before .is-side .ensures) (ap (λ (i : ℕ). at (s .b2e .now) (i - 1)) (c .before .before .before .wide .ensures))
+    let args = c .before .before .before .before .before .before .before .before .args in
+    let wide = c .before .before .before .wide in
+    let s = args in
+    read-as (isSide (s .list .now)) (c .checked .ensures) (c .before .is-side .ensures) (ap (λ (i : ℕ). at (s .b2e .now) (i - 1)) (wide .ensures))
 
 pub read-border-side-spec : {M : Type 1} → statement M
 read-border-side-spec =

@@ -21,7 +21,9 @@ slot-of-requires : tie.Need-slot-of-requires
 slot-of-requires c κs = search needs
 
 mul-opposed : tie.Need-mul-opposed
-mul-opposed c = omega (arith, inside c, c .before .before .before .before .before .good)
+mul-opposed c =
+    let good = c .before .before .before .before .before .good in
+    omega (arith, inside c, good)
 
 shared-slice-read-opposed : tie.Need-shared-slice-read-opposed
 shared-slice-read-opposed c = inside (c .before)
@@ -35,8 +37,10 @@ checked-requires c κs = search needs
 returns : tie.Need-returns
 unfolding readOpposite
 returns c =
-    let e = c .before .before .before .before .before .before .before .before .args .e2e .now in
-    read-as (isHalfEdge _) (c .checked .ensures) (c .before .is-half-edge .ensures) (ap (at e) (c .before .before .before .slot-of .ensures))
+    let args = c .before .before .before .before .before .before .before .before .args in
+    let slot-of = c .before .before .before .slot-of in
+    let e = args .e2e .now in
+    read-as (isHalfEdge _) (c .checked .ensures) (c .before .is-half-edge .ensures) (ap (at e) (slot-of .ensures))
 
 pub read-opposite-spec : {M : Type 1} → statement M
 read-opposite-spec =

@@ -15,7 +15,9 @@ wide-requires : tie.Need-wide-requires
 wide-requires c κs = search needs
 
 sub-code : tie.Need-sub-code
-sub-code c = omega (arith, vertex-facts _ _ (c .before .before .before .before .before .pre .1), c .wide .ensures)
+sub-code c =
+    let pre = c .before .before .before .before .before .pre in
+    omega (arith, vertex-facts _ _ (pre .1), c .wide .ensures)
 
 mul-code : tie.Need-mul-code
 mul-code c = search needs
@@ -34,8 +36,10 @@ checked-requires c κs = search needs
 returns : tie.Need-returns
 unfolding readVertexEntry
 returns c =
-    let s = c .before .before .before .before .before .before .before .before .args in
-    read-as (isHalfEdge _) (c .checked .ensures) (c .before .is-half-edge .ensures) (ap (λ (i : ℕ). at (s .v2e .now) (i - 1)) (c .before .before .before .wide .ensures))
+    let args = c .before .before .before .before .before .before .before .before .args in
+    let wide = c .before .before .before .wide in
+    let s = args in
+    read-as (isHalfEdge _) (c .checked .ensures) (c .before .is-half-edge .ensures) (ap (λ (i : ℕ). at (s .v2e .now) (i - 1)) (wide .ensures))
 
 pub read-vertex-entry-spec : {M : Type 1} → statement M
 read-vertex-entry-spec =

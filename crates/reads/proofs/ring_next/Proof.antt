@@ -10,7 +10,9 @@ use Rattle.reads.proofs.ring_next.Statement.{statement}
 use Rattle.reads.proofs.ring_next.Tie as tie
 
 read-opposite-requires : tie.Need-read-opposite-requires
-read-opposite-requires c κs = c .before .before .before .before .pre
+read-opposite-requires c κs =
+    let pre = c .before .before .before .before .pre in
+    pre
 
 enum-known-across : tie.Need-enum-known-across
 enum-known-across c = search needs
@@ -25,12 +27,14 @@ returns c = sym (and-none _ (broken-of (c .before .before .read-opposite .ensure
 returns-2 : tie.Need-returns-2
 unfolding onward
 returns-2 c =
-    sym (and-then _ (value-of (c .before .before .before .before .read-opposite .ensures) (c .before .before .across .given .1)) ∙ at-border _ _ _ (c .if1 .taken))
+    let read-opposite = c .before .before .before .before .read-opposite in
+    sym (and-then _ (value-of (read-opposite .ensures) (c .before .before .across .given .1)) ∙ at-border _ _ _ (c .if1 .taken))
 
 next-code-requires : tie.Need-next-code-requires
 unfolding readOpposite
 next-code-requires c κs =
-    half-side _ _ (was-valid (isHalfEdge _) _ _ (value-of (c .before .before .before .before .read-opposite .ensures) (c .before .before .across .given .1))) (c .if1 .left)
+    let read-opposite = c .before .before .before .before .read-opposite in
+    half-side _ _ (was-valid (isHalfEdge _) _ _ (value-of (read-opposite .ensures) (c .before .before .across .given .1))) (c .if1 .left)
 
 returns-3 : tie.Need-returns-3
 unfolding onward

@@ -12,7 +12,9 @@ use Rattle.reads.proofs.start_side.Statement.{statement}
 use Rattle.reads.proofs.start_side.Tie as tie
 
 read-vertex-entry-requires : tie.Need-read-vertex-entry-requires
-read-vertex-entry-requires c κs = c .before .before .before .before .pre
+read-vertex-entry-requires c κs =
+    let pre = c .before .before .before .before .pre in
+    pre
 
 enum-known-entry : tie.Need-enum-known-entry
 enum-known-entry c = search needs
@@ -27,12 +29,14 @@ returns c = sym (and-none _ (broken-of (c .before .before .read-vertex-entry .en
 returns-2 : tie.Need-returns-2
 unfolding startSide
 returns-2 c =
-    sym (and-then _ (value-of (c .before .before .before .before .read-vertex-entry .ensures) (c .before .before .entry .given .1)) ∙ at-side _ _ _ (c .if1 .taken))
+    let read-vertex-entry = c .before .before .before .before .read-vertex-entry in
+    sym (and-then _ (value-of (read-vertex-entry .ensures) (c .before .before .entry .given .1)) ∙ at-side _ _ _ (c .if1 .taken))
 
 read-border-side-requires : tie.Need-read-border-side-requires
 unfolding readVertexEntry
 read-border-side-requires c κs =
-    half-border _ _ (was-valid (isHalfEdge _) _ _ (value-of (c .before .before .before .before .read-vertex-entry .ensures) (c .before .before .entry .given .1))) (c .if1 .left)
+    let read-vertex-entry = c .before .before .before .before .read-vertex-entry in
+    half-border _ _ (was-valid (isHalfEdge _) _ _ (value-of (read-vertex-entry .ensures) (c .before .before .entry .given .1))) (c .if1 .left)
 
 enum-known-side : tie.Need-enum-known-side
 enum-known-side c = search needs
@@ -49,13 +53,15 @@ returns-3 c =
 next-code-requires : tie.Need-next-code-requires
 unfolding readBorderSide
 next-code-requires c κs =
-    was-valid (isSide _) _ _ (value-of (c .before .before .before .read-border-side .ensures) (c .before .side .given .1))
+    let read-border-side = c .before .before .before .read-border-side in
+    was-valid (isSide _) _ _ (value-of (read-border-side .ensures) (c .before .side .given .1))
 
 returns-4 : tie.Need-returns-4
 unfolding startSide
 returns-4 c =
+    let read-border-side = c .before .before .before .before .read-border-side in
     let d = c .before .before .before .before .before in
-    ap some (c .next-code .ensures) ∙ sym (and-then _ (value-of (d .before .before .before .before .read-vertex-entry .ensures) (d .before .before .entry .given .1)) ∙ at-border _ _ _ (d .if1 .left) ∙ and-then _ (value-of (c .before .before .before .before .read-border-side .ensures) (c .before .before .side .given .1)))
+    ap some (c .next-code .ensures) ∙ sym (and-then _ (value-of (d .before .before .before .before .read-vertex-entry .ensures) (d .before .before .entry .given .1)) ∙ at-border _ _ _ (d .if1 .left) ∙ and-then _ (value-of (read-border-side .ensures) (c .before .before .side .given .1)))
 
 pub start-side-spec : {M : Type 1} → statement M
 start-side-spec =

@@ -28,7 +28,11 @@ same-length : tie.Need-same-length
 same-length c = search needs
 
 returns : tie.Need-returns
-returns c = filled (c .before .before .before .before .before .before .before .before .before .before .before .args .n) (c .before .before .before .before .before .before .before .before .before .before .before .args .v2e .now) (c .before .before .before .before .before .before .before .before .before .before .before .args .e2e .now) (c .before .before .before .before .before .before .before .before .before .before .before .args .work .now) (c .before .before .before .before .before .before .copy .last .1 .0) (c .before .before .copy2 .last .1 .0) (c .before .before .before .before .before .before .before .before .before .before .before .pre .0) (c .before .before .before .before .before .before .before .before .before .before .before .pre .1) (c .before .before .before .before .before .before .copy .ensures) (c .before .before .copy2 .ensures)
+returns c =
+    let pre = c .before .before .before .before .before .before .before .before .before .before .before .pre in
+    let args = c .before .before .before .before .before .before .before .before .before .before .before .args in
+    let copy = c .before .before .before .before .before .before .copy in
+    filled (args .n) (args .v2e .now) (args .e2e .now) (args .work .now) (copy .last .1 .0) (c .before .before .copy2 .last .1 .0) (pre .0) (pre .1) (copy .ensures) (c .before .before .copy2 .ensures)
 
 pub fill-spec : {M : Type 1} → statement M
 fill-spec =

@@ -29,22 +29,38 @@ part-tabulate-start : tie.Need-part-tabulate-start
 part-tabulate-start c = search needs
 
 part-tabulate-end : tie.Need-part-tabulate-end
-part-tabulate-end c = let h : c .wide .result + 12 * elements (c .before .before .before .before .before .args .list .now) ≤ length (c .before .before .before .before .before .args .work .now) = omega (arith, c .wide .ensures, c .before .before .before .before .before .pre .1) in search needs
+part-tabulate-end c =
+    let pre = c .before .before .before .before .before .pre in
+    let args = c .before .before .before .before .before .args in
+    let h : c .wide .result + 12 * elements (args .list .now) ≤ length (args .work .now) = omega (arith, c .wide .ensures, pre .1) in search needs
 
 tabulate-requires : tie.Need-tabulate-requires
-tabulate-requires c κs = let z : c .before .before .before .before .before .before .args .n + 12 * elements (c .before .before .before .before .before .before .args .list .now) - 0 ≡ c .before .before .before .before .before .before .args .n + 12 * elements (c .before .before .before .before .before .before .args .list .now) = omega arith in rw (c .before .wide .ensures, z) (c .before .before .before .before .before .before .pre .0)
+tabulate-requires c κs =
+    let pre = c .before .before .before .before .before .before .pre in
+    let args = c .before .before .before .before .before .before .args in
+    let z : args .n + 12 * elements (args .list .now) - 0 ≡ args .n + 12 * elements (args .list .now) = omega arith in rw (c .before .wide .ensures, z) (pre .0)
 
 wide-requires-2 : tie.Need-wide-requires-2
 wide-requires-2 c κs = search needs
 
 is-theirs-requires : tie.Need-is-theirs-requires
-is-theirs-requires c κs = let l = means-sizes (c .before .before .before .before .before .before .before .before .before .before .before .args .n) (c .before .before .before .before .before .before .before .before .before .before .before .args .list .now) .says (c .before .before .before .before .before .before .before .before .before .before .before .pre .0 .sizes) in let h : length (c .before .before .before .before .tabulate .last .1 .1 .0) ≡ c .before .before .before .before .before .before .before .before .before .before .before .args .n + 12 * elements (c .before .before .before .before .before .before .before .before .before .before .before .args .list .now) = c .before .before .before .before .tabulate .ensures .long ∙ simp length-take (omega (arith, c .before .before .before .before .before .before .wide .ensures, c .before .before .before .before .before .before .before .before .before .before .before .pre .1)) in simp (length-append, length-drop) (omega (arith, c .before .wide2 .ensures, c .before .before .before .before .before .before .before .before .before .before .before .pre, l .1 .1))
+is-theirs-requires c κs =
+    let pre = c .before .before .before .before .before .before .before .before .before .before .before .pre in
+    let args = c .before .before .before .before .before .before .before .before .before .before .before .args in
+    let wide = c .before .before .before .before .before .before .wide in
+    let tabulate = c .before .before .before .before .tabulate in
+    let l = means-sizes (args .n) (args .list .now) .says (pre .0 .sizes) in let h : length (tabulate .last .1 .1 .0) ≡ args .n + 12 * elements (args .list .now) = tabulate .ensures .long ∙ simp length-take (omega (arith, wide .ensures, pre .1)) in simp (length-append, length-drop) (omega (arith, c .before .wide2 .ensures, pre, l .1 .1))
 
 same-length : tie.Need-same-length
 same-length c = search needs
 
 returns : tie.Need-returns
-returns c = rw (c .before .before .before .before .before .before .before .wide .ensures) (tried (c .before .before .before .before .before .before .before .before .before .before .before .before .args .n) (c .before .before .before .before .before .before .before .before .before .before .before .before .args .v2e .now) (c .before .before .before .before .before .before .before .before .before .before .before .before .args .e2e .now) (c .before .before .before .before .before .before .before .before .before .before .before .before .args .list .now) (c .before .before .before .before .before .before .before .before .before .before .before .before .args .work .now) (c .before .before .before .before .before .tabulate .last .1 .1 .0) (c .before .before .before .before .before .before .before .before .before .before .before .before .pre .0) (c .before .before .before .before .before .before .before .before .before .before .before .before .pre .1) (c .before .before .before .before .before .before .before .before .before .before .before .before .pre .2) (c .before .before .before .before .before .before .before .before .before .before .before .before .pre .3) (numbers (c .before .before .before .before .before .tabulate .result)) (rw (c .before .before .before .before .before .before .before .wide .ensures) at (c .before .before .before .before .before .tabulate .ensures)) (c .is-theirs .result) (rw (c .before .before .wide2 .ensures, c .before .before .before .before .before .before .before .wide .ensures) at (c .is-theirs .ensures)))
+returns c =
+    let pre = c .before .before .before .before .before .before .before .before .before .before .before .before .pre in
+    let args = c .before .before .before .before .before .before .before .before .before .before .before .before .args in
+    let wide = c .before .before .before .before .before .before .before .wide in
+    let tabulate = c .before .before .before .before .before .tabulate in
+    rw (wide .ensures) (tried (args .n) (args .v2e .now) (args .e2e .now) (args .list .now) (args .work .now) (tabulate .last .1 .1 .0) (pre .0) (pre .1) (pre .2) (pre .3) (numbers (tabulate .result)) (rw (wide .ensures) at (tabulate .ensures)) (c .is-theirs .result) (rw (c .before .before .wide2 .ensures, wide .ensures) at (c .is-theirs .ensures)))
 
 pub has-tables-spec : {M : Type 1} → statement M
 has-tables-spec =

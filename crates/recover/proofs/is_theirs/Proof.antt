@@ -16,8 +16,9 @@ use Rattle.recover.proofs.is_theirs.Tie as tie
 
 vertices : (c : tie.After-is-same) → c .is-same .result ≡ same (take (c .before .before .before .before .before .before .before .args .n) (c .before .before .before .before .before .before .before .args .work .now)) (c .before .before .before .before .before .before .before .args .v2e .now)
 vertices c =
-    let z : c .before .before .before .before .before .before .before .args .n - 0 ≡ c .before .before .before .before .before .before .before .args .n = omega arith in
-    c .is-same .ensures ∙ ap (λ (k : ℕ). same (take k (c .before .before .before .before .before .before .before .args .work .now)) (c .before .before .before .before .before .before .before .args .v2e .now)) z
+    let args = c .before .before .before .before .before .before .before .args in
+    let z : args .n - 0 ≡ args .n = omega arith in
+    c .is-same .ensures ∙ ap (λ (k : ℕ). same (take k (args .work .now)) (args .v2e .now)) z
 
 enum-told : tie.Need-enum-told
 enum-told c = search needs
@@ -44,7 +45,10 @@ is-same-requires : tie.Need-is-same-requires
 is-same-requires c κs = search needs
 
 returns-2 : tie.Need-returns-2
-returns-2 c = differs-v (numbers (c .before .before .before .before .before .before .before .before .args .t)) _ _ (ap numbers (c .before .before .before .enum-told .given .1)) _ _ _ _ (sym (vertices (c .before)) ∙ not-true (c .before .is-same .result) (c .if1 .taken))
+returns-2 c =
+    let args = c .before .before .before .before .before .before .before .before .args in
+    let enum-told = c .before .before .before .enum-told in
+    differs-v (numbers (args .t)) _ _ (ap numbers (enum-told .given .1)) _ _ _ _ (sym (vertices (c .before)) ∙ not-true (c .before .is-same .result) (c .if1 .taken))
 
 mul-is-same : tie.Need-mul-is-same
 mul-is-same c = search needs
@@ -63,9 +67,12 @@ is-same-requires-2 c κs = search needs
 
 returns-3 : tie.Need-returns-3
 returns-3 c =
-    let s = c .before .before .before .before .before .before .before .before .before .before .args in
+    let args = c .before .before .before .before .before .before .before .before .before .before .args in
+    let enum-told = c .before .before .before .before .before .enum-told in
+    let is-same = c .before .before .before .is-same in
+    let s = args in
     let z : s .n + length (s .e2e .now) - s .n ≡ length (s .e2e .now) = omega arith in
-    compares (numbers (s .t)) _ _ (ap numbers (c .before .before .before .before .before .enum-told .given .1)) _ _ _ _ (c .is-same2 .result) (sym (vertices (c .before .before .before)) ∙ not-false (c .before .before .before .is-same .result) (c .before .before .if1 .left))
+    compares (numbers (s .t)) _ _ (ap numbers (enum-told .given .1)) _ _ _ _ (c .is-same2 .result) (sym (vertices (c .before .before .before)) ∙ not-false (is-same .result) (c .before .before .if1 .left))
     (c .is-same2 .ensures ∙ ap (λ (k : ℕ). same (take k (drop (s .n) (s .work .now))) (s .e2e .now)) z)
 
 pub is-theirs-spec : {M : Type 1} → statement M

@@ -67,9 +67,13 @@ same-length-2 c = search needs
 
 returns : tie.Need-returns
 returns c =
-    let s = c .before .before .before .before .before .before .before .before .before .before .before .before .before .before .before .before .before .before .before .args in
-    proposed (s .n) (s .m) (s .v2e .now) (s .e2e .now) (s .list .now) (s .work .now) (c .before .before .before .before .before .before .before .before .before .before .before .before .before .before .before .before .before .before .before .pre) (c .before .before .before .before .before .before .before .before .before .before .before .before .before .walk-tables .last .1 .1 .1 .1 .0) (c .before .before .before .before .before .before .before .before .before .before .before .before .before .walk-tables .ensures .0) (c .before .before .before .before .before .before .before .before .before .before .before .before .before .walk-tables .ensures .1)
-    (c .before .before .before .before .before .before .before .before .copy .last .1 .0) (c .before .before .before .before .before .before .before .before .copy .ensures) (c .before .before .copy2 .last .1 .0) (c .before .before .copy2 .ensures)
+    let pre = c .before .before .before .before .before .before .before .before .before .before .before .before .before .before .before .before .before .before .before .pre in
+    let args = c .before .before .before .before .before .before .before .before .before .before .before .before .before .before .before .before .before .before .before .args in
+    let walk-tables = c .before .before .before .before .before .before .before .before .before .before .before .before .before .walk-tables in
+    let copy = c .before .before .before .before .before .before .before .before .copy in
+    let s = args in
+    proposed (s .n) (s .m) (s .v2e .now) (s .e2e .now) (s .list .now) (s .work .now) (pre) (walk-tables .last .1 .1 .1 .1 .0) (walk-tables .ensures .0) (walk-tables .ensures .1)
+    (copy .last .1 .0) (copy .ensures) (c .before .before .copy2 .last .1 .0) (c .before .before .copy2 .ensures)
 
 pub propose-spec : {M : Type 1} → statement M
 propose-spec =

@@ -34,13 +34,19 @@ sizes-fit-requires : tie.Need-sizes-fit-requires
 sizes-fit-requires c κs = search needs
 
 returns : tie.Need-returns
-returns c = unsized (c .before .before .before .before .before .before .args .n) (c .before .before .before .before .before .before .args .v2e .now) (c .before .before .before .before .before .before .args .e2e .now) (c .before .before .before .before .before .before .args .list .now) (c .before .before .before .before .before .before .args .work .now) (sym (sizes (c .before)) ∙ not-true (c .before .sizes-fit .result) (c .if1 .taken))
+returns c =
+    let args = c .before .before .before .before .before .before .args in
+    unsized (args .n) (args .v2e .now) (args .e2e .now) (args .list .now) (args .work .now) (sym (sizes (c .before)) ∙ not-true (c .before .sizes-fit .result) (c .if1 .taken))
 
 lengths-fit-requires : tie.Need-lengths-fit-requires
-lengths-fit-requires c κs = means-sizes (c .before .before .before .before .before .before .args .n) (c .before .before .before .before .before .before .args .e2e .now) .says (sizes-known (c .before .before .before .before .before .before .args .n) (c .before .before .before .before .before .before .args .e2e .now) (c .before .before .before .before .before .before .args .list .now) (sized c) .0) .1 .0
+lengths-fit-requires c κs =
+    let args = c .before .before .before .before .before .before .args in
+    means-sizes (args .n) (args .e2e .now) .says (sizes-known (args .n) (args .e2e .now) (args .list .now) (sized c) .0) .1 .0
 
 returns-2 : tie.Need-returns-2
-returns-2 c = unlengthened (c .before .before .before .before .before .before .before .before .args .n) (c .before .before .before .before .before .before .before .before .args .v2e .now) (c .before .before .before .before .before .before .before .before .args .e2e .now) (c .before .before .before .before .before .before .before .before .args .list .now) (c .before .before .before .before .before .before .before .before .args .work .now) (sized (c .before .before)) (sym (lengths (c .before)) ∙ not-true (c .before .lengths-fit .result) (c .if2 .taken))
+returns-2 c =
+    let args = c .before .before .before .before .before .before .before .before .args in
+    unlengthened (args .n) (args .v2e .now) (args .e2e .now) (args .list .now) (args .work .now) (sized (c .before .before)) (sym (lengths (c .before)) ∙ not-true (c .before .lengths-fit .result) (c .if2 .taken))
 
 recover-fit-requires : tie.Need-recover-fit-requires
 recover-fit-requires c κs = (sized (c .before .before .before .before), lengthened (c .before .before))
@@ -55,7 +61,10 @@ same-length-2 : tie.Need-same-length-2
 same-length-2 c = search needs
 
 returns-3 : tie.Need-returns-3
-returns-3 c = whole (c .before .before .before .before .before .before .before .before .before .before .before .before .before .before .before .before .before .before .before .args .n) (c .before .before .before .before .before .before .before .before .before .before .before .before .before .before .before .before .before .before .before .args .v2e .now) (c .before .before .before .before .before .before .before .before .before .before .before .before .before .before .before .before .before .before .before .args .e2e .now) (c .before .before .before .before .before .before .before .before .before .before .before .before .before .before .before .before .before .before .before .args .list .now) (c .before .before .before .before .before .before .before .before .before .before .before .before .before .before .before .before .before .before .before .args .work .now) (numbers (c .before .before .before .before .before .before .before .before .recover-fit .result)) _ _ (sized (c .before .before .before .before .before .before .before .before .before .before .before .before .before)) (lengthened (c .before .before .before .before .before .before .before .before .before .before .before)) (c .before .before .before .before .before .before .before .before .recover-fit .ensures .0) (c .before .before .clear .ensures ∙ ap (λ (k : ℕ). replicate k 0) (c .before .before .before .before .before .before .before .before .recover-fit .ensures .1))
+returns-3 c =
+    let args = c .before .before .before .before .before .before .before .before .before .before .before .before .before .before .before .before .before .before .before .args in
+    let recover-fit = c .before .before .before .before .before .before .before .before .recover-fit in
+    whole (args .n) (args .v2e .now) (args .e2e .now) (args .list .now) (args .work .now) (numbers (recover-fit .result)) _ _ (sized (c .before .before .before .before .before .before .before .before .before .before .before .before .before)) (lengthened (c .before .before .before .before .before .before .before .before .before .before .before)) (recover-fit .ensures .0) (c .before .before .clear .ensures ∙ ap (λ (k : ℕ). replicate k 0) (recover-fit .ensures .1))
 
 pub recover-spec : {M : Type 1} → statement M
 recover-spec =

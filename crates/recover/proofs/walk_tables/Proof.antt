@@ -20,10 +20,14 @@ same-length c = search needs
 
 returns : tie.Need-returns
 returns c =
-    let s = c .before .before .before .before .before .before .before .before .before .before .before .before .before .before .before .args in
-    let h = c .before .before .before .before .before .before .before .before .before .before .before .before .before .before .before .pre in (
-      walk-filled (s .n) (s .m) (s .v2e .now) (s .e2e .now) (s .work .now) (c .before .before .before .before .before .before .before .before .before .before .fill .last .1 .1 .1 .0) (c .before .before .before .before .before .before .link .last .1 .1 .0) (c .before .before .walk .last .1 .1 .0) (h .0) (h .1) (h .2) (c .before .before .before .before .before .before .before .before .before .before .fill .ensures) (c .before .before .before .before .before .before .link .ensures) (c .before .before .walk .ensures),
-      c .before .before .walk .ensures .long ∙ c .before .before .before .before .before .before .link .ensures .long ∙ c .before .before .before .before .before .before .before .before .before .before .fill .ensures .long,
+    let pre = c .before .before .before .before .before .before .before .before .before .before .before .before .before .before .before .pre in
+    let args = c .before .before .before .before .before .before .before .before .before .before .before .before .before .before .before .args in
+    let fill = c .before .before .before .before .before .before .before .before .before .before .fill in
+    let link = c .before .before .before .before .before .before .link in
+    let s = args in
+    let h = pre in (
+      walk-filled (s .n) (s .m) (s .v2e .now) (s .e2e .now) (s .work .now) (fill .last .1 .1 .1 .0) (link .last .1 .1 .0) (c .before .before .walk .last .1 .1 .0) (h .0) (h .1) (h .2) (fill .ensures) (link .ensures) (c .before .before .walk .ensures),
+      c .before .before .walk .ensures .long ∙ link .ensures .long ∙ fill .ensures .long,
     )
 
 pub walk-tables-spec : {M : Type 1} → statement M

@@ -20,16 +20,19 @@ wide-requires c κs = search needs
 returns-2 : tie.Need-returns-2
 unfolding isSide
 returns-2 c =
-    let s = c .before .before .before .before .args in
+    let args = c .before .before .before .before .args in
+    let s = args in
     let h : elements (s .list .now) < s .code / 8 = omega arith in
     simp (le-leb 1 _ (c .before .before .if1 .left), lt-leb _ _ h)
 
 returns-3 : tie.Need-returns-3
 unfolding isSide
 returns-3 c =
-    let s = c .before .before .before .before .before .args in
+    let args = c .before .before .before .before .before .args in
+    let if1 = c .before .before .before .if1 in
+    let s = args in
     let h : s .code / 8 ≤ elements (s .list .now) = omega arith in
-    simp (le-leb 1 _ (c .before .before .before .if1 .left), le-leb _ _ h, lt-leb 1 _ (c .if3 .taken))
+    simp (le-leb 1 _ (if1 .left), le-leb _ _ h, lt-leb 1 _ (c .if3 .taken))
 
 row-at-requires : tie.Need-row-at-requires
 row-at-requires c κs = search needs
@@ -40,11 +43,13 @@ side-count-requires c κs = search needs
 returns-4 : tie.Need-returns-4
 unfolding isSide
 returns-4 c =
-    let s = c .before .before .before .before .before .before .before .args in
+    let args = c .before .before .before .before .before .before .before .args in
+    let if1 = c .before .before .before .before .before .if1 in
+    let s = args in
     let h : s .code / 8 ≤ elements (s .list .now) = omega arith in
     let q : c .side-count .result ≡ sides (s .list .now) (s .code / 8) =
     c .side-count .ensures ∙ ap sidesOf (c .before .row-at .ensures) ∙ row-sides (s .list .now) (s .code / 8) in
-    simp (le-leb 1 _ (c .before .before .before .before .before .if1 .left), le-leb _ _ h, le-leb 1 _ (c .before .before .if3 .left), q)
+    simp (le-leb 1 _ (if1 .left), le-leb _ _ h, le-leb 1 _ (c .before .before .if3 .left), q)
 
 pub is-side-spec : {M : Type 1} → statement M
 is-side-spec =

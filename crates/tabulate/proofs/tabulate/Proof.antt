@@ -15,7 +15,9 @@ use Rattle.tabulate.proofs.tabulate.Statement.{statement}
 use Rattle.tabulate.proofs.tabulate.Tie as tie
 
 nothing : (c : tie.After-enum-told) → (unfitCorner (c .before .before .before .before .before .args .n) (c .before .before .before .before .before .args .list .now) ≡ 0) × (repeatedCorner (c .before .before .before .before .before .args .list .now) ≡ 0)
-nothing c = found-nothing (c .before .before .before .before .before .args .n) (c .before .before .before .before .before .args .list .now) (c .before .before .first-fault .result) (c .before .before .first-fault .ensures) (c .enum-told .given .1)
+nothing c =
+    let args = c .before .before .before .before .before .args in
+    found-nothing (args .n) (args .list .now) (c .before .before .first-fault .result) (c .before .before .first-fault .ensures) (c .enum-told .given .1)
 
 first-fault-requires : tie.Need-first-fault-requires
 first-fault-requires c κs = let (a, (b, d)) = means-sizes (c .before .before .args .n) (c .before .before .args .list .now) .says (c .before .before .pre .sizes) in (d, b)
@@ -36,21 +38,28 @@ enum-told : tie.Need-enum-told
 enum-told c = search needs
 
 tabulate-fit-requires : tie.Need-tabulate-fit-requires
-tabulate-fit-requires c κs = let (a, b) = nothing (c .before) in (fit-rows (c .before .before .before .before .before .before .args .n) (c .before .before .before .before .before .before .args .list .now) (c .before .before .before .before .before .before .pre .sizes) a b, c .before .before .before .before .before .before .pre .long)
+tabulate-fit-requires c κs =
+    let pre = c .before .before .before .before .before .before .pre in
+    let args = c .before .before .before .before .before .before .args in
+    let (a, b) = nothing (c .before) in (fit-rows (args .n) (args .list .now) (pre .sizes) a b, pre .long)
 
 returns : tie.Need-returns
 unfolding listAnswer
 returns c =
-    let (d, e) = found-unfit (c .before .before .before .before .before .before .before .args .n) (c .before .before .before .before .before .before .before .args .list .now) (c .before .before .before .before .first-fault .result) (c .before .before .before .before .first-fault .ensures) _ (c .before .before .fault .given .1) in
-    refuses (c .before .before .before .before .before .before .before .args .n) (c .before .before .before .before .before .before .before .args .list .now) _ _ 3 _ _ (c .before .before .before .before .before .before .before .args .work .now) (c .before .before .before .before .before .before .before .args .work .now) (c .refusal-at .ensures)
-    (side-refuses 3 (unfitCorner (c .before .before .before .before .before .before .before .args .n) (c .before .before .before .before .before .before .before .args .list .now)) _ d ∙ ap (λ (s : ℕ). refused 3 (element s) (number s)) e) refl
+    let args = c .before .before .before .before .before .before .before .args in
+    let first-fault = c .before .before .before .before .first-fault in
+    let (d, e) = found-unfit (args .n) (args .list .now) (first-fault .result) (first-fault .ensures) _ (c .before .before .fault .given .1) in
+    refuses (args .n) (args .list .now) _ _ 3 _ _ (args .work .now) (args .work .now) (c .refusal-at .ensures)
+    (side-refuses 3 (unfitCorner (args .n) (args .list .now)) _ d ∙ ap (λ (s : ℕ). refused 3 (element s) (number s)) e) refl
 
 returns-2 : tie.Need-returns-2
 unfolding listAnswer
 returns-2 c =
-    let (z, d, e) = found-repeated (c .before .before .before .before .before .before .before .args .n) (c .before .before .before .before .before .before .before .args .list .now) (c .before .before .before .before .first-fault .result) (c .before .before .before .before .first-fault .ensures) _ (c .before .before .fault2 .given .1) in
-    refuses (c .before .before .before .before .before .before .before .args .n) (c .before .before .before .before .before .before .before .args .list .now) _ _ 4 _ _ (c .before .before .before .before .before .before .before .args .work .now) (c .before .before .before .before .before .before .before .args .work .now) (c .refusal-at2 .ensures)
-    (side-clear 3 (unfitCorner (c .before .before .before .before .before .before .before .args .n) (c .before .before .before .before .before .before .before .args .list .now)) _ z ∙ side-refuses 4 (repeatedCorner (c .before .before .before .before .before .before .before .args .list .now)) _ d ∙ ap (λ (s : ℕ). refused 4 (element s) (number s)) e) refl
+    let args = c .before .before .before .before .before .before .before .args in
+    let first-fault = c .before .before .before .before .first-fault in
+    let (z, d, e) = found-repeated (args .n) (args .list .now) (first-fault .result) (first-fault .ensures) _ (c .before .before .fault2 .given .1) in
+    refuses (args .n) (args .list .now) _ _ 4 _ _ (args .work .now) (args .work .now) (c .refusal-at2 .ensures)
+    (side-clear 3 (unfitCorner (args .n) (args .list .now)) _ z ∙ side-refuses 4 (repeatedCorner (args .list .now)) _ d ∙ ap (λ (s : ℕ). refused 4 (element s) (number s)) e) refl
 
 same-length : tie.Need-same-length
 same-length c = search needs
@@ -58,9 +67,10 @@ same-length c = search needs
 returns-3 : tie.Need-returns-3
 unfolding listAnswer
 returns-3 c =
+    let args = c .before .before .before .before .before .before .before .before .before .args in
     let (a, b) = nothing (c .before .before .before .before) in
-    restated (c .before .before .before .before .before .before .before .before .before .args .n) (c .before .before .before .before .before .before .before .before .before .args .list .now) (fitAnswer (c .before .before .before .before .before .before .before .before .before .args .n) (c .before .before .before .before .before .before .before .before .before .args .list .now)) _ _ (c .before .before .before .before .before .before .before .before .before .args .work .now) (c .before .before .before .before .before .before .before .before .before .args .work .now) (c .before .before .tabulate-fit .last .1 .1 .0)
-    (side-clear 3 (unfitCorner (c .before .before .before .before .before .before .before .before .before .args .n) (c .before .before .before .before .before .before .before .before .before .args .list .now)) _ a ∙ side-clear 4 (repeatedCorner (c .before .before .before .before .before .before .before .before .before .args .list .now)) _ b) refl (c .before .before .tabulate-fit .ensures)
+    restated (args .n) (args .list .now) (fitAnswer (args .n) (args .list .now)) _ _ (args .work .now) (args .work .now) (c .before .before .tabulate-fit .last .1 .1 .0)
+    (side-clear 3 (unfitCorner (args .n) (args .list .now)) _ a ∙ side-clear 4 (repeatedCorner (args .list .now)) _ b) refl (c .before .before .tabulate-fit .ensures)
 
 pub tabulate-spec : {M : Type 1} → statement M
 tabulate-spec =

@@ -21,28 +21,43 @@ abbrev Firsted : Type 0
 Firsted = tie.After-first-sides
 
 abbrev n : Firsted → ℕ
-n c = c .before .before .before .before .before .before .before .before .before .before .args .n
+n c =
+    let args = c .before .before .before .before .before .before .before .before .before .before .args in
+    args .n
 
 abbrev list : Firsted → List ℕ
-list c = c .before .before .before .before .before .before .before .before .before .before .args .list .now
+list c =
+    let args = c .before .before .before .before .before .before .before .before .before .before .args in
+    args .list .now
 
 abbrev entry : Firsted → List ℕ
-entry c = c .before .before .before .before .before .before .before .before .before .before .args .work .now
+entry c =
+    let args = c .before .before .before .before .before .before .before .before .before .before .args in
+    args .work .now
 
 rows : (c : Firsted) → Fit (n c) (list c)
-rows c = c .before .before .before .before .before .before .before .before .before .before .pre .0
+rows c =
+    let pre = c .before .before .before .before .before .before .before .before .before .before .pre in
+    pre .0
 
 long : (c : Firsted) → length (entry c) ≡ n c + 12 * elements (list c)
-long c = c .before .before .before .before .before .before .before .before .before .before .pre .1
+long c =
+    let pre = c .before .before .before .before .before .before .before .before .before .before .pre in
+    pre .1
 
 abbrev grouped-work : Firsted → List ℕ
-grouped-work c = c .before .before .before .before .before .siblings .last .1 .1 .0
+grouped-work c =
+    let siblings = c .before .before .before .before .before .siblings in
+    siblings .last .1 .1 .0
 
 abbrev first-work : Firsted → List ℕ
 first-work c = c .first-sides .last .1 .1 .0
 
 grouped : (c : Firsted) → Grouped (n c) (list c) (entry c) (grouped-work c)
-grouped c = rw (c .before .before .before .before .before .before .before .wide .ensures) at (c .before .before .before .before .before .siblings .ensures)
+grouped c =
+    let wide = c .before .before .before .before .before .before .before .wide in
+    let siblings = c .before .before .before .before .before .siblings in
+    rw (wide .ensures) at (siblings .ensures)
 
 kept : (c : Firsted) → Kept (n c) (grouped-work c) (first-work c)
 kept c = rw (c .before .before .wide2 .ensures) at (c .first-sides .ensures .0)
@@ -71,16 +86,24 @@ wide-requires : tie.Need-wide-requires
 wide-requires c κs = search needs
 
 siblings-requires : tie.Need-siblings-requires
-siblings-requires c κs = rw (c .before .wide .ensures) (room (c .before .before .before .before .args .n) (c .before .before .before .before .args .list .now) (c .before .before .before .before .args .work .now) (c .before .before .before .before .pre .0) (c .before .before .before .before .pre .1))
+siblings-requires c κs =
+    let pre = c .before .before .before .before .pre in
+    let args = c .before .before .before .before .args in
+    rw (c .before .wide .ensures) (room (args .n) (args .list .now) (args .work .now) (pre .0) (pre .1))
 
 wide-requires-2 : tie.Need-wide-requires-2
 wide-requires-2 c κs = search needs
 
 first-sides-requires : tie.Need-first-sides-requires
-first-sides-requires c κs = rw (c .before .wide2 .ensures) (c .before .before .before .before .before .before .before .before .before .pre .0, omega (arith, c .before .before .before .before .siblings .ensures .kept .long, c .before .before .before .before .before .before .before .before .before .pre .1))
+first-sides-requires c κs =
+    let pre = c .before .before .before .before .before .before .before .before .before .pre in
+    let siblings = c .before .before .before .before .siblings in
+    rw (c .before .wide2 .ensures) (pre .0, omega (arith, siblings .ensures .kept .long, pre .1))
 
 unused-vertex-requires : tie.Need-unused-vertex-requires
-unused-vertex-requires c κs = omega (arith, still (c .before .before .before), c .before .before .before .before .before .before .before .before .before .before .before .before .before .pre .1)
+unused-vertex-requires c κs =
+    let pre = c .before .before .before .before .before .before .before .before .before .before .before .before .before .pre in
+    omega (arith, still (c .before .before .before), pre .1)
 
 same-length : tie.Need-same-length
 same-length c = search needs
@@ -113,7 +136,9 @@ wide-requires-4 : tie.Need-wide-requires-4
 wide-requires-4 c κs = search needs
 
 alike-side-requires : tie.Need-alike-side-requires
-alike-side-requires c κs = rw (c .before .wide4 .ensures) (mapped (n (c .before .before .before .before .before .before .before .before .before .before .before)) (list (c .before .before .before .before .before .before .before .before .before .before .before)) (entry (c .before .before .before .before .before .before .before .before .before .before .before)) (rows (c .before .before .before .before .before .before .before .before .before .before .before)) (long (c .before .before .before .before .before .before .before .before .before .before .before)) (grouped-work (c .before .before .before .before .before .before .before .before .before .before .before)) (first-work (c .before .before .before .before .before .before .before .before .before .before .before)) (grouped (c .before .before .before .before .before .before .before .before .before .before .before)) (kept (c .before .before .before .before .before .before .before .before .before .before .before)), sym (c .before .before .before .crowded-side .ensures) ∙ c .before .before .if2 .left)
+alike-side-requires c κs =
+    let crowded-side = c .before .before .before .crowded-side in
+    rw (c .before .wide4 .ensures) (mapped (n (c .before .before .before .before .before .before .before .before .before .before .before)) (list (c .before .before .before .before .before .before .before .before .before .before .before)) (entry (c .before .before .before .before .before .before .before .before .before .before .before)) (rows (c .before .before .before .before .before .before .before .before .before .before .before)) (long (c .before .before .before .before .before .before .before .before .before .before .before)) (grouped-work (c .before .before .before .before .before .before .before .before .before .before .before)) (first-work (c .before .before .before .before .before .before .before .before .before .before .before)) (grouped (c .before .before .before .before .before .before .before .before .before .before .before)) (kept (c .before .before .before .before .before .before .before .before .before .before .before)), sym (crowded-side .ensures) ∙ c .before .before .if2 .left)
 
 refusal-at-requires-2 : tie.Need-refusal-at-requires-2
 refusal-at-requires-2 c κs = search needs
@@ -129,11 +154,14 @@ returns-3 c =
 
 tabulate-paired-requires : tie.Need-tabulate-paired-requires
 tabulate-paired-requires c κs =
+    let if1 = c .before .before .before .before .before .before .before .before .before .if1 in
+    let crowded-side = c .before .before .before .before .before .before .crowded-side in
+    let if2 = c .before .before .before .before .before .if2 in
     record {
       mapped = mapped (n (c .before .before .before .before .before .before .before .before .before .before .before .before .before .before)) (list (c .before .before .before .before .before .before .before .before .before .before .before .before .before .before)) (entry (c .before .before .before .before .before .before .before .before .before .before .before .before .before .before)) (rows (c .before .before .before .before .before .before .before .before .before .before .before .before .before .before)) (long (c .before .before .before .before .before .before .before .before .before .before .before .before .before .before)) (grouped-work (c .before .before .before .before .before .before .before .before .before .before .before .before .before .before)) (first-work (c .before .before .before .before .before .before .before .before .before .before .before .before .before .before)) (grouped (c .before .before .before .before .before .before .before .before .before .before .before .before .before .before)) (kept (c .before .before .before .before .before .before .before .before .before .before .before .before .before .before));
       firsts = firsts (c .before .before .before .before .before .before .before .before .before .before .before .before .before .before);
-      used = sym (unused (c .before .before .before .before .before .before .before .before .before .before)) ∙ c .before .before .before .before .before .before .before .before .before .if1 .left;
-      uncrowded = sym (c .before .before .before .before .before .before .crowded-side .ensures) ∙ c .before .before .before .before .before .if2 .left;
+      used = sym (unused (c .before .before .before .before .before .before .before .before .before .before)) ∙ if1 .left;
+      uncrowded = sym (crowded-side .ensures) ∙ if2 .left;
       apart = sym (c .before .before .alike-side .ensures) ∙ c .before .if3 .left;
       long = still (c .before .before .before .before .before .before .before .before .before .before .before .before .before .before);
     }
@@ -143,8 +171,10 @@ same-length-4 c = search needs
 
 returns-4 : tie.Need-returns-4
 returns-4 c =
+    let alike-side = c .before .before .before .before .before .alike-side in
+    let if3 = c .before .before .before .before .if3 in
     restated (n (c .before .before .before .before .before .before .before .before .before .before .before .before .before .before .before .before .before)) (list (c .before .before .before .before .before .before .before .before .before .before .before .before .before .before .before .before .before)) (pairedAnswer (n (c .before .before .before .before .before .before .before .before .before .before .before .before .before .before .before .before .before)) (list (c .before .before .before .before .before .before .before .before .before .before .before .before .before .before .before .before .before))) _ _ (first-work (c .before .before .before .before .before .before .before .before .before .before .before .before .before .before .before .before .before)) (entry (c .before .before .before .before .before .before .before .before .before .before .before .before .before .before .before .before .before)) (c .before .before .tabulate-paired .last .1 .1 .0)
-    (apart-on (c .before .before .before .before .before .before .before .before) ∙ side-clear 7 (alikeSide (list (c .before .before .before .before .before .before .before .before .before .before .before .before .before .before .before .before .before))) _ (sym (c .before .before .before .before .before .alike-side .ensures) ∙ c .before .before .before .before .if3 .left)) (same-long (c .before .before .before .before .before .before .before .before .before .before .before .before .before .before .before .before .before)) (c .before .before .tabulate-paired .ensures)
+    (apart-on (c .before .before .before .before .before .before .before .before) ∙ side-clear 7 (alikeSide (list (c .before .before .before .before .before .before .before .before .before .before .before .before .before .before .before .before .before))) _ (sym (alike-side .ensures) ∙ if3 .left)) (same-long (c .before .before .before .before .before .before .before .before .before .before .before .before .before .before .before .before .before)) (c .before .before .tabulate-paired .ensures)
 
 pub tabulate-fit-spec : {M : Type 1} → statement M
 tabulate-fit-spec =

@@ -22,19 +22,27 @@ abbrev Tabled : Type 0
 Tabled = tie.After-number-borders
 
 abbrev n : Tabled → ℕ
-n c = c .before .before .before .before .before .args .n
+n c =
+    let args = c .before .before .before .before .before .args in
+    args .n
 
 abbrev list : Tabled → List ℕ
-list c = c .before .before .before .before .before .args .list .now
+list c =
+    let args = c .before .before .before .before .before .args in
+    args .list .now
 
 abbrev entry : Tabled → List ℕ
-entry c = c .before .before .before .before .before .args .work .now
+entry c =
+    let args = c .before .before .before .before .before .args in
+    args .work .now
 
 abbrev tabled : Tabled → List ℕ
 tabled c = c .number-borders .last .1 .1 .0
 
 ready : (c : Tabled) → Ready (n c) (list c) (entry c)
-ready c = c .before .before .before .before .before .pre
+ready c =
+    let pre = c .before .before .before .before .before .pre in
+    pre
 
 numbered : (c : Tabled) → Numbered (n c) (list c) (c .number-borders .result .borders) (c .number-borders .result .sides) (entry c) (tabled c)
 numbered c = rw (c .before .before .wide .ensures) at (c .number-borders .ensures)
@@ -58,7 +66,9 @@ wide-requires : tie.Need-wide-requires
 wide-requires c κs = search needs
 
 number-borders-requires : tie.Need-number-borders-requires
-number-borders-requires c κs = rw (c .before .wide .ensures) (c .before .before .before .before .pre)
+number-borders-requires c κs =
+    let pre = c .before .before .before .before .pre in
+    rw (c .before .wide .ensures) (pre)
 
 wide-requires-2 : tie.Need-wide-requires-2
 wide-requires-2 c κs = search needs
@@ -76,7 +86,9 @@ add-unordered-vertex : tie.Need-add-unordered-vertex
 add-unordered-vertex c = search needs
 
 unordered-vertex-requires : tie.Need-unordered-vertex-requires
-unordered-vertex-requires c κs = rw (c .before .wide3 .ensures) (walk-done (n (c .before .before .before .before .before .before .before .before .before)) (list (c .before .before .before .before .before .before .before .before .before)) (entry (c .before .before .before .before .before .before .before .before .before)) (ready (c .before .before .before .before .before .before .before .before .before)) _ _ (tabled (c .before .before .before .before .before .before .before .before .before)) (numbered (c .before .before .before .before .before .before .before .before .before)) (left (c .before .before .before .before)) (walking (c .before .before .before .before)), c .before .before .before .before .before .before .before .before .before .before .before .before .before .before .pre .mapped .fit)
+unordered-vertex-requires c κs =
+    let pre = c .before .before .before .before .before .before .before .before .before .before .before .before .before .before .pre in
+    rw (c .before .wide3 .ensures) (walk-done (n (c .before .before .before .before .before .before .before .before .before)) (list (c .before .before .before .before .before .before .before .before .before)) (entry (c .before .before .before .before .before .before .before .before .before)) (ready (c .before .before .before .before .before .before .before .before .before)) _ _ (tabled (c .before .before .before .before .before .before .before .before .before)) (numbered (c .before .before .before .before .before .before .before .before .before)) (left (c .before .before .before .before)) (walking (c .before .before .before .before)), pre .mapped .fit)
 
 same-length : tie.Need-same-length
 same-length c = search needs
@@ -87,7 +99,9 @@ returns c =
     (rw (found (c .before)) (vertex-refuses 8 (unorderedVertex (n (c .before .before .before .before .before .before .before .before .before .before .before)) (list (c .before .before .before .before .before .before .before .before .before .before .before))) _ (λ e. c .if1 .taken (found (c .before) ∙ e)))) (same-long (c .before .before .before .before .before .before))
 
 add-t20 : tie.Need-add-t20
-add-t20 c = omega (arith, numbered (c .before .before .before .before .before .before .before .before .before .before .before) .number, numbered (c .before .before .before .before .before .before .before .before .before .before .before) .sides, borders-bound (list (c .before .before .before .before .before .before .before .before .before .before .before)), sides-bound (list (c .before .before .before .before .before .before .before .before .before .before .before)), c .before .before .before .before .before .before .before .before .before .before .before .before .before .before .before .before .pre .mapped .fit .fours, c .before .before .before .before .before .before .before .before .before .before .before .before .before .before .before .before .pre .mapped .fit .size)
+add-t20 c =
+    let pre = c .before .before .before .before .before .before .before .before .before .before .before .before .before .before .before .before .pre in
+    omega (arith, numbered (c .before .before .before .before .before .before .before .before .before .before .before) .number, numbered (c .before .before .before .before .before .before .before .before .before .before .before) .sides, borders-bound (list (c .before .before .before .before .before .before .before .before .before .before .before)), sides-bound (list (c .before .before .before .before .before .before .before .before .before .before .before)), pre .mapped .fit .fours, pre .mapped .fit .size)
 
 same-length-2 : tie.Need-same-length-2
 same-length-2 c = search needs

@@ -13,7 +13,9 @@ use Rattle.text.proofs.first_bad.Statement.{statement}
 use Rattle.text.proofs.first_bad.Tie as tie
 
 abbrev text : tie.Else1 → List ℕ
-text c = c .before .before .before .args .text .now
+text c =
+    let args = c .before .before .before .args in
+    args .text .now
 
 good : (c : tie.Else1) → goodHead (text c) ≡ true
 good c = sym (c .before .is-good-head .ensures) ∙ not-false _ (c .if1 .left)

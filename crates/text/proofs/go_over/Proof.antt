@@ -54,7 +54,9 @@ loop-again c = let h = c .before .before .before .before .before in
 
 returns-2 : tie.Need-returns-2 Inv-loop μ-loop
 unfolding firstBadField
-returns-2 c = ((found-none (bad (c .before .before .before .args .text .now)) (c .before .loop .inv .3) _ (omega arith), c .before .loop .inv .2), search needs)
+returns-2 c =
+    let args = c .before .before .before .args in
+    ((found-none (bad (args .text .now)) (c .before .loop .inv .3) _ (omega arith), c .before .loop .inv .2), search needs)
 
 pub go-over-spec : {M : Type 1} → statement M
 go-over-spec =

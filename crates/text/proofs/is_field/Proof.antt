@@ -21,7 +21,9 @@ byte-requires : tie.Need-byte-requires
 byte-requires c κs = search needs
 
 returns-3 : tie.Need-returns-3
-returns-3 c = simp (← c .before .before .before .run .ensures .0, le-leb _ _ (c .before .before .if1 .left), le-leb _ _ (c .before .if2 .left), ← c .byte .ensures)
+returns-3 c =
+    let run = c .before .before .before .run in
+    simp (← run .ensures .0, le-leb _ _ (c .before .before .if1 .left), le-leb _ _ (c .before .if2 .left), ← c .byte .ensures)
 
 pub is-field-spec : {M : Type 1} → statement M
 is-field-spec =

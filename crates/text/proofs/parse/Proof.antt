@@ -55,9 +55,11 @@ same-length : tie.Need-same-length
 same-length c = search needs
 
 returns-3 : tie.Need-returns-3
-returns-3 c = let a = c .before .before .before .before .before .before in
+returns-3 c =
+    let read-list = c .before .before .before .read-list in
+    let a = c .before .before .before .before .before .before in
     let m = a .the-m .ensures in
-    ((cc m) ∙ sym (parsed-mesh _ _ (form (a .before)) (omega arith)), rows _ _ _ _ m (c .before .before .before .read-list .ensures))
+    ((cc m) ∙ sym (parsed-mesh _ _ (form (a .before)) (omega arith)), rows _ _ _ _ m (read-list .ensures))
 
 pub parse-spec : {M : Type 1} → statement M
 parse-spec =

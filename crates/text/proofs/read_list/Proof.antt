@@ -63,7 +63,9 @@ same-length : tie.Need-same-length Inv-loop μ-loop
 same-length c = search needs
 
 returns : tie.Need-returns Inv-loop μ-loop
-returns c = let q : c .before .loop .i ≡ c .before .before .before .before .before .before .args .count = omega arith in rw q at (c .before .loop .inv .4)
+returns c =
+    let args = c .before .before .before .before .before .before .args in
+    let q : c .before .loop .i ≡ args .count = omega arith in rw q at (c .before .loop .inv .4)
 
 pub read-list-spec : {M : Type 1} → statement M
 read-list-spec =

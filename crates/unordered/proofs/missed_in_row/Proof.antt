@@ -18,7 +18,8 @@ row c = c .row .result
 -- the row's entries are the list's
 entry : (c : tie.After-row) (j : ℕ) → j < 4 → at (row c) j ≡ at (c .before .before .before .before .args .list .now) (c .before .before .before .before .args .a + j)
 entry c j h =
-    ap (λ (l : List ℕ). at l j) (c .row .ensures) ∙ part-at (c .before .before .before .before .args .list .now) (c .before .before .before .before .args .a) (c .before .before .before .before .args .a + 4) j refl h
+    let args = c .before .before .before .before .args in
+    ap (λ (l : List ℕ). at l j) (c .row .ensures) ∙ part-at (args .list .now) (args .a) (args .a + 4) j refl h
 
 add-e : tie.Need-add-e
 add-e c = search needs
@@ -109,14 +110,18 @@ lesser-missed-requires-4 c κs = search needs
 
 returns : tie.Need-returns
 returns c =
-    let to : (p q r : ℕ) → p ≡ q → LeastBelow (c .before .before .before .before .before .before .before .before .before .before .before .before .args .list .now) (drop (c .before .before .before .before .before .before .before .before .before .before .before .before .args .o) (c .before .before .before .before .before .before .before .before .before .before .before .before .args .work .now)) p r → LeastBelow (c .before .before .before .before .before .before .before .before .before .before .before .before .args .list .now) (drop (c .before .before .before .before .before .before .before .before .before .before .before .before .args .o) (c .before .before .before .before .before .before .before .before .before .before .before .before .args .work .now)) q r =
-    λ p q r e k. subst (λ (i : ℕ). LeastBelow (c .before .before .before .before .before .before .before .before .before .before .before .before .args .list .now) (drop (c .before .before .before .before .before .before .before .before .before .before .before .before .args .o) (c .before .before .before .before .before .before .before .before .before .before .before .before .args .work .now)) i r) e k in
-    let a = c .before .before .before .before .before .before .before .before .before .before .before .before .args .a in
-    let k₀ = to a (a + 0) (c .before .before .before .before .before .before .before .before .before .before .before .before .args .best) (omega arith) (c .before .before .before .before .before .before .before .before .before .before .before .before .pre .2) in
-    let k₁ = least-read (c .before .before .before .before .before .before .before .before .before .before .before .before .args .o) (c .before .before .before .before .before .before .before .before .before .before .before .before .args .list .now) (c .before .before .before .before .before .before .before .before .before .before .before .before .args .work .now) (c .before .before .before .before .before .before .before .before .before .before .before .before .pre .0) (c .before .before .before .before .before .before .before .before .before .before .before .before .args .a) 0 (c .before .before .before .before .before .before .before .before .before .before .before .before .args .best) (at (row (c .before .before .before .before .before .before .before .before)) 0) (at (c .before .before .before .before .before .before .before .before .before .before .before .before .args .work .now) (c .before .before .before .before .before .before .before .before .before .before .before .before .args .o + c .before .before .before .before .before .before .before .before .before .before .before .before .args .a)) (c .before .before .before .before .before .before .lesser-missed .result) (omega (arith, c .before .before .before .before .before .before .before .before .before .before .before .before .pre .1)) (entry (c .before .before .before .before .before .before .before .before) 0 (omega arith)) (let e : c .before .before .before .before .before .before .before .before .before .before .before .before .args .o + c .before .before .before .before .before .before .before .before .before .before .before .before .args .a ≡ c .before .before .before .before .before .before .before .before .before .before .before .before .args .o + (c .before .before .before .before .before .before .before .before .before .before .before .before .args .a + 0) = omega arith in ap (at (c .before .before .before .before .before .before .before .before .before .before .before .before .args .work .now)) e) (k₀) (c .before .before .before .before .before .before .lesser-missed .ensures) in
-    let k₂ = least-read (c .before .before .before .before .before .before .before .before .before .before .before .before .args .o) (c .before .before .before .before .before .before .before .before .before .before .before .before .args .list .now) (c .before .before .before .before .before .before .before .before .before .before .before .before .args .work .now) (c .before .before .before .before .before .before .before .before .before .before .before .before .pre .0) (c .before .before .before .before .before .before .before .before .before .before .before .before .args .a) 1 (c .before .before .before .before .before .before .lesser-missed .result) (at (row (c .before .before .before .before .before .before .before .before)) 1) (at (c .before .before .before .before .before .before .before .before .before .before .before .before .args .work .now) (c .before .before .before .before .before .before .before .before .before .before .before .before .args .o + c .before .before .before .before .before .before .before .before .before .before .before .before .args .a + 1)) (c .before .before .before .before .lesser-missed2 .result) (omega (arith, c .before .before .before .before .before .before .before .before .before .before .before .before .pre .1)) (entry (c .before .before .before .before .before .before .before .before) 1 (omega arith)) (let e : c .before .before .before .before .before .before .before .before .before .before .before .before .args .o + c .before .before .before .before .before .before .before .before .before .before .before .before .args .a + 1 ≡ c .before .before .before .before .before .before .before .before .before .before .before .before .args .o + (c .before .before .before .before .before .before .before .before .before .before .before .before .args .a + 1) = omega arith in ap (at (c .before .before .before .before .before .before .before .before .before .before .before .before .args .work .now)) e) (to (a + 0 + 1) (a + 1) (c .before .before .before .before .before .before .lesser-missed .result) (omega arith) k₁) (c .before .before .before .before .lesser-missed2 .ensures) in
-    let k₃ = least-read (c .before .before .before .before .before .before .before .before .before .before .before .before .args .o) (c .before .before .before .before .before .before .before .before .before .before .before .before .args .list .now) (c .before .before .before .before .before .before .before .before .before .before .before .before .args .work .now) (c .before .before .before .before .before .before .before .before .before .before .before .before .pre .0) (c .before .before .before .before .before .before .before .before .before .before .before .before .args .a) 2 (c .before .before .before .before .lesser-missed2 .result) (at (row (c .before .before .before .before .before .before .before .before)) 2) (at (c .before .before .before .before .before .before .before .before .before .before .before .before .args .work .now) (c .before .before .before .before .before .before .before .before .before .before .before .before .args .o + c .before .before .before .before .before .before .before .before .before .before .before .before .args .a + 2)) (c .before .before .lesser-missed3 .result) (omega (arith, c .before .before .before .before .before .before .before .before .before .before .before .before .pre .1)) (entry (c .before .before .before .before .before .before .before .before) 2 (omega arith)) (let e : c .before .before .before .before .before .before .before .before .before .before .before .before .args .o + c .before .before .before .before .before .before .before .before .before .before .before .before .args .a + 2 ≡ c .before .before .before .before .before .before .before .before .before .before .before .before .args .o + (c .before .before .before .before .before .before .before .before .before .before .before .before .args .a + 2) = omega arith in ap (at (c .before .before .before .before .before .before .before .before .before .before .before .before .args .work .now)) e) (to (a + 1 + 1) (a + 2) (c .before .before .before .before .lesser-missed2 .result) (omega arith) k₂) (c .before .before .lesser-missed3 .ensures) in
-    let k₄ = least-read (c .before .before .before .before .before .before .before .before .before .before .before .before .args .o) (c .before .before .before .before .before .before .before .before .before .before .before .before .args .list .now) (c .before .before .before .before .before .before .before .before .before .before .before .before .args .work .now) (c .before .before .before .before .before .before .before .before .before .before .before .before .pre .0) (c .before .before .before .before .before .before .before .before .before .before .before .before .args .a) 3 (c .before .before .lesser-missed3 .result) (at (row (c .before .before .before .before .before .before .before .before)) 3) (at (c .before .before .before .before .before .before .before .before .before .before .before .before .args .work .now) (c .before .before .before .before .before .before .before .before .before .before .before .before .args .o + c .before .before .before .before .before .before .before .before .before .before .before .before .args .a + 3)) (c .lesser-missed4 .result) (omega (arith, c .before .before .before .before .before .before .before .before .before .before .before .before .pre .1)) (entry (c .before .before .before .before .before .before .before .before) 3 (omega arith)) (let e : c .before .before .before .before .before .before .before .before .before .before .before .before .args .o + c .before .before .before .before .before .before .before .before .before .before .before .before .args .a + 3 ≡ c .before .before .before .before .before .before .before .before .before .before .before .before .args .o + (c .before .before .before .before .before .before .before .before .before .before .before .before .args .a + 3) = omega arith in ap (at (c .before .before .before .before .before .before .before .before .before .before .before .before .args .work .now)) e) (to (a + 2 + 1) (a + 3) (c .before .before .lesser-missed3 .result) (omega arith) k₃) (c .lesser-missed4 .ensures) in
+    let pre = c .before .before .before .before .before .before .before .before .before .before .before .before .pre in
+    let args = c .before .before .before .before .before .before .before .before .before .before .before .before .args in
+    let lesser-missed = c .before .before .before .before .before .before .lesser-missed in
+    let lesser-missed2 = c .before .before .before .before .lesser-missed2 in
+    let to : (p q r : ℕ) → p ≡ q → LeastBelow (args .list .now) (drop (args .o) (args .work .now)) p r → LeastBelow (args .list .now) (drop (args .o) (args .work .now)) q r =
+    λ p q r e k. subst (λ (i : ℕ). LeastBelow (args .list .now) (drop (args .o) (args .work .now)) i r) e k in
+    let a = args .a in
+    let k₀ = to a (a + 0) (args .best) (omega arith) (pre .2) in
+    let k₁ = least-read (args .o) (args .list .now) (args .work .now) (pre .0) (args .a) 0 (args .best) (at (row (c .before .before .before .before .before .before .before .before)) 0) (at (args .work .now) (args .o + args .a)) (lesser-missed .result) (omega (arith, pre .1)) (entry (c .before .before .before .before .before .before .before .before) 0 (omega arith)) (let e : args .o + args .a ≡ args .o + (args .a + 0) = omega arith in ap (at (args .work .now)) e) (k₀) (lesser-missed .ensures) in
+    let k₂ = least-read (args .o) (args .list .now) (args .work .now) (pre .0) (args .a) 1 (lesser-missed .result) (at (row (c .before .before .before .before .before .before .before .before)) 1) (at (args .work .now) (args .o + args .a + 1)) (lesser-missed2 .result) (omega (arith, pre .1)) (entry (c .before .before .before .before .before .before .before .before) 1 (omega arith)) (let e : args .o + args .a + 1 ≡ args .o + (args .a + 1) = omega arith in ap (at (args .work .now)) e) (to (a + 0 + 1) (a + 1) (lesser-missed .result) (omega arith) k₁) (lesser-missed2 .ensures) in
+    let k₃ = least-read (args .o) (args .list .now) (args .work .now) (pre .0) (args .a) 2 (lesser-missed2 .result) (at (row (c .before .before .before .before .before .before .before .before)) 2) (at (args .work .now) (args .o + args .a + 2)) (c .before .before .lesser-missed3 .result) (omega (arith, pre .1)) (entry (c .before .before .before .before .before .before .before .before) 2 (omega arith)) (let e : args .o + args .a + 2 ≡ args .o + (args .a + 2) = omega arith in ap (at (args .work .now)) e) (to (a + 1 + 1) (a + 2) (lesser-missed2 .result) (omega arith) k₂) (c .before .before .lesser-missed3 .ensures) in
+    let k₄ = least-read (args .o) (args .list .now) (args .work .now) (pre .0) (args .a) 3 (c .before .before .lesser-missed3 .result) (at (row (c .before .before .before .before .before .before .before .before)) 3) (at (args .work .now) (args .o + args .a + 3)) (c .lesser-missed4 .result) (omega (arith, pre .1)) (entry (c .before .before .before .before .before .before .before .before) 3 (omega arith)) (let e : args .o + args .a + 3 ≡ args .o + (args .a + 3) = omega arith in ap (at (args .work .now)) e) (to (a + 2 + 1) (a + 3) (c .before .before .lesser-missed3 .result) (omega arith) k₃) (c .lesser-missed4 .ensures) in
     to (a + 3 + 1) (a + 4) (c .lesser-missed4 .result) (omega arith) k₄
 
 pub missed-in-row-spec : {M : Type 1} → statement M

@@ -19,7 +19,9 @@ loop-holds : tie.Need-loop-holds Inv-loop μ-loop
 loop-holds c = (least-start (c .before .before .args .list .now) (drop (c .before .before .args .o) (c .before .before .args .work .now)), omega arith, refl)
 
 missed-in-row-requires : tie.Need-missed-in-row-requires Inv-loop μ-loop
-missed-in-row-requires c κs = (c .before .before .before .before .pre .0, omega (arith, c .before .before .before .before .pre .0 .fours, c .before .loop .inv), c .before .loop .inv .0)
+missed-in-row-requires c κs =
+    let pre = c .before .before .before .before .pre in
+    (pre .0, omega (arith, pre .0 .fours, c .before .loop .inv), c .before .loop .inv .0)
 
 add-a : tie.Need-add-a Inv-loop μ-loop
 add-a c = search needs
@@ -28,10 +30,15 @@ loop-less : tie.Need-loop-less Inv-loop μ-loop
 loop-less c = omega arith
 
 loop-again : tie.Need-loop-again Inv-loop μ-loop
-loop-again c = (c .missed-in-row .ensures, omega (arith, c .before .before .before .before .before .pre .0 .fours, c .before .before .loop .inv), omega (arith, c .before .before .loop .inv))
+loop-again c =
+    let pre = c .before .before .before .before .before .pre in
+    (c .missed-in-row .ensures, omega (arith, pre .0 .fours, c .before .before .loop .inv), omega (arith, c .before .before .loop .inv))
 
 returns : tie.Need-returns Inv-loop μ-loop
-returns c = least-missed (c .before .before .before .before .args .n) (c .before .before .before .before .args .list .now) (drop (c .before .before .before .before .args .o) (c .before .before .before .before .args .work .now)) (c .before .before .before .before .pre .1) (c .before .loop .a) (c .before .loop .best) (omega arith) (λ q h d. omega (arith, c .before .loop .inv)) (c .before .loop .inv .0)
+returns c =
+    let pre = c .before .before .before .before .pre in
+    let args = c .before .before .before .before .args in
+    least-missed (args .n) (args .list .now) (drop (args .o) (args .work .now)) (pre .1) (c .before .loop .a) (c .before .loop .best) (omega arith) (λ q h d. omega (arith, c .before .loop .inv)) (c .before .loop .inv .0)
 
 pub unordered-vertex-spec : {M : Type 1} → statement M
 unordered-vertex-spec =

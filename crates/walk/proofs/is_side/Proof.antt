@@ -11,19 +11,34 @@ wide-requires : tie.Need-wide-requires
 wide-requires c κs = search needs
 
 returns : tie.Need-returns
-returns c = sym (no-element (c .before .before .before .args .n) (c .before .before .before .args .m) (c .before .before .before .args .work .now) (c .before .before .before .pre) (c .before .before .before .args .c) (omega arith))
+returns c =
+    let pre = c .before .before .before .pre in
+    let args = c .before .before .before .args in
+    sym (no-element (args .n) (args .m) (args .work .now) (pre) (args .c) (omega arith))
 
 returns-2 : tie.Need-returns-2
-returns-2 c = sym (no-later (c .before .before .before .before .args .n) (c .before .before .before .before .args .m) (c .before .before .before .before .args .work .now) (c .before .before .before .before .pre) (c .before .before .before .before .args .c) (omega arith))
+returns-2 c =
+    let pre = c .before .before .before .before .pre in
+    let args = c .before .before .before .before .args in
+    sym (no-later (args .n) (args .m) (args .work .now) (pre) (args .c) (omega arith))
 
 returns-3 : tie.Need-returns-3
-returns-3 c = sym (no-border (c .before .before .before .before .before .args .n) (c .before .before .before .before .before .args .m) (c .before .before .before .before .before .args .work .now) (c .before .before .before .before .before .pre) (c .before .before .before .before .before .args .c) (c .if3 .taken))
+returns-3 c =
+    let pre = c .before .before .before .before .before .pre in
+    let args = c .before .before .before .before .before .args in
+    sym (no-border (args .n) (args .m) (args .work .now) (pre) (args .c) (c .if3 .taken))
 
 returns-4 : tie.Need-returns-4
-returns-4 c = sym (one-of-three (c .before .before .before .before .before .before .args .n) (c .before .before .before .before .before .before .args .m) (c .before .before .before .before .before .before .args .work .now) (c .before .before .before .before .before .before .pre) (c .before .before .before .before .before .before .args .c) (omega arith) (omega arith) (omega arith) (c .if4 .taken))
+returns-4 c =
+    let pre = c .before .before .before .before .before .before .pre in
+    let args = c .before .before .before .before .before .before .args in
+    sym (one-of-three (args .n) (args .m) (args .work .now) (pre) (args .c) (omega arith) (omega arith) (omega arith) (c .if4 .taken))
 
 returns-5 : tie.Need-returns-5
-returns-5 c = sym (no-fifth (c .before .before .before .before .before .before .before .args .n) (c .before .before .before .before .before .before .before .args .m) (c .before .before .before .before .before .before .before .args .work .now) (c .before .before .before .before .before .before .before .pre) (c .before .before .before .before .before .before .before .args .c) (c .if5 .taken))
+returns-5 c =
+    let pre = c .before .before .before .before .before .before .before .pre in
+    let args = c .before .before .before .before .before .before .before .args in
+    sym (no-fifth (args .n) (args .m) (args .work .now) (pre) (args .c) (c .if5 .taken))
 
 mul-if6 : tie.Need-mul-if6
 mul-if6 c = search needs
@@ -41,10 +56,18 @@ shared-slice-read-if6 : tie.Need-shared-slice-read-if6
 shared-slice-read-if6 c = search needs
 
 returns-6 : tie.Need-returns-6
-returns-6 c = sym (no-fourth (c .before .before .before .before .before .before .before .before .before .args .n) (c .before .before .before .before .before .before .before .before .before .args .m) (c .before .before .before .before .before .before .before .before .before .args .work .now) (c .before .before .before .before .before .before .before .before .before .pre) (c .before .before .before .before .before .before .before .before .before .args .c) (omega arith) (omega arith) (omega arith) (rw (c .before .before .before .before .before .before .before .wide .ensures) at (c .if6 .taken)))
+returns-6 c =
+    let pre = c .before .before .before .before .before .before .before .before .before .pre in
+    let args = c .before .before .before .before .before .before .before .before .before .args in
+    let wide = c .before .before .before .before .before .before .before .wide in
+    sym (no-fourth (args .n) (args .m) (args .work .now) (pre) (args .c) (omega arith) (omega arith) (omega arith) (rw (wide .ensures) at (c .if6 .taken)))
 
 returns-7 : tie.Need-returns-7
-returns-7 c = sym (a-fourth (c .before .before .before .before .before .before .before .before .before .args .n) (c .before .before .before .before .before .before .before .before .before .args .m) (c .before .before .before .before .before .before .before .before .before .args .work .now) (c .before .before .before .before .before .before .before .before .before .pre) (c .before .before .before .before .before .before .before .before .before .args .c) (omega arith) (omega arith) (omega arith) (rw (c .before .before .before .before .before .before .before .wide .ensures) at (c .if6 .left)))
+returns-7 c =
+    let pre = c .before .before .before .before .before .before .before .before .before .pre in
+    let args = c .before .before .before .before .before .before .before .before .before .args in
+    let wide = c .before .before .before .before .before .before .before .wide in
+    sym (a-fourth (args .n) (args .m) (args .work .now) (pre) (args .c) (omega arith) (omega arith) (omega arith) (rw (wide .ensures) at (c .if6 .left)))
 
 pub is-side-spec : {M : Type 1} → statement M
 is-side-spec =

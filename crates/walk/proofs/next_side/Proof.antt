@@ -20,7 +20,10 @@ add-result-2 : tie.Need-add-result-2
 add-result-2 c = search needs
 
 returns-2 : tie.Need-returns-2
-returns-2 c = sym (next-four (c .before .before .before .args .n) (c .before .before .before .args .m) (c .before .before .before .args .work .now) (c .before .before .before .pre .0) (c .before .before .before .args .c) (c .before .before .before .pre .1) (c .if2 .taken))
+returns-2 c =
+    let pre = c .before .before .before .pre in
+    let args = c .before .before .before .args in
+    sym (next-four (args .n) (args .m) (args .work .now) (pre .0) (args .c) (pre .1) (c .if2 .taken))
 
 wide-requires : tie.Need-wide-requires
 wide-requires c κs = search needs
@@ -32,13 +35,19 @@ add-if3 : tie.Need-add-if3
 add-if3 c = search needs
 
 sub-if3 : tie.Need-sub-if3
-sub-if3 c = omega (arith, side-numbers (c .before .before .before .before .args .n) (c .before .before .before .before .args .m) (c .before .before .before .before .args .work .now) (c .before .before .before .before .pre .0) (c .before .before .before .before .args .c) (c .before .before .before .before .pre .1))
+sub-if3 c =
+    let pre = c .before .before .before .before .pre in
+    let args = c .before .before .before .before .args in
+    omega (arith, side-numbers (args .n) (args .m) (args .work .now) (pre .0) (args .c) (pre .1))
 
 mul-if3-2 : tie.Need-mul-if3-2
 mul-if3-2 c = search needs
 
 shared-slice-read-if3 : tie.Need-shared-slice-read-if3
-shared-slice-read-if3 c = omega (arith, side-numbers (c .before .before .before .before .before .args .n) (c .before .before .before .before .before .args .m) (c .before .before .before .before .before .args .work .now) (c .before .before .before .before .before .pre .0) (c .before .before .before .before .before .args .c) (c .before .before .before .before .before .pre .1))
+shared-slice-read-if3 c =
+    let pre = c .before .before .before .before .before .pre in
+    let args = c .before .before .before .before .before .args in
+    omega (arith, side-numbers (args .n) (args .m) (args .work .now) (pre .0) (args .c) (pre .1))
 
 mul-result-2 : tie.Need-mul-result-2
 mul-result-2 c = search needs
@@ -47,13 +56,22 @@ add-result-3 : tie.Need-add-result-3
 add-result-3 c = search needs
 
 returns-3 : tie.Need-returns-3
-returns-3 c = sym (next-three (c .before .before .before .before .before .before .args .n) (c .before .before .before .before .before .before .args .m) (c .before .before .before .before .before .before .args .work .now) (c .before .before .before .before .before .before .pre .0) (c .before .before .before .before .before .before .args .c) (c .before .before .before .before .before .before .pre .1) (omega (arith, side-numbers (c .before .before .before .before .before .before .args .n) (c .before .before .before .before .before .before .args .m) (c .before .before .before .before .before .before .args .work .now) (c .before .before .before .before .before .before .pre .0) (c .before .before .before .before .before .before .args .c) (c .before .before .before .before .before .before .pre .1))) (rw (c .before .before .wide .ensures) at (c .if3 .taken)))
+returns-3 c =
+    let pre = c .before .before .before .before .before .before .pre in
+    let args = c .before .before .before .before .before .before .args in
+    sym (next-three (args .n) (args .m) (args .work .now) (pre .0) (args .c) (pre .1) (omega (arith, side-numbers (args .n) (args .m) (args .work .now) (pre .0) (args .c) (pre .1))) (rw (c .before .before .wide .ensures) at (c .if3 .taken)))
 
 add-result-4 : tie.Need-add-result-4
-add-result-4 c = omega (arith, side-numbers (c .before .before .before .before .before .before .args .n) (c .before .before .before .before .before .before .args .m) (c .before .before .before .before .before .before .args .work .now) (c .before .before .before .before .before .before .pre .0) (c .before .before .before .before .before .before .args .c) (c .before .before .before .before .before .before .pre .1))
+add-result-4 c =
+    let pre = c .before .before .before .before .before .before .pre in
+    let args = c .before .before .before .before .before .before .args in
+    omega (arith, side-numbers (args .n) (args .m) (args .work .now) (pre .0) (args .c) (pre .1))
 
 returns-4 : tie.Need-returns-4
-returns-4 c = sym (next-three-of-four (c .before .before .before .before .before .before .args .n) (c .before .before .before .before .before .before .args .m) (c .before .before .before .before .before .before .args .work .now) (c .before .before .before .before .before .before .pre .0) (c .before .before .before .before .before .before .args .c) (c .before .before .before .before .before .before .pre .1) (omega (arith, side-numbers (c .before .before .before .before .before .before .args .n) (c .before .before .before .before .before .before .args .m) (c .before .before .before .before .before .before .args .work .now) (c .before .before .before .before .before .before .pre .0) (c .before .before .before .before .before .before .args .c) (c .before .before .before .before .before .before .pre .1))) (rw (c .before .before .wide .ensures) at (c .if3 .left)))
+returns-4 c =
+    let pre = c .before .before .before .before .before .before .pre in
+    let args = c .before .before .before .before .before .before .args in
+    sym (next-three-of-four (args .n) (args .m) (args .work .now) (pre .0) (args .c) (pre .1) (omega (arith, side-numbers (args .n) (args .m) (args .work .now) (pre .0) (args .c) (pre .1))) (rw (c .before .before .wide .ensures) at (c .if3 .left)))
 
 pub next-side-spec : {M : Type 1} → statement M
 next-side-spec =

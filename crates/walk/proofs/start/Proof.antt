@@ -19,19 +19,29 @@ shared-slice-read-c : tie.Need-shared-slice-read-c
 shared-slice-read-c c = search needs
 
 returns : tie.Need-returns
-returns c = sym (start-side (c .before .before .before .args .n) (c .before .before .before .args .m) (c .before .before .before .args .work .now) (c .before .before .before .pre .0) (at (c .before .before .before .args .work .now) (c .before .before .before .args .v - 1)) (c .if1 .taken))
+returns c =
+    let pre = c .before .before .before .pre in
+    let args = c .before .before .before .args in
+    sym (start-side (args .n) (args .m) (args .work .now) (pre .0) (at (args .work .now) (args .v - 1)) (c .if1 .taken))
 
 wide-requires : tie.Need-wide-requires
 wide-requires c κs = search needs
 
 returns-2 : tie.Need-returns-2
-returns-2 c = sym (start-outside (c .before .before .before .before .before .args .n) (c .before .before .before .before .before .args .m) (c .before .before .before .before .before .args .work .now) (c .before .before .before .before .before .pre .0) (at (c .before .before .before .before .before .args .work .now) (c .before .before .before .before .before .args .v - 1)) (c .before .before .if1 .left) (λ a b. omega (arith, c .before .wide .ensures)))
+returns-2 c =
+    let pre = c .before .before .before .before .before .pre in
+    let args = c .before .before .before .before .before .args in
+    sym (start-outside (args .n) (args .m) (args .work .now) (pre .0) (at (args .work .now) (args .v - 1)) (c .before .before .if1 .left) (λ a b. omega (arith, c .before .wide .ensures)))
 
 mul-if3 : tie.Need-mul-if3
 mul-if3 c = search needs
 
 returns-3 : tie.Need-returns-3
-returns-3 c = sym (start-outside (c .before .before .before .before .before .before .args .n) (c .before .before .before .before .before .before .args .m) (c .before .before .before .before .before .before .args .work .now) (c .before .before .before .before .before .before .pre .0) (at (c .before .before .before .before .before .before .args .work .now) (c .before .before .before .before .before .before .args .v - 1)) (c .before .before .before .if1 .left) (λ a b. omega (arith, c .before .before .wide .ensures)))
+returns-3 c =
+    let pre = c .before .before .before .before .before .before .pre in
+    let args = c .before .before .before .before .before .before .args in
+    let if1 = c .before .before .before .if1 in
+    sym (start-outside (args .n) (args .m) (args .work .now) (pre .0) (at (args .work .now) (args .v - 1)) (if1 .left) (λ a b. omega (arith, c .before .before .wide .ensures)))
 
 mul-s : tie.Need-mul-s
 mul-s c = search needs
@@ -52,13 +62,28 @@ shared-slice-read-s : tie.Need-shared-slice-read-s
 shared-slice-read-s c = search needs
 
 returns-4 : tie.Need-returns-4
-returns-4 c = sym (start-unlinked (c .before .before .before .before .before .before .before .before .args .n) (c .before .before .before .before .before .before .before .before .args .m) (c .before .before .before .before .before .before .before .before .args .work .now) (c .before .before .before .before .before .before .before .before .pre .0) (at (c .before .before .before .before .before .before .before .before .args .work .now) (c .before .before .before .before .before .before .before .before .args .v - 1)) (c .before .before .before .before .before .if1 .left) (c .before .before .before .before .before .before .before .before .pre .1) (omega (arith, c .before .before .before .before .wide .ensures)) (omega (arith, c .before .before .before .before .wide .ensures)) (rw (c .before .before .before .before .wide .ensures) at (c .if4 .taken)))
+returns-4 c =
+    let pre = c .before .before .before .before .before .before .before .before .pre in
+    let args = c .before .before .before .before .before .before .before .before .args in
+    let if1 = c .before .before .before .before .before .if1 in
+    let wide = c .before .before .before .before .wide in
+    sym (start-unlinked (args .n) (args .m) (args .work .now) (pre .0) (at (args .work .now) (args .v - 1)) (if1 .left) (pre .1) (omega (arith, wide .ensures)) (omega (arith, wide .ensures)) (rw (wide .ensures) at (c .if4 .taken)))
 
 next-side-requires : tie.Need-next-side-requires
-next-side-requires c κs = (c .before .before .before .before .before .before .before .before .pre .0, rw (c .before .before .before .before .wide .ensures) (linked-side (c .before .before .before .before .before .before .before .before .args .n) (c .before .before .before .before .before .before .before .before .args .m) (c .before .before .before .before .before .before .before .before .args .work .now) (c .before .before .before .before .before .before .before .before .pre .0) (at (c .before .before .before .before .before .before .before .before .args .work .now) (c .before .before .before .before .before .before .before .before .args .v - 1)) (c .before .before .before .before .before .if1 .left) (c .before .before .before .before .before .before .before .before .pre .1) (omega (arith, c .before .before .before .before .wide .ensures)) (omega (arith, c .before .before .before .before .wide .ensures)) (rw (c .before .before .before .before .wide .ensures) at (c .if4 .left))))
+next-side-requires c κs =
+    let pre = c .before .before .before .before .before .before .before .before .pre in
+    let args = c .before .before .before .before .before .before .before .before .args in
+    let if1 = c .before .before .before .before .before .if1 in
+    let wide = c .before .before .before .before .wide in
+    (pre .0, rw (wide .ensures) (linked-side (args .n) (args .m) (args .work .now) (pre .0) (at (args .work .now) (args .v - 1)) (if1 .left) (pre .1) (omega (arith, wide .ensures)) (omega (arith, wide .ensures)) (rw (wide .ensures) at (c .if4 .left))))
 
 returns-5 : tie.Need-returns-5
-returns-5 c = (rw (c .before .before .before .before .before .wide .ensures) at (c .next-side .ensures)) ∙ sym (start-linked (c .before .before .before .before .before .before .before .before .before .args .n) (c .before .before .before .before .before .before .before .before .before .args .m) (c .before .before .before .before .before .before .before .before .before .args .work .now) (c .before .before .before .before .before .before .before .before .before .pre .0) (at (c .before .before .before .before .before .before .before .before .before .args .work .now) (c .before .before .before .before .before .before .before .before .before .args .v - 1)) (c .before .before .before .before .before .before .if1 .left) (c .before .before .before .before .before .before .before .before .before .pre .1) (omega (arith, c .before .before .before .before .before .wide .ensures)) (omega (arith, c .before .before .before .before .before .wide .ensures)) (rw (c .before .before .before .before .before .wide .ensures) at (c .before .if4 .left)))
+returns-5 c =
+    let pre = c .before .before .before .before .before .before .before .before .before .pre in
+    let args = c .before .before .before .before .before .before .before .before .before .args in
+    let if1 = c .before .before .before .before .before .before .if1 in
+    let wide = c .before .before .before .before .before .wide in
+    (rw (wide .ensures) at (c .next-side .ensures)) ∙ sym (start-linked (args .n) (args .m) (args .work .now) (pre .0) (at (args .work .now) (args .v - 1)) (if1 .left) (pre .1) (omega (arith, wide .ensures)) (omega (arith, wide .ensures)) (rw (wide .ensures) at (c .before .if4 .left)))
 
 pub start-spec : {M : Type 1} → statement M
 start-spec =

@@ -37,13 +37,23 @@ is-side-requires : tie.Need-is-side-requires
 is-side-requires c κs = search needs
 
 returns : tie.Need-returns
-returns c = sym (turn-none (c .before .before .before .before .before .args .n) (c .before .before .before .before .before .args .m) (c .before .before .before .before .before .args .work .now) (c .before .before .before .before .before .pre .0) (c .before .before .before .before .before .args .s) (at (c .before .before .before .before .before .args .work .now) (c .before .before .before .before .before .args .n + c .before .before .before .slot-of .result)) (entry (c .before .before .before)) (sym (c .before .is-side .ensures) ∙ not-true (c .before .is-side .result) (c .if1 .taken)))
+returns c =
+    let pre = c .before .before .before .before .before .pre in
+    let args = c .before .before .before .before .before .args in
+    let slot-of = c .before .before .before .slot-of in
+    sym (turn-none (args .n) (args .m) (args .work .now) (pre .0) (args .s) (at (args .work .now) (args .n + slot-of .result)) (entry (c .before .before .before)) (sym (c .before .is-side .ensures) ∙ not-true (c .before .is-side .result) (c .if1 .taken)))
 
 next-side-requires : tie.Need-next-side-requires
-next-side-requires c κs = (c .before .before .before .before .before .pre .0, rw (sym (c .before .is-side .ensures) ∙ not-false (c .before .is-side .result) (c .if1 .left)) tt)
+next-side-requires c κs =
+    let pre = c .before .before .before .before .before .pre in
+    (pre .0, rw (sym (c .before .is-side .ensures) ∙ not-false (c .before .is-side .result) (c .if1 .left)) tt)
 
 returns-2 : tie.Need-returns-2
-returns-2 c = c .next-side .ensures ∙ sym (turn-next (c .before .before .before .before .before .before .args .n) (c .before .before .before .before .before .before .args .m) (c .before .before .before .before .before .before .args .work .now) (c .before .before .before .before .before .before .pre .0) (c .before .before .before .before .before .before .args .s) (at (c .before .before .before .before .before .before .args .work .now) (c .before .before .before .before .before .before .args .n + c .before .before .before .before .slot-of .result)) (entry (c .before .before .before .before)) (sym (c .before .before .is-side .ensures) ∙ not-false (c .before .before .is-side .result) (c .before .if1 .left)))
+returns-2 c =
+    let pre = c .before .before .before .before .before .before .pre in
+    let args = c .before .before .before .before .before .before .args in
+    let slot-of = c .before .before .before .before .slot-of in
+    c .next-side .ensures ∙ sym (turn-next (args .n) (args .m) (args .work .now) (pre .0) (args .s) (at (args .work .now) (args .n + slot-of .result)) (entry (c .before .before .before .before)) (sym (c .before .before .is-side .ensures) ∙ not-false (c .before .before .is-side .result) (c .before .if1 .left)))
 
 pub turn-spec : {M : Type 1} → statement M
 turn-spec =

@@ -16,13 +16,19 @@ abbrev After : Type 0
 After = tie.After-clear
 
 abbrev the-work : After → List ℕ
-the-work c = c .before .before .before .args .work .now
+the-work c =
+    let args = c .before .before .before .args in
+    args .work .now
 
 abbrev from : After → ℕ
-from c = c .before .before .before .args .n + 8 * c .before .before .before .args .m
+from c =
+    let args = c .before .before .before .args in
+    args .n + 8 * args .m
 
 inside : (c : After) → from c ≤ length (the-work c)
-inside c = omega (arith, c .before .before .before .pre .0 .long)
+inside c =
+    let pre = c .before .before .before .pre in
+    omega (arith, pre .0 .long)
 
 abbrev zeroed : After → List ℕ
 zeroed c = c .clear .last .0
@@ -33,8 +39,10 @@ now-work c = take (from c) (the-work c) ++ (zeroed c ++ drop (length (the-work c
 
 zeroed-is : (c : After) → zeroed c ≡ replicate (4 * c .before .before .before .args .m) 0
 zeroed-is c =
-    let e : length (take (length (the-work c) - from c) (drop (from c) (the-work c))) ≡ 4 * c .before .before .before .args .m =
-    simp (length-take, length-drop) (omega (arith, c .before .before .before .pre .0 .long)) in
+    let pre = c .before .before .before .pre in
+    let args = c .before .before .before .args in
+    let e : length (take (length (the-work c) - from c) (drop (from c) (the-work c))) ≡ 4 * args .m =
+    simp (length-take, length-drop) (omega (arith, pre .0 .long)) in
     c .clear .ensures ∙ ap (λ (k : ℕ). replicate k 0) e
 
 kept : (c : After) → take (from c) (now-work c) ≡ take (from c) (the-work c)
@@ -45,8 +53,10 @@ clear c = put-drop (from c) (the-work c) (zeroed c) (inside c) ∙ zeroed-is c
 
 long : (c : After) → length (now-work c) ≡ length (the-work c)
 long c =
+    let pre = c .before .before .before .pre in
+    let args = c .before .before .before .args in
     put-length (from c) (the-work c) (zeroed c) (inside c)
-    (ap length (zeroed-is c) ∙ length-replicate (4 * c .before .before .before .args .m) 0 ∙ omega (arith, c .before .before .before .pre .0 .long))
+    (ap length (zeroed-is c) ∙ length-replicate (4 * args .m) 0 ∙ omega (arith, pre .0 .long))
 
 mul-a : tie.Need-mul-a
 mul-a c = search needs
@@ -70,13 +80,19 @@ clear-requires : tie.Need-clear-requires
 clear-requires c κs = search needs
 
 walk-empty-requires : tie.Need-walk-empty-requires
-walk-empty-requires c κs = cleared (c .before .before .before .before .before .before .args .n) (c .before .before .before .before .before .before .args .m) (the-work (c .before .before .before)) (now-work (c .before .before .before)) (c .before .before .before .before .before .before .pre .0) (kept (c .before .before .before)) (long (c .before .before .before)) (clear (c .before .before .before)) (c .before .before .before .before .before .before .pre .1)
+walk-empty-requires c κs =
+    let pre = c .before .before .before .before .before .before .pre in
+    let args = c .before .before .before .before .before .before .args in
+    cleared (args .n) (args .m) (the-work (c .before .before .before)) (now-work (c .before .before .before)) (pre .0) (kept (c .before .before .before)) (long (c .before .before .before)) (clear (c .before .before .before)) (pre .1)
 
 same-length : tie.Need-same-length
 same-length c = search needs
 
 returns : tie.Need-returns
-returns c = walked-from (c .before .before .before .before .before .before .before .before .before .args .n) (c .before .before .before .before .before .before .before .before .before .args .m) (the-work (c .before .before .before .before .before .before)) (now-work (c .before .before .before .before .before .before)) (c .before .before .before .before .before .before .before .before .before .pre .0) (kept (c .before .before .before .before .before .before)) (long (c .before .before .before .before .before .before)) (clear (c .before .before .before .before .before .before)) _ (c .before .before .walk-empty .ensures)
+returns c =
+    let pre = c .before .before .before .before .before .before .before .before .before .pre in
+    let args = c .before .before .before .before .before .before .before .before .before .args in
+    walked-from (args .n) (args .m) (the-work (c .before .before .before .before .before .before)) (now-work (c .before .before .before .before .before .before)) (pre .0) (kept (c .before .before .before .before .before .before)) (long (c .before .before .before .before .before .before)) (clear (c .before .before .before .before .before .before)) _ (c .before .before .walk-empty .ensures)
 
 pub walk-spec : {M : Type 1} → statement M
 walk-spec =

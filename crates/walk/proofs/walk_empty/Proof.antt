@@ -25,34 +25,54 @@ wide-requires : tie.Need-wide-requires Inv-loop μ-loop
 wide-requires c κs = tt
 
 add-v : tie.Need-add-v Inv-loop μ-loop
-add-v c = omega (arith, c .before .wide .ensures, c .before .before .before .before .pre .0)
+add-v c =
+    let pre = c .before .before .before .before .pre in
+    omega (arith, c .before .wide .ensures, pre .0)
 
 wide-requires-2 : tie.Need-wide-requires-2 Inv-loop μ-loop
 wide-requires-2 c κs = tt
 
 start-requires : tie.Need-start-requires Inv-loop μ-loop
-start-requires c κs = (walking-sizes (c .before .before .before .before .before .before .args .n) (c .before .before .before .before .before .before .args .m) (c .before .before .before .before .before .before .args .work .now) (c .before .before .before .before .before .before .pre .0) (c .before .before .before .before .loop .v) (c .before .before .before .before .loop .work) (c .before .before .before .before .loop .inv .0), kept-linked (c .before .before .before .before .before .before .args .n) (c .before .before .before .before .before .before .args .m) (c .before .before .before .before .before .before .args .work .now) (c .before .before .before .before .loop .work) (c .before .before .before .before .before .before .pre .0) (c .before .before .before .before .loop .inv .0 .long) (c .before .before .before .before .loop .inv .0 .kept) (c .before .before .before .before .before .before .pre .1), omega (arith, c .wide2 .ensures), omega (arith, c .wide2 .ensures, c .before .before .before .wide .ensures))
+start-requires c κs =
+    let pre = c .before .before .before .before .before .before .pre in
+    let args = c .before .before .before .before .before .before .args in
+    let loop = c .before .before .before .before .loop in
+    let wide = c .before .before .before .wide in
+    (walking-sizes (args .n) (args .m) (args .work .now) (pre .0) (loop .v) (loop .work) (loop .inv .0), kept-linked (args .n) (args .m) (args .work .now) (loop .work) (pre .0) (loop .inv .0 .long) (loop .inv .0 .kept) (pre .1), omega (arith, c .wide2 .ensures), omega (arith, c .wide2 .ensures, wide .ensures))
 
 trace-requires : tie.Need-trace-requires Inv-loop μ-loop
-trace-requires c κs = (walking-sizes (c .before .before .before .before .before .before .before .before .args .n) (c .before .before .before .before .before .before .before .before .args .m) (c .before .before .before .before .before .before .before .before .args .work .now) (c .before .before .before .before .before .before .before .before .pre .0) (c .before .before .before .before .before .before .loop .v) (c .before .before .before .before .before .before .loop .work) (c .before .before .before .before .before .before .loop .inv .0), omega arith)
+trace-requires c κs =
+    let pre = c .before .before .before .before .before .before .before .before .pre in
+    let args = c .before .before .before .before .before .before .before .before .args in
+    let loop = c .before .before .before .before .before .before .loop in
+    (walking-sizes (args .n) (args .m) (args .work .now) (pre .0) (loop .v) (loop .work) (loop .inv .0), omega arith)
 
 loop-less : tie.Need-loop-less Inv-loop μ-loop
-loop-less c = omega (arith, c .before .before .before .before .before .before .before .before .wide .ensures)
+loop-less c =
+    let wide = c .before .before .before .before .before .before .before .before .wide in
+    omega (arith, wide .ensures)
 
 loop-again : tie.Need-loop-again Inv-loop μ-loop
 loop-again c =
+    let pre = c .before .before .before .before .before .before .before .before .before .before .before .pre in
+    let args = c .before .before .before .before .before .before .before .before .before .before .before .args in
+    let wide = c .before .before .before .before .before .before .before .before .wide in
+    let wide2 = c .before .before .before .before .before .wide2 in
+    let start = c .before .before .before .before .start in
     let k = c .before .before .before .before .before .before .before .before .before in
     let v = k .loop .v in (
-      walking-on (c .before .before .before .before .before .before .before .before .before .before .before .args .n) (c .before .before .before .before .before .before .before .before .before .before .before .args .m) (c .before .before .before .before .before .before .before .before .before .before .before .args .work .now) (c .before .before .before .before .before .before .before .before .before .before .before .pre .0) v (k .loop .work) (k .loop .inv .0) (v + 1) (c .before .before .before .before .start .result) _ refl (omega (arith, c .before .before .before .before .before .before .before .before .wide .ensures))
-          (c .before .before .before .before .start .ensures ∙ ap (λ (i : ℕ). walkStart (e2eIn (c .before .before .before .before .before .before .before .before .before .before .before .args .n) (c .before .before .before .before .before .before .before .before .before .before .before .args .m) (k .loop .work)) (at (k .loop .work) (i - 1))) (c .before .before .before .before .before .wide2 .ensures)) (c .before .before .trace .ensures),
-      omega (arith, c .before .before .before .before .before .before .before .before .wide .ensures),
+      walking-on (args .n) (args .m) (args .work .now) (pre .0) v (k .loop .work) (k .loop .inv .0) (v + 1) (start .result) _ refl (omega (arith, wide .ensures))
+          (start .ensures ∙ ap (λ (i : ℕ). walkStart (e2eIn (args .n) (args .m) (k .loop .work)) (at (k .loop .work) (i - 1))) (wide2 .ensures)) (c .before .before .trace .ensures),
+      omega (arith, wide .ensures),
     )
 
 same-length : tie.Need-same-length Inv-loop μ-loop
 same-length c = c .before .before .loop .inv .0 .long
 
 returns : tie.Need-returns Inv-loop μ-loop
-returns c = let e : c .before .before .loop .v ≡ c .before .before .before .before .args .n = omega (arith, c .before .wide .ensures) in rw e at (c .before .before .loop .inv .0)
+returns c =
+    let args = c .before .before .before .before .args in
+    let e : c .before .before .loop .v ≡ args .n = omega (arith, c .before .wide .ensures) in rw e at (c .before .before .loop .inv .0)
 
 pub walk-empty-spec : {M : Type 1} → statement M
 walk-empty-spec =

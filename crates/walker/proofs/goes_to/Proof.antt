@@ -41,7 +41,9 @@ returns-3 : tie.Need-returns-3
 returns-3 c = all-handed _ _ (from-side (c .before .before .before .before)) (to-side (c .before .before)) (omega arith)
 
 ring-next-requires : tie.Need-ring-next-requires
-ring-next-requires c κs = (c .before .before .before .before .before .before .before .before .before .before .pre, holds (to-side (c .before .before)))
+ring-next-requires c κs =
+    let pre = c .before .before .before .before .before .before .before .before .before .before .pre in
+    (pre, holds (to-side (c .before .before)))
 
 enum-known-turn : tie.Need-enum-known-turn
 enum-known-turn c = search needs
@@ -56,8 +58,9 @@ returns-4 c =
 
 returns-5 : tie.Need-returns-5
 returns-5 c =
+    let ring-next = c .before .before .before .before .ring-next in
     let d = c .before .before .before .before .before in
-    ring-over _ _ (from-side (d .before .before .before .before)) (to-side (d .before .before)) (in-count d) _ (value-of (c .before .before .before .before .ring-next .ensures) (c .before .before .turn .given .1)) (c .if4 .taken)
+    ring-over _ _ (from-side (d .before .before .before .before)) (to-side (d .before .before)) (in-count d) _ (value-of (ring-next .ensures) (c .before .before .turn .given .1)) (c .if4 .taken)
 
 wide-requires-2 : tie.Need-wide-requires-2
 wide-requires-2 c κs = search needs

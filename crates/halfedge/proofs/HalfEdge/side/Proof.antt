@@ -32,11 +32,14 @@ unfolding sideCode
 returns-2 c = simp (is-element (c .before .before), failed (c .before .is-within2 .ensures) (c .if2 .taken))
 
 mul-t5 : tie.Need-mul-t5
-mul-t5 c = omega (arith, inside 1 maxElement (c .before .before .before .before .args .f) (is-element (c .before .before)))
+mul-t5 c =
+    let args = c .before .before .before .before .args in
+    omega (arith, inside 1 maxElement (args .f) (is-element (c .before .before)))
 
 add-t6 : tie.Need-add-t6
 add-t6 c =
-    let a = c .before .before .before .before .args in
+    let args = c .before .before .before .before .args in
+    let a = args in
     omega (arith, inside 1 maxElement (a .f) (is-element (c .before .before)), inside 1 4 (a .i) (is-number c))
 
 returns-3 : tie.Need-returns-3
