@@ -1,5 +1,6 @@
 // What the public calls answer, and the one 64-bit number in which a host gets it.
 ghost use mathlib.Core.Path.{_≡_};
+ghost use Rattle.rules.specs.Refusals.{gives, refused};
 ghost use Rattle.answer.specs.Numbers.{numbers, packed, packedAnswer};
 
 // An answer's two numbers; or a refusal with its number and the two numbers of its place.
@@ -13,6 +14,36 @@ pub enum Answer {
         first: u32,
         second: u32,
     },
+}
+
+// An answer of one number.
+pub fn give(x: u32) -> Answer
+    ensures { λ r. ⌜ numbers r ≡ gives x 0 ⌝ }
+{
+    give_two(x, 0)
+}
+
+pub fn give_two(first: u32, second: u32) -> Answer
+    ensures { λ r. ⌜ numbers r ≡ gives first second ⌝ }
+{
+    Answer::Gives { first, second }
+}
+
+// A refusal that names no place.
+pub fn refuse(number: u32) -> Answer
+    ensures { λ r. ⌜ numbers r ≡ refused number 0 0 ⌝ }
+{
+    refuse_at(number, 0, 0)
+}
+
+pub fn refuse_at(number: u32, first: u32, second: u32) -> Answer
+    ensures { λ r. ⌜ numbers r ≡ refused number first second ⌝ }
+{
+    Answer::Refused {
+        number,
+        first,
+        second,
+    }
 }
 
 fn wide(x: u32) -> u64

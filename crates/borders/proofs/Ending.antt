@@ -17,7 +17,8 @@ use Rattle.lists.specs.Parts.{part, at-part, length-part}
 use Rattle.rules.specs.Elements.{elements, Side, slot, destination, sideWith, countSides}
 use Rattle.rules.specs.Tables.{partner, isBorder, b2e, borderNumber, borders, e2e, borderInto, v2eEntry, v2e}
 use Rattle.rules.specs.Recovery.{sideOfBorder}
-use Rattle.theory.specs.Sides.{first-is, First, slot-below, slot-less, side-positive}
+use Rattle.theory.specs.Sides.{slot-below, slot-less, side-positive}
+use Rattle.theory.specs.Least.{first-is, First}
 use Rattle.theory.specs.Pairings.{partner-opposed}
 use Rattle.theory.specs.Entries.{length-e2e, length-v2e, length-b2e, means-border, e2e-paired, e2e-border, b2e-border, number-to, numbered-border, border-no-side}
 use Rattle.theory.specs.Turns.{side-e2e, rim-side}

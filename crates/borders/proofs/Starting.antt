@@ -17,7 +17,8 @@ use Rattle.lists.specs.Parts.{part, length-part, put-take}
 use Rattle.rules.specs.Elements.{Side, slot, origin, firstSide}
 use Rattle.rules.specs.Pairing.{alike}
 use Rattle.rules.specs.Refusals.{unusedVertex, alikeSide}
-use Rattle.theory.specs.Sides.{First, nobody, somebody, first-side, means-none, means-no-vertex, slot-below}
+use Rattle.theory.specs.Sides.{slot-below}
+use Rattle.theory.specs.Least.{First, nobody, somebody, first-side, means-none, means-no-vertex}
 use Rattle.siblings.specs.Uses.{means-sibling-alike, partner-sibling, partner-none}
 use Rattle.checks.specs.Maps.{two-by-two}
 use Rattle.borders.specs.Numbers.{Ready, Matched, inner, Numbering}

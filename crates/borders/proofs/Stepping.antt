@@ -17,7 +17,8 @@ use Rattle.lists.specs.Changes.{at-snoc-other}
 use Rattle.lists.specs.Stores.{at-same, at-other}
 use Rattle.rules.specs.Elements.{isSide, Side, slot, destination, next, sideAt, sideWith}
 use Rattle.rules.specs.Tables.{partner, isBorder, borderNumber, e2e}
-use Rattle.theory.specs.Sides.{side-facts, side-positive, next-side, sideAt-slot, slot-sideAt, slot-below}
+use Rattle.theory.specs.Sides.{side-facts, side-positive, sideAt-slot, slot-sideAt, slot-below}
+use Rattle.theory.specs.Steps.{next-side}
 use Rattle.theory.specs.Entries.{means-border, e2e-paired, e2e-border, e2e-empty}
 use Rattle.siblings.specs.Siblings.{sibling}
 use Rattle.siblings.specs.Uses.{sibling-side}

@@ -11,7 +11,7 @@ use Rattle.lists.specs.Parts.{part}
 use Rattle.rules.specs.Elements.{elements, Side, slot, origin, destination, sideAt, sideWith, firstSide, countSides}
 use Rattle.rules.specs.Tables.{partner, isBorder, b2e, borderNumber, borders, e2e, v2e}
 use Rattle.rules.specs.Refusals.{unusedVertex, crowdedSide, alikeSide}
-use Rattle.theory.specs.Sides.{Fit}
+use Rattle.theory.specs.FitRows.{Fit}
 use Rattle.siblings.specs.Siblings.{sibling}
 use Rattle.checks.specs.Maps.{Mapped}
 use Rattle.checks.specs.Firsts.{Firsts}

@@ -15,7 +15,9 @@ use Rattle.lists.specs.Stores.{at-same, at-other}
 use Rattle.rules.specs.Elements.{Side, slot, origin, sideAt, firstSide, firstVertex}
 use Rattle.rules.specs.Pairing.{SideAt}
 use Rattle.rules.specs.Refusals.{unusedVertex}
-use Rattle.theory.specs.Sides.{Fit, First, first-is, FirstVertex, vertex-is, side-at, entry-at, no-side-at, sideAt-slot, slot-sideAt, slot-below, slot-less}
+use Rattle.theory.specs.Sides.{sideAt-slot, slot-sideAt, slot-below, slot-less}
+use Rattle.theory.specs.Least.{First, first-is, FirstVertex, vertex-is}
+use Rattle.theory.specs.FitRows.{Fit, side-at, entry-at, no-side-at}
 
 -- c is the least side with origin v whose corner stands at p or later; 0 where there is none
 pub data FirstFrom (L : List ℕ) (p v c : ℕ) : Type 0 where

@@ -14,7 +14,9 @@ use Rattle.lists.specs.Search.{at}
 use Rattle.rules.specs.Elements.{elements, isSide, Side, slot, origin, sideAt, firstSide, countSides}
 use Rattle.rules.specs.Pairing.{alike, joins}
 use Rattle.rules.specs.Refusals.{crowdedSide, alikeSide}
-use Rattle.theory.specs.Sides.{Fit, side-facts, side-positive, slot-sideAt, slot-below, found-at, found-nowhere, found-later, means-none, means-some}
+use Rattle.theory.specs.Sides.{side-facts, side-positive, slot-sideAt, slot-below}
+use Rattle.theory.specs.Least.{found-at, found-nowhere, found-later, means-none, means-some}
+use Rattle.theory.specs.FitRows.{Fit}
 use Rattle.theory.specs.Pairings.{means-alike, means-joins}
 use Rattle.halfedge.specs.Rows.{rowOf, cornerOf, part-row, row-corner}
 use Rattle.siblings.specs.Siblings.{sibling}

@@ -8,7 +8,7 @@ ghost use Rattle.lists.specs.Stores.{Kept};
 ghost use Rattle.lists.specs.TestLaws.{Means};
 ghost use Rattle.rules.specs.Elements.{elements, origin, Side};
 ghost use Rattle.rules.specs.Refusals.{unusedVertex, crowdedSide, alikeSide};
-ghost use Rattle.theory.specs.Sides.{Fit};
+ghost use Rattle.theory.specs.FitRows.{Fit};
 ghost use Rattle.checks.specs.Firsts.{FirstsFrom, Firsts};
 ghost use Rattle.checks.specs.Maps.{Mapped, CrowdedAt, AlikeAt};
 use halfedge::wide;

@@ -9,7 +9,7 @@ use Rattle.lists.specs.Tests.{both, either}
 use Rattle.lists.specs.Search.{at}
 use Rattle.rules.specs.Elements.{sidesBy, sideAt, firstVertex}
 use Rattle.rules.specs.Pairing.{unfitCorner, repeatedCorner}
-use Rattle.theory.specs.Sides.{FirstVertex}
+use Rattle.theory.specs.Least.{FirstVertex}
 use Rattle.corners.specs.declared.Fault.{Fault}
 use Rattle.corners.specs.declared.Fault.the-variants.{Unfit, Repeated, Nothing}
 

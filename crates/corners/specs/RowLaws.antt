@@ -12,7 +12,8 @@ use Rattle.lists.specs.TestLaws.{Means, means-either, means-eq, means-lt, means
 use Rattle.lists.specs.Search.{at}
 use Rattle.lists.specs.SearchLaws.{lt-or-eq}
 use Rattle.rules.specs.Elements.{sidesBy, firstVertex}
-use Rattle.theory.specs.Sides.{FirstVertex, nobody, somebody, SidesBy, three, four, sides-by, means-some-vertex}
+use Rattle.theory.specs.Sides.{SidesBy, three, four, sides-by}
+use Rattle.theory.specs.Least.{FirstVertex, nobody, somebody, means-some-vertex}
 use Rattle.corners.specs.Faults.{noVertex, repeats, UnfitIn, RepeatedIn}
 
 -- numbers from 1 on

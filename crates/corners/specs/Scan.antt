@@ -13,7 +13,9 @@ use Rattle.lists.specs.Search.{at}
 use Rattle.lists.specs.SearchLaws.{le-or-lt}
 use Rattle.rules.specs.Elements.{elements, corner, element, sidesBy, sides, Side, slot, origin, sideAt, firstSide}
 use Rattle.rules.specs.Pairing.{unfitCorner, repeatedCorner}
-use Rattle.theory.specs.Sides.{First, FirstVertex, SidesBy, three, four, sides-by, SideFacts, side-facts, side-of, side-positive, sideAt-slot, slot-sideAt, slot-below, slot-less, first-side, first-is, unfit, earlier, repeated, means-unfit, means-earlier, means-repeated}
+use Rattle.theory.specs.Sides.{SidesBy, three, four, sides-by, SideFacts, side-facts, side-of, side-positive, sideAt-slot, slot-sideAt, slot-below, slot-less}
+use Rattle.theory.specs.Least.{First, FirstVertex, first-side, first-is}
+use Rattle.theory.specs.FitRows.{unfit, earlier, repeated, means-unfit, means-earlier, means-repeated}
 use Rattle.halfedge.specs.Rows.{rowOf, part-at}
 use Rattle.corners.specs.Faults.{noVertex, repeats, UnfitIn, RepeatedIn, Repeating, kept, none, new, faultOf}
 use Rattle.corners.specs.RowLaws.{means-repeats, means-no-vertex}

@@ -1,11 +1,12 @@
 -- Document 01, "Element list and half-edge numbers": the codes of half-edges.
 -- Assumes nothing.
 use mathlib.Core.Bool.{Bool, true, false}
-use mathlib.Core.Path.{_≡_}
+use mathlib.Core.Path.{_≡_, sym, _∙_}
 use Prim.Native.Nat.{ℕ, _+_, _*_, _≤_}
 use borrow.Author.Tests.{le-leb}
 use lib.Dec.{eqb}
 use Rattle.lists.specs.Tests.{both, either, within}
+use Rattle.lists.specs.TestLaws.{means-not, means-eq}
 use Rattle.rules.specs.Elements.{maxElement, maxBorder, element, number}
 
 -- x where the test passes, else 0: "Code 0 names nothing"
@@ -46,3 +47,10 @@ side-code f i lf hf li hi = simp (within-true lf hf, within-true li hi)
 pub border-code : (b : ℕ) → 1 ≤ b → b ≤ maxBorder → borderCode b ≡ 8 * b
 unfolding borderCode
 border-code b l h = simp (within-true l h)
+
+-- what a test for a border tells of the code
+pub of-border : (c : ℕ) {r : Bool} → r ≡ eqb (number c) 0 → r ≡ true → number c ≡ 0
+of-border c e t = means-eq (number c) 0 .says (rw (sym e ∙ t) tt)
+
+pub of-side : (c : ℕ) {r : Bool} → r ≡ eqb (number c) 0 → r ≡ false → number c ≡ 0 → ⊥
+of-side c e t = means-not (means-eq (number c) 0) .says (rw (sym e ∙ t) tt)

@@ -1,9 +1,10 @@
 // Half-edge numbers and element rows, document 01, "Element list and half-edge numbers".
 ghost use mathlib.Core.Path.{_≡_};
-ghost use Prim.Native.Nat.{_-_, _<_};
+ghost use Prim.Native.Nat.{_+_, _*_, _-_, _≤_, _<_};
+ghost use lib.Dec.{eqb};
 ghost use Rattle.lists.specs.Search.{at};
 ghost use Rattle.lists.specs.Tests.{within};
-ghost use Rattle.rules.specs.Elements.{element, number, sidesBy, slot, sideAt};
+ghost use Rattle.rules.specs.Elements.{maxElement, maxBorder, element, number, sidesBy, slot, sideAt};
 ghost use Rattle.halfedge.specs.Codes.{sideCode, borderCode, knownCode};
 ghost use Rattle.halfedge.specs.Rows.{rowOf, cornerOf, nextSide, previousSide};
 
@@ -29,7 +30,9 @@ impl HalfEdge {
         if !is_within(1, 4, i) {
             return HalfEdge { code: 0 };
         }
-        HalfEdge { code: 8 * f + i }
+        HalfEdge {
+            code: side_code(f, i),
+        }
     }
 
     // Border half-edge b.
@@ -39,31 +42,70 @@ impl HalfEdge {
         if !is_within(1, HalfEdge::MAX_BORDER, b) {
             return HalfEdge { code: 0 };
         }
-        HalfEdge { code: 8 * b }
+        HalfEdge {
+            code: border_code(b),
+        }
     }
 
     pub fn from_code(c: u32) -> HalfEdge
         ensures { λ r. ⌜ r .code ≡ knownCode c ⌝ }
     {
-        if c % 8 == 0 {
-            return HalfEdge::border(c / 8);
+        if is_border(c) {
+            return HalfEdge::border(element_of(c));
         }
-        HalfEdge::side(c / 8, c % 8)
+        HalfEdge::side(element_of(c), number_of(c))
     }
 
     // The element of a side, or the number of a border half-edge.
     pub fn element(self) -> u32
         ensures { λ r. ⌜ r ≡ element (self .code) ⌝ }
     {
-        self.code / 8
+        element_of(self.code)
     }
 
     // The side's number in its element, 0 of a border half-edge.
     pub fn number(self) -> u32
         ensures { λ r. ⌜ r ≡ number (self .code) ⌝ }
     {
-        self.code % 8
+        number_of(self.code)
     }
+}
+
+// The code of side i of element f.
+pub fn side_code(f: u32, i: u32) -> u32
+    requires { ⌜ (f ≤ 536_870_911) × (i ≤ 4) ⌝ }
+    ensures { λ r. ⌜ r ≡ 8 * f + i ⌝ }
+{
+    8 * f + i
+}
+
+// The code of border half-edge b.
+pub fn border_code(b: u32) -> u32
+    requires { ⌜ b ≤ maxBorder ⌝ }
+    ensures { λ r. ⌜ r ≡ 8 * b ⌝ }
+{
+    8 * b
+}
+
+// The element of a side's code, or the number of a border half-edge's.
+pub fn element_of(code: u32) -> u32
+    ensures { λ r. ⌜ r ≡ element code ⌝ }
+{
+    code / 8
+}
+
+// The side's number in its element, 0 of a border half-edge.
+pub fn number_of(code: u32) -> u32
+    ensures { λ r. ⌜ r ≡ number code ⌝ }
+{
+    code % 8
+}
+
+// Whether a code is that of a border half-edge, or 0.
+pub fn is_border(code: u32) -> bool
+    ensures { λ r. ⌜ r ≡ eqb (number code) 0 ⌝ }
+{
+    code % 8 == 0
 }
 
 // The row of one element, read from that element's part of the list.
@@ -127,17 +169,17 @@ pub fn previous_side(row: [u32; 4], i: u32) -> u32
 
 // The code of the side whose origin stands at entry p of the element list.
 pub fn code_at(p: usize) -> u32
-    requires { ⌜ p < 4_000_000 ⌝ }
+    requires { ⌜ p < 4 * maxElement ⌝ }
     ensures { λ r. ⌜ r ≡ sideAt p ⌝ }
 {
-    (8 * (p / 4 + 1) + (p % 4 + 1)) as u32
+    side_code((p / 4 + 1) as u32, (p % 4 + 1) as u32)
 }
 
 // The entry of the element list at which a side's origin stands.
 pub fn slot_of(code: u32) -> usize
     ensures { λ r. ⌜ r ≡ slot code ⌝ }
 {
-    wide(4 * one_less(code / 8) + one_less(code % 8))
+    wide(4 * one_less(element_of(code)) + one_less(number_of(code)))
 }
 
 fn is_within(low: u32, high: u32, x: u32) -> bool

@@ -17,7 +17,8 @@ use Rattle.lists.specs.Stores.{at-same, at-other}
 use Rattle.lists.specs.Parts.{part, part-take, put-take}
 use Rattle.rules.specs.Elements.{elements, corner, Side, slot, sideAt, firstSide}
 use Rattle.rules.specs.Recovery.{sideOfBorder}
-use Rattle.theory.specs.Sides.{SidesBy, three, four, sides-by, side-of, First, first-is, slot-sideAt, slot-below, slot-less}
+use Rattle.theory.specs.Sides.{SidesBy, three, four, sides-by, side-of, slot-sideAt, slot-below, slot-less}
+use Rattle.theory.specs.Least.{First, first-is}
 use Rattle.walk.specs.Layout.{Sizes, e2eIn, Linked}
 use Rattle.walk.specs.Sides.{e-length, e-elements, e-at}
 

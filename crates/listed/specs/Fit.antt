@@ -19,7 +19,7 @@ use Rattle.rules.specs.Refusals.{Answer, gives, refused, Buffers, callSizes, ca
 use Rattle.theory.specs.Answers.{room-enough}
 use Rattle.theory.specs.Built.{borders-bound}
 use Rattle.theory.specs.Entries.{length-v2e, length-e2e, length-b2e}
-use Rattle.theory.specs.Sides.{means-sizes}
+use Rattle.theory.specs.FitRows.{means-sizes}
 use Rattle.build.specs.Building.{counts-are, lent}
 use Rattle.text.specs.Form.{firstBad, theN, theM, theList, theNumber}
 use Rattle.text.specs.FormLaws.{head-bounds, form-head}

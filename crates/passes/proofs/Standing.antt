@@ -11,7 +11,8 @@ use lib.ListN.{length}
 use Rattle.lists.specs.TestLaws.{zero-or}
 use Rattle.rules.specs.Elements.{Side, next}
 use Rattle.rules.specs.Queries.{Mesh, bySide, isHalfEdge, isBorderCode, readOpposite, borderNext, onward, loopNext}
-use Rattle.theory.specs.Sides.{side-positive, next-side}
+use Rattle.theory.specs.Sides.{side-positive}
+use Rattle.theory.specs.Steps.{next-side}
 use Rattle.passes.specs.declared.Walk.{Walk}
 use Rattle.passes.specs.declared.Walk.the-variants.{Elements, Ends, Borders}
 use Rattle.passes.specs.Walks.{nextBy, Stands}

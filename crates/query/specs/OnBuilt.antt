@@ -22,7 +22,7 @@ use Rattle.rules.specs.Pairing.{Accepted}
 use Rattle.rules.specs.Tables.{borders}
 use Rattle.rules.specs.Refusals.{Answer, gives, refused, after, onto}
 use Rattle.rules.specs.Queries.{asked, defined, found, listed, listLeaves, listedAnswer, bySide, isHalfEdge, isVertex, opposite, borderNext, ring, neighbours, borderLoop, Walker, walked, started, startSide, walkerStart, walkerStep, oppositeAnswer, nextAnswer, previousAnswer, elementAnswer, originAnswer, destinationAnswer, acrossAnswer, halfEdgeBorderAnswer, vertexBorderAnswer, ringAnswer, ringLeaves, neighboursAnswer, neighboursLeaves, borderLoopAnswer, borderLoopLeaves, startAnswer}
-use Rattle.theory.specs.Sides.{next-side, previous-side, previous-next, next-previous}
+use Rattle.theory.specs.Steps.{next-side, previous-side, previous-next, next-previous}
 use Rattle.theory.specs.Entries.{length-b2e}
 use Rattle.theory.specs.Built.{built, side, by-side, means-half, means-vertex}
 use Rattle.theory.specs.Rings.{ListsOnce}

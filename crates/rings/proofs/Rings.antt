@@ -11,7 +11,7 @@ use lib.ListN.{length}
 use Rattle.lists.specs.TestLaws.{zero-or}
 use Rattle.rules.specs.Elements.{elements, isSide, Side, next}
 use Rattle.rules.specs.Queries.{Mesh, andThen, bySide, prepend, readAll, follow, over, isHalfEdge, isVertex, readVertexEntry, readBorderSide, readOrigin, readDestination, startSide, ringSides, ring, neighbours, loopNext, borderLoop}
-use Rattle.theory.specs.Sides.{next-side}
+use Rattle.theory.specs.Steps.{next-side}
 use Rattle.passes.specs.declared.Walk.the-variants.{Elements, Ends, Borders}
 use Rattle.reads.specs.Readings.{priorVertex}
 use Rattle.passes.specs.Walks.{walked, preceded}

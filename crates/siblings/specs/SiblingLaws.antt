@@ -13,7 +13,10 @@ use Rattle.lists.specs.TestLaws.{Test, pass, fail, test, Means, means-itself, d
 use Rattle.lists.specs.SearchLaws.{le-not-lt}
 use Rattle.rules.specs.Elements.{Side, origin, next, firstSide}
 use Rattle.rules.specs.Pairing.{alike, opposed, joins}
-use Rattle.theory.specs.Sides.{Fit, First, nobody, somebody, first-side, side-facts, side-positive, next-side, ends-differ}
+use Rattle.theory.specs.Sides.{side-facts, side-positive}
+use Rattle.theory.specs.Least.{First, nobody, somebody, first-side}
+use Rattle.theory.specs.Steps.{next-side}
+use Rattle.theory.specs.FitRows.{Fit, ends-differ}
 use Rattle.theory.specs.Pairings.{means-alike, means-opposed, means-joins}
 use Rattle.siblings.specs.Siblings.{sibling, lesser, greater, Between, beyond}
 use Rattle.siblings.specs.Rings.{Next, rises, returns}

@@ -15,7 +15,9 @@ use Rattle.lists.specs.CountLaws.{Three, three, three-counted}
 use Rattle.rules.specs.Elements.{isSide, Side, slot, origin, sideAt, sideWith, firstSide, countSides}
 use Rattle.rules.specs.Pairing.{alike, opposed, joins}
 use Rattle.rules.specs.Tables.{partner}
-use Rattle.theory.specs.Sides.{Fit, slot-sideAt, sideAt-slot, slot-below, slot-inj, first-found, means-some, ends-differ}
+use Rattle.theory.specs.Sides.{slot-sideAt, sideAt-slot, slot-below, slot-inj}
+use Rattle.theory.specs.Least.{first-found, means-some}
+use Rattle.theory.specs.FitRows.{Fit, ends-differ}
 use Rattle.theory.specs.Pairings.{means-alike, means-opposed, means-joins, partner-opposed}
 use Rattle.siblings.specs.Siblings.{sibling, lesser, greater, Between, beyond}
 use Rattle.siblings.specs.SiblingLaws.{side-beyond, joins-between, between-joins, sibling-follows}

@@ -1,38 +1,54 @@
 -- What the row of a side's element says of the side.
 -- Assumes nothing.
-use mathlib.Core.Path.{_≡_, ap, _∙_}
+use mathlib.Core.Path.{_≡_, ap, sym, _∙_}
 use mathlib.Core.List.{List}
 use Prim.Native.Nat.{ℕ, _*_, _/_, _%_, _≤_}
 use native.Mathlib.Omega.{arith}
 use lib.ListN.{length}
-use Rattle.rules.specs.Elements.{corner, sides, Side, row, slot, origin, destination, nextNumber, next}
+use Rattle.lists.specs.Tests.{both, within}
+use Rattle.rules.specs.Elements.{elements, corner, sides, isSide, Side, row, slot, origin, destination, nextNumber, next}
 use Rattle.halfedge.specs.Rows.{rowOf, cornerOf, turned, nextSide, row-corner, row-turned}
-use Rattle.theory.specs.Sides.{side-facts, next-numbered}
+use Rattle.theory.specs.Sides.{side-facts}
+use Rattle.theory.specs.Steps.{next-numbered}
 
 -- the row of element f
 module _ (L : List ℕ) (f : ℕ) {r : List ℕ} (e : r ≡ rowOf (row L f)) where
   pub corner-read : {i x : ℕ} → 1 ≤ i → i ≤ 4 → x ≡ cornerOf r i → x ≡ corner L f i
   corner-read {i} l h q = q ∙ ap (λ (p : List ℕ). cornerOf p i) e ∙ row-corner L f i l h
 
--- the row of the side s
-module _ (L : List ℕ) (s : ℕ) (a : Side L s) where
-  pub row-there : (1 ≤ s / 8) × (4 * (s / 8) ≤ length L)
+-- the tests of a code by its element f and its number i
+pub side-by : (L : List ℕ) (s : ℕ) {f i : ℕ} → f ≡ s / 8 → i ≡ s % 8 → isSide L s ≡ both (within 1 (elements L) f) (within 1 (sides L f) i)
+unfolding isSide
+side-by L s e d = rw (e, d)
+
+-- the side s, read by its element f, its number i and the row r of that element
+module _ (L : List ℕ) (s : ℕ) (a : Side L s) {f : ℕ} (ef : f ≡ s / 8) where
+  pub row-there : (1 ≤ f) × (4 * f ≤ length L)
   row-there = omega (arith, side-facts L s a)
 
-  pub turn-read : (turn : ℕ → ℕ → ℕ) {r : List ℕ} {i : ℕ} → r ≡ rowOf (row L (s / 8)) → i ≡ turned turn r (s % 8) → i ≡ turn (sides L (s / 8)) (s % 8)
-  turn-read turn e q =
-      let x = side-facts L s a in
-      q ∙ ap (λ (p : List ℕ). turned turn p (s % 8)) e ∙ row-turned L (s / 8) turn (s % 8) (x .number-from) (x .number-to)
+  module _ {i : ℕ} {r : List ℕ} (ei : i ≡ s % 8) (er : r ≡ rowOf (row L f)) where
+    row-is : r ≡ rowOf (row L (s / 8))
+    row-is = er ∙ ap (λ (g : ℕ). rowOf (row L g)) ef
 
-  pub row-origin : cornerOf (rowOf (row L (s / 8))) (s % 8) ≡ origin L s
-  unfolding origin slot
-  row-origin = let f = side-facts L s a in row-corner L (s / 8) (s % 8) (f .number-from) (f .number-four)
+    -- a step within the element
+    pub turn-read : (turn : ℕ → ℕ → ℕ) {j : ℕ} → j ≡ turned turn r i → j ≡ turn (sides L (s / 8)) (s % 8)
+    turn-read turn q =
+        let x = side-facts L s a in
+        q ∙ ap (turned turn r) ei ∙ ap (λ (p : List ℕ). turned turn p (s % 8)) row-is
+        ∙ row-turned L (s / 8) turn (s % 8) (x .number-from) (x .number-to)
 
-  pub row-destination : cornerOf (rowOf (row L (s / 8))) (nextSide (rowOf (row L (s / 8))) (s % 8)) ≡ destination L s
-  unfolding origin slot
-  row-destination =
-      let f = side-facts L s a in
-      let x = next-numbered L s a in
-      let g = side-facts L (next L s) (x .side) in
-      rw (row-turned L (s / 8) nextNumber (s % 8) (f .number-from) (f .number-to), ← x .index, ← x .same)
-      (row-corner L (next L s / 8) (next L s % 8) (g .number-from) (g .number-four))
+    pub origin-read : {x : ℕ} → x ≡ cornerOf r i → x ≡ origin L s
+    unfolding origin slot
+    origin-read q =
+        let x = side-facts L s a in
+        q ∙ ap (cornerOf r) ei ∙ ap (λ (p : List ℕ). cornerOf p (s % 8)) row-is
+        ∙ row-corner L (s / 8) (s % 8) (x .number-from) (x .number-four)
+
+    pub destination-read : {j x : ℕ} → j ≡ nextSide r i → x ≡ cornerOf r j → x ≡ destination L s
+    unfolding origin slot
+    destination-read {j} d q =
+        let x = next-numbered L s a in
+        let g = side-facts L (next L s) (x .side) in
+        let e : j ≡ next L s % 8 = turn-read nextNumber d ∙ sym (x .index) in
+        q ∙ ap (cornerOf r) e ∙ ap (λ (p : List ℕ). cornerOf p (next L s % 8)) (row-is ∙ ap (λ (h : ℕ). rowOf (row L h)) (sym (x .same)))
+        ∙ row-corner L (next L s / 8) (next L s % 8) (g .number-from) (g .number-four)

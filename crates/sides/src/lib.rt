@@ -1,8 +1,11 @@
 // What the element list alone says of a side. Elements are read through their rows.
 use halfedge::corner;
+use halfedge::element_of;
 use halfedge::next_side;
+use halfedge::number_of;
 use halfedge::previous_side;
 use halfedge::row;
+use halfedge::side_code;
 use halfedge::side_count;
 use halfedge::wide;
 ghost use mathlib.Core.Path.{_≡_};
@@ -25,8 +28,8 @@ pub fn row_at(list: &[u32], f: u32) -> [u32; 4]
 pub fn is_side(list: &[u32], code: u32) -> bool
     ensures { λ r. ⌜ r ≡ isSide (now (list .entry)) code ⌝ }
 {
-    let f = code / 8;
-    let i = code % 8;
+    let f = element_of(code);
+    let i = number_of(code);
     if f < 1 {
         return false;
     }
@@ -43,27 +46,29 @@ pub fn next_code(list: &[u32], s: u32) -> u32
     requires { ⌜ Side (now list) s ⌝ }
     ensures { λ r. ⌜ r ≡ next (now (list .entry)) s ⌝ }
 {
-    8 * (s / 8) + next_side(row_at(list, s / 8), s % 8)
+    let f = element_of(s);
+    side_code(f, next_side(row_at(list, f), number_of(s)))
 }
 
 pub fn previous_code(list: &[u32], s: u32) -> u32
     requires { ⌜ Side (now list) s ⌝ }
     ensures { λ r. ⌜ r ≡ previous (now (list .entry)) s ⌝ }
 {
-    8 * (s / 8) + previous_side(row_at(list, s / 8), s % 8)
+    let f = element_of(s);
+    side_code(f, previous_side(row_at(list, f), number_of(s)))
 }
 
 pub fn origin_of(list: &[u32], s: u32) -> u32
     requires { ⌜ Side (now list) s ⌝ }
     ensures { λ r. ⌜ r ≡ origin (now (list .entry)) s ⌝ }
 {
-    corner(row_at(list, s / 8), s % 8)
+    corner(row_at(list, element_of(s)), number_of(s))
 }
 
 pub fn destination_of(list: &[u32], s: u32) -> u32
     requires { ⌜ Side (now list) s ⌝ }
     ensures { λ r. ⌜ r ≡ destination (now (list .entry)) s ⌝ }
 {
-    let row = row_at(list, s / 8);
-    corner(row, next_side(row, s % 8))
+    let row = row_at(list, element_of(s));
+    corner(row, next_side(row, number_of(s)))
 }

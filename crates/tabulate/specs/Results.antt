@@ -18,7 +18,8 @@ use Rattle.rules.specs.Pairing.{sizesFit, unfitCorner, repeatedCorner, rowsFit,
 use Rattle.rules.specs.Tables.{partner, borders, edges, b2e, e2e, v2e}
 use Rattle.rules.specs.Recovery.{walkTo, walk}
 use Rattle.rules.specs.Refusals.{Answer, gives, refused, unusedVertex, crowdedSide, alikeSide, missed, unorderedVertex, sideCheck, vertexCheck, listAnswer}
-use Rattle.theory.specs.Sides.{Fit, means-fit, means-sizes, no-side-at, sideAt-slot}
+use Rattle.theory.specs.Sides.{sideAt-slot}
+use Rattle.theory.specs.FitRows.{Fit, means-fit, means-sizes, no-side-at}
 use Rattle.theory.specs.Pairings.{the-pairing}
 use Rattle.theory.specs.Entries.{length-v2e, length-e2e}
 use Rattle.theory.specs.Built.{borders-bound}

@@ -4,7 +4,7 @@ ghost use Prim.Native.Nat.{_+_, _*_, _≤_};
 ghost use lib.ListN.{length};
 ghost use Rattle.rules.specs.Elements.{elements, element, number};
 ghost use Rattle.rules.specs.Refusals.{refused, listAnswer};
-ghost use Rattle.theory.specs.Sides.{Fit};
+ghost use Rattle.theory.specs.FitRows.{Fit};
 ghost use Rattle.answer.specs.Numbers.{numbers};
 ghost use Rattle.borders.specs.Numbers.{Ready};
 ghost use Rattle.tabulate.specs.Results.{Sized, fitAnswer, pairedAnswer, Tabulated};

@@ -16,7 +16,7 @@ use Rattle.rules.specs.Elements.{element, number}
 use Rattle.rules.specs.Pairing.{Pairing, Ordered, Accepted, unfitCorner, repeatedCorner, rowsFit, sizesFit}
 use Rattle.rules.specs.Tables.{partner, borders, edges}
 use Rattle.rules.specs.Refusals.{Answer, gives, refused, unusedVertex, crowdedSide, alikeSide, unorderedVertex, sideCheck, vertexCheck, listAnswer, accepts, Buffers, callSizes, callLengths, lengthChecks, roomCheck, buildAnswer}
-use Rattle.theory.specs.Sides.{Fit, means-fit}
+use Rattle.theory.specs.FitRows.{Fit, means-fit}
 use Rattle.theory.specs.Pairings.{pairing-exists, the-pairing}
 use Rattle.theory.specs.Orders.{Good, good}
 use Rattle.theory.specs.Deciding.{means-used, means-ordered}

@@ -18,7 +18,10 @@ use Rattle.rules.specs.Pairing.{SideAt, rowsFit, sizesFit, unfitCorner, repeate
 use Rattle.rules.specs.Tables.{partner, isBorder, b2e, borderNumber, borders, e2e, v2e}
 use Rattle.rules.specs.Refusals.{Answer, callSizes, lengthChecks}
 use Rattle.rules.specs.Queries.{Mesh, asked, read, bySide, isBorderCode, isHalfEdge, isVertex, readOpposite, readBorderSide, readVertexEntry, readOrigin, readDestination}
-use Rattle.theory.specs.Sides.{Fit, means-fit, nobody, somebody, side-facts, next-side}
+use Rattle.theory.specs.Sides.{side-facts}
+use Rattle.theory.specs.Least.{nobody, somebody}
+use Rattle.theory.specs.Steps.{next-side}
+use Rattle.theory.specs.FitRows.{Fit, means-fit}
 use Rattle.theory.specs.Pairings.{partner-opposed}
 use Rattle.theory.specs.Entries.{length-e2e, length-v2e, length-b2e, e2e-paired, e2e-border, b2e-border, number-from, number-to, numbered-border, VertexEntry, vertex-entry}
 use Rattle.theory.specs.Turns.{elements-e2e}

@@ -19,7 +19,8 @@ use Rattle.rules.specs.Pairing.{Pairing, Turn, SideAt, TurnOrder}
 use Rattle.rules.specs.Tables.{partner, e2e, v2e}
 use Rattle.rules.specs.Recovery.{walkStart, walk}
 use Rattle.rules.specs.Refusals.{missed, unorderedVertex}
-use Rattle.theory.specs.Sides.{Fit, SidesBy, three, four, sides-by, no-side-zero, sideAt-slot, slot-sideAt}
+use Rattle.theory.specs.Sides.{SidesBy, three, four, sides-by, no-side-zero, sideAt-slot, slot-sideAt}
+use Rattle.theory.specs.FitRows.{Fit}
 use Rattle.theory.specs.Entries.{length-e2e}
 use Rattle.theory.specs.Orders.{Good, turn-origin, turn-inj, first-after, begins}
 use Rattle.theory.specs.Walking.{Start, after, side, nowhere, start-at, Fan, Walked, walk-walked}

@@ -17,7 +17,8 @@ use Rattle.rules.specs.Pairing.{Pairing, SideAt, TurnOrder, Ordered, Accepted, 
 use Rattle.rules.specs.Tables.{partner, borders, edges, e2e, v2e}
 use Rattle.rules.specs.Recovery.{walk}
 use Rattle.rules.specs.Refusals.{Answer, gives, refused, unusedVertex, crowdedSide, alikeSide, missed, unorderedVertex, sideCheck, vertexCheck, listAnswer, accepts, Buffers, callSizes, callLengths, lengthChecks, roomCheck, buildAnswer}
-use Rattle.theory.specs.Sides.{Fit, means-fit, means-some, means-none, means-no-vertex, FirstVertex, nobody, somebody, first-vertex}
+use Rattle.theory.specs.Least.{means-some, means-none, means-no-vertex, FirstVertex, nobody, somebody, first-vertex}
+use Rattle.theory.specs.FitRows.{Fit, means-fit}
 use Rattle.theory.specs.Pairings.{pairing-exists, the-pairing}
 use Rattle.theory.specs.Orders.{Good, good, accepted-of}
 use Rattle.theory.specs.Covering.{Covered, order-covered, covered-order}

@@ -14,7 +14,7 @@ use Rattle.lists.specs.SearchLaws.{le-not-lt, lt-or-eq}
 use Rattle.rules.specs.Elements.{elements, corner, Side, slot, origin, destination, sideAt}
 use Rattle.rules.specs.Pairing.{Pairing, SideAt, Ordered, Accepted}
 use Rattle.rules.specs.Tables.{partner, borderNumber, borders, b2e, e2e, v2e}
-use Rattle.theory.specs.Sides.{First, nobody, somebody}
+use Rattle.theory.specs.Least.{First, nobody, somebody}
 use Rattle.theory.specs.Pairings.{pairing-unique}
 use Rattle.theory.specs.Entries.{length-e2e, length-v2e, length-b2e, e2e-paired, e2e-border, e2e-empty, b2e-border, number-from, number-to, number-less, numbered-border, VertexEntry, rim, inner, vertex-entry}
 use Rattle.theory.specs.Turns.{fourth, fourth-none}

@@ -14,7 +14,8 @@ use Rattle.lists.specs.Search.{at, count, upto, tab}
 use Rattle.lists.specs.SearchLaws.{length-tab, at-tab, length-upto, at-upto, count-lt, count-inj, count-find, count-bound, le-not-lt}
 use Rattle.rules.specs.Elements.{elements, corner, sides, isSide, Side, slot, origin, destination, next, sideAt, sideWith, firstSide, countSides}
 use Rattle.rules.specs.Tables.{partner, isBorder, b2e, borderNumber, borders, e2eEntry, e2e, borderInto, v2eEntry, v2e}
-use Rattle.theory.specs.Sides.{First, nobody, somebody, first-side, SidesBy, three, four, sides-by, side-facts, sideAt-slot, slot-sideAt, slot-below, slot-less, slot-inj, side-positive}
+use Rattle.theory.specs.Sides.{SidesBy, three, four, sides-by, side-facts, sideAt-slot, slot-sideAt, slot-below, slot-less, slot-inj, side-positive}
+use Rattle.theory.specs.Least.{First, nobody, somebody, first-side}
 
 module _ (L : List ℕ) where
   pub length-e2e : length (e2e L) ≡ 4 * elements L

@@ -1,4 +1,7 @@
 pub mod Sides
+pub mod Least
+pub mod Steps
+pub mod FitRows
 pub mod Pairings
 pub mod Entries
 pub mod Turns

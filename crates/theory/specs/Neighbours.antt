@@ -13,7 +13,8 @@ use Rattle.rules.specs.Elements.{Side, origin, destination}
 use Rattle.rules.specs.Pairing.{SideAt, TurnOrder}
 use Rattle.rules.specs.Tables.{partner, borderNumber}
 use Rattle.rules.specs.Queries.{prepend, over, readDestination, ringSides, neighbours}
-use Rattle.theory.specs.Sides.{ends-differ, side-positive}
+use Rattle.theory.specs.Sides.{side-positive}
+use Rattle.theory.specs.FitRows.{ends-differ}
 use Rattle.theory.specs.Pairings.{means-alike, means-opposed, means-joins, means-no-alike, pairing-exists}
 use Rattle.theory.specs.Orders.{Good, one-border-into}
 use Rattle.theory.specs.Built.{built, by-side, by-border, read-border-side, read-origin, read-destination, ReadEntry, rim, inner, read-entry}

@@ -13,7 +13,9 @@ use Rattle.lists.specs.Search.{at}
 use Rattle.rules.specs.Elements.{Side, origin, destination, next, previous}
 use Rattle.rules.specs.Pairing.{opposed, Pairing, Turn, SideAt, TurnOrder, Ordered, Accepted, rowsFit}
 use Rattle.rules.specs.Tables.{partner}
-use Rattle.theory.specs.Sides.{Fit, means-fit, side-positive, next-side, next-inj, previous-side, next-previous}
+use Rattle.theory.specs.Sides.{side-positive}
+use Rattle.theory.specs.Steps.{next-side, next-inj, previous-side, next-previous}
+use Rattle.theory.specs.FitRows.{Fit, means-fit}
 use Rattle.theory.specs.Pairings.{means-opposed, pairing-unique, pairing-exists, the-pairing}
 
 -- a turn order by one pairing is one by another

@@ -16,7 +16,9 @@ use Rattle.rules.specs.Elements.{isSide, Side, slot, origin, destination, next,
 use Rattle.rules.specs.Pairing.{alike, opposed, joins, Pairing}
 use Rattle.rules.specs.Tables.{partner}
 use Rattle.rules.specs.Refusals.{crowdedSide, alikeSide}
-use Rattle.theory.specs.Sides.{Fit, First, nobody, somebody, first-side, first-found, means-none, means-some, side-positive, ends-differ, slot-sideAt}
+use Rattle.theory.specs.Sides.{side-positive, slot-sideAt}
+use Rattle.theory.specs.Least.{First, nobody, somebody, first-side, first-found, means-none, means-some}
+use Rattle.theory.specs.FitRows.{Fit, ends-differ}
 
 module _ (L : List ℕ) (s t : ℕ) where
   pub means-alike : Means (alike L s t) ((origin L s ≡ origin L t) × (destination L s ≡ destination L t))

@@ -14,7 +14,9 @@ use Rattle.rules.specs.Elements.{elements, element, Side, next}
 use Rattle.rules.specs.Pairing.{Turn, SideAt, TurnOrder}
 use Rattle.rules.specs.Tables.{partner, borderNumber}
 use Rattle.rules.specs.Queries.{over, startSide, onward, ringSides, ring}
-use Rattle.theory.specs.Sides.{Fit, side-facts, side-positive, next-side}
+use Rattle.theory.specs.Sides.{side-facts, side-positive}
+use Rattle.theory.specs.Steps.{next-side}
+use Rattle.theory.specs.FitRows.{Fit}
 use Rattle.theory.specs.Pairings.{partner-opposed}
 use Rattle.theory.specs.Orders.{Good, turn-origin, turn-inj, after-border, first-after, begins}
 use Rattle.theory.specs.Follows.{Steady, Followed, followed}

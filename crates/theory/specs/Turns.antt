@@ -15,7 +15,8 @@ use Rattle.rules.specs.Elements.{elements, corner, element, number, sides, side
 use Rattle.rules.specs.Pairing.{opposed}
 use Rattle.rules.specs.Tables.{partner, borderNumber, e2e}
 use Rattle.rules.specs.Recovery.{sideOfBorder, walkStart, turnBy}
-use Rattle.theory.specs.Sides.{First, nobody, somebody, first-side, first-found, SidesBy, three, four, sides-by, SideFacts, side-facts, side-of, side-positive, sideAt-slot, slot-sideAt}
+use Rattle.theory.specs.Sides.{SidesBy, three, four, sides-by, SideFacts, side-facts, side-of, side-positive, sideAt-slot, slot-sideAt}
+use Rattle.theory.specs.Least.{First, nobody, somebody, first-side, first-found}
 use Rattle.theory.specs.Pairings.{partner-opposed, means-opposed}
 use Rattle.theory.specs.Entries.{length-e2e, e2e-paired, e2e-border, e2e-empty, e2e-nonzero, border-no-side, number-from, number-le, number-inj}
 

@@ -16,7 +16,8 @@ use Rattle.rules.specs.Elements.{elements, element, isSide, Side}
 use Rattle.rules.specs.Pairing.{SideAt}
 use Rattle.rules.specs.Refusals.{Answer, gives}
 use Rattle.rules.specs.Queries.{Mesh, asked, defined, found, andThen, isVertex, startSide, onward, ring, Walker, Walked, walked, started, startAnswer, walkerStart, goesTo, moved, walkerStep}
-use Rattle.theory.specs.Sides.{Fit, side-positive}
+use Rattle.theory.specs.Sides.{side-positive}
+use Rattle.theory.specs.FitRows.{Fit}
 use Rattle.theory.specs.Orders.{Good}
 use Rattle.theory.specs.Follows.{Followed}
 use Rattle.theory.specs.Built.{built, asked-built, means-vertex}

@@ -15,7 +15,9 @@ use Rattle.rules.specs.Elements.{Side, slot, origin, destination, next}
 use Rattle.rules.specs.Pairing.{Pairing, Turn, SideAt}
 use Rattle.rules.specs.Tables.{partner, borderNumber, e2e, v2e}
 use Rattle.rules.specs.Recovery.{walkStart, turnBy, trace, walkTo, walk}
-use Rattle.theory.specs.Sides.{First, nobody, somebody, side-positive, next-side, slot-inj}
+use Rattle.theory.specs.Sides.{side-positive, slot-inj}
+use Rattle.theory.specs.Least.{First, nobody, somebody}
+use Rattle.theory.specs.Steps.{next-side}
 use Rattle.theory.specs.Entries.{VertexEntry, rim, inner, vertex-entry, length-v2e}
 use Rattle.theory.specs.Turns.{side-e2e, e2e-side, turn-paired, turn-border, start-rim, start-side, start-none}
 use Rattle.theory.specs.Orders.{turn-origin}

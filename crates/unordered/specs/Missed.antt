@@ -15,7 +15,9 @@ use Rattle.lists.specs.Search.{at}
 use Rattle.lists.specs.SearchLaws.{lt-or-eq, le-not-lt}
 use Rattle.rules.specs.Elements.{elements, Side, slot, origin, sideAt, firstSide, firstVertex}
 use Rattle.rules.specs.Refusals.{missed}
-use Rattle.theory.specs.Sides.{Fit, means-some, FirstVertex, vertex-is, side-at, entry-at, no-side-at, slot-below, slot-sideAt, sideAt-slot}
+use Rattle.theory.specs.Sides.{slot-below, slot-sideAt, sideAt-slot}
+use Rattle.theory.specs.Least.{means-some, FirstVertex, vertex-is}
+use Rattle.theory.specs.FitRows.{Fit, side-at, entry-at, no-side-at}
 
 -- from place o on stands what the walk wrote: 0 where no side stands
 pub record Walked (o : ℕ) (L w : List ℕ) : Type 0 where

@@ -5,7 +5,7 @@ ghost use lib.ListN.{length, drop};
 ghost use Rattle.lists.specs.Search.{at};
 ghost use Rattle.rules.specs.Elements.{firstVertex};
 ghost use Rattle.rules.specs.Refusals.{missed};
-ghost use Rattle.theory.specs.Sides.{Fit};
+ghost use Rattle.theory.specs.FitRows.{Fit};
 ghost use Rattle.unordered.specs.Missed.{Walked, LeastBelow, Lesser};
 
 // The lesser of two vertices, the second counting only where it was not written; 0 is none.

@@ -14,7 +14,9 @@ use Rattle.lists.specs.Search.{at}
 use Rattle.lists.specs.Parts.{at-part, length-part}
 use Rattle.rules.specs.Elements.{elements, corner, sidesBy, sides, isSide, Side, slot, nextNumber, next, firstSide}
 use Rattle.rules.specs.Recovery.{sideOfBorder, walkStart, turnBy}
-use Rattle.theory.specs.Sides.{SidesBy, three, four, sides-by, SideFacts, side-facts, side-of, First, first-side, NextNumber, wraps, grows, next-number, side-positive}
+use Rattle.theory.specs.Sides.{SidesBy, three, four, sides-by, SideFacts, side-facts, side-of, side-positive}
+use Rattle.theory.specs.Least.{First, first-side}
+use Rattle.theory.specs.Steps.{NextNumber, wraps, grows, next-number}
 use Rattle.walk.specs.Layout.{Sizes, e2eIn, Linked}
 
 module _ (n m : ℕ) (w : List ℕ) (z : Sizes n m w) where

@@ -10,7 +10,7 @@ use borrow.Author.Tests.{not-true, not-false}
 use lib.ListN.{length, replicate}
 use Rattle.rules.specs.Pairing.{sizesFit}
 use Rattle.rules.specs.Refusals.{callSizes, callLengths}
-use Rattle.theory.specs.Sides.{means-sizes}
+use Rattle.theory.specs.FitRows.{means-sizes}
 use Rattle.answer.specs.Numbers.{numbers}
 use Rattle.build.specs.Building.{sizes-known, unsized, unlengthened, built}
 use Rattle.build.proofs.build.Statement.{statement}

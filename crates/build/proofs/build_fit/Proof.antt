@@ -9,7 +9,7 @@ use lib.ListN.{length, take, drop, length-take, length-append, length-drop}
 use Rattle.rules.specs.Elements.{elements}
 use Rattle.rules.specs.Tables.{borders}
 use Rattle.rules.specs.Refusals.{Answer, gives, refused, roomCheck, listAnswer}
-use Rattle.theory.specs.Sides.{means-sizes}
+use Rattle.theory.specs.FitRows.{means-sizes}
 use Rattle.theory.specs.Answers.{room-short}
 use Rattle.theory.specs.Built.{borders-bound}
 use Rattle.answer.specs.Numbers.{numbers}

@@ -1,30 +1,37 @@
 -- `halfedge::code_at` meets its contract.
 -- Assumes nothing.
-use borrow.Author.Needs.{needs}
-use mathlib.Core.Path.{refl}
+use mathlib.Core.Path.{_∙_}
 use Rattle.rules.specs.Elements.{sideAt}
+use borrow.Author.Needs.{needs}
 use Rattle.halfedge.proofs.code_at.Statement.{statement}
 use Rattle.halfedge.proofs.code_at.Tie as tie
 
-add-result : tie.Need-add-result
-add-result c = search needs
+add-side-code : tie.Need-add-side-code
+add-side-code c = search needs
 
-mul-result : tie.Need-mul-result
-mul-result c = search needs
+cast-side-code : tie.Need-cast-side-code
+cast-side-code c = search needs
 
-add-result-2 : tie.Need-add-result-2
-add-result-2 c = search needs
+add-side-code-2 : tie.Need-add-side-code-2
+add-side-code-2 c = search needs
 
-add-result-3 : tie.Need-add-result-3
-add-result-3 c = search needs
+cast-side-code-2 : tie.Need-cast-side-code-2
+cast-side-code-2 c = search needs
 
-cast-result : tie.Need-cast-result
-cast-result c = search needs
+side-code-requires : tie.Need-side-code-requires
+side-code-requires c κs = search needs
 
 returns : tie.Need-returns
 unfolding sideAt
-returns c = refl
+returns c = c .side-code .ensures
 
 pub code-at-spec : {M : Type 1} → statement M
 code-at-spec =
-    tie.close (tie.spec add-result mul-result add-result-2 add-result-3 cast-result returns)
+    tie.close
+    (tie.spec
+    add-side-code
+    cast-side-code
+    add-side-code-2
+    cast-side-code-2
+    side-code-requires
+    returns)

@@ -7,7 +7,7 @@ use native.Mathlib.Omega.{arith}
 use borrow.Author.Needs.{needs}
 use lib.ListN.{length, take, drop, length-append, length-drop, length-take}
 use Rattle.rules.specs.Elements.{elements}
-use Rattle.theory.specs.Sides.{means-sizes}
+use Rattle.theory.specs.FitRows.{means-sizes}
 use Rattle.answer.specs.Numbers.{numbers}
 use Rattle.recover.specs.Recovering.{tried}
 use Rattle.recover.proofs.has_tables.Statement.{statement}

@@ -9,7 +9,7 @@ use borrow.Author.Tests.{not-true, not-false}
 use lib.ListN.{length, replicate}
 use Rattle.rules.specs.Pairing.{sizesFit}
 use Rattle.rules.specs.Refusals.{callSizes, callLengths}
-use Rattle.theory.specs.Sides.{means-sizes}
+use Rattle.theory.specs.FitRows.{means-sizes}
 use Rattle.answer.specs.Numbers.{numbers}
 use Rattle.build.specs.Building.{sizes-known}
 use Rattle.recover.specs.Recovering.{unsized, unlengthened, whole}

@@ -1,12 +1,18 @@
 -- `sides::destination_of` meets its contract.
 -- Assumes nothing.
-use Rattle.sides.proofs.Sided.{row-there, row-destination}
+use Rattle.sides.proofs.Sided.{row-there, destination-read}
 use borrow.Author.Needs.{needs}
 use Rattle.sides.proofs.destination_of.Statement.{statement}
 use Rattle.sides.proofs.destination_of.Tie as tie
 
+element-of-requires : tie.Need-element-of-requires
+element-of-requires c κs = search needs
+
 row-at-requires : tie.Need-row-at-requires
-row-at-requires c κs = row-there _ _ (c .before .pre)
+row-at-requires c κs = row-there _ _ (c .before .before .pre) (c .element-of .ensures)
+
+number-of-requires : tie.Need-number-of-requires
+number-of-requires c κs = search needs
 
 next-side-requires : tie.Need-next-side-requires
 next-side-requires c κs = search needs
@@ -16,10 +22,20 @@ corner-requires c κs = search needs
 
 returns : tie.Need-returns
 returns c =
-    let p = c .before .before .before .before in
-    rw (c .corner .ensures, c .before .next-side .ensures, c .before .before .row-at .ensures)
-    (row-destination (p .args .list .now) (p .args .s) (p .pre))
+    let turned = c .before in
+    let numbered = turned .before in
+    let read = numbered .before in
+    let split = read .before in
+    destination-read _ _ (split .before .before .pre) (split .element-of .ensures) (numbered .number-of .ensures) (read .row-at .ensures)
+    (turned .next-side .ensures) (c .corner .ensures)
 
 pub destination-of-spec : {M : Type 1} → statement M
 destination-of-spec =
-    tie.close (tie.spec row-at-requires next-side-requires corner-requires returns)
+    tie.close
+    (tie.spec
+    element-of-requires
+    row-at-requires
+    number-of-requires
+    next-side-requires
+    corner-requires
+    returns)

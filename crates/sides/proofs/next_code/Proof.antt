@@ -1,38 +1,56 @@
 -- `sides::next_code` meets its contract.
 -- Assumes nothing.
-use Prim.Native.Nat.{ℕ, _+_, _*_, _/_}
-use Rattle.sides.proofs.Sided.{row-there, turn-read}
-use Rattle.rules.specs.Elements.{next, nextNumber}
-use Rattle.theory.specs.Sides.{next-numbered}
-use borrow.Author.Needs.{needs}
-use mathlib.Core.Path.{_≡_, ap}
+use Prim.Native.Nat.{_+_, _*_, _/_, _%_}
 use native.Mathlib.Omega.{arith}
+use mathlib.Core.Path.{_≡_, ap, _∙_}
+use Rattle.rules.specs.Elements.{sides, next, nextNumber}
+use Rattle.theory.specs.Steps.{next-numbered}
+use Rattle.theory.specs.Sides.{side-facts}
+use Rattle.sides.proofs.Sided.{row-there, turn-read}
+use borrow.Author.Needs.{needs}
 use Rattle.sides.proofs.next_code.Statement.{statement}
 use Rattle.sides.proofs.next_code.Tie as tie
 
-is-next : (c : tie.After-next-side) → let s = c .before .before .before .args in 8 * (s .s / 8) + c .next-side .result ≡ next (s .list .now) (s .s)
-unfolding next
-is-next c =
-    let s = c .before .before .before in
-    ap (λ (i : ℕ). 8 * (s .args .s / 8) + i) (turn-read (s .args .list .now) (s .args .s) (s .pre) nextNumber (c .before .row-at .ensures) (c .next-side .ensures))
-
-mul-result : tie.Need-mul-result
-mul-result c = search needs
+element-of-requires : tie.Need-element-of-requires
+element-of-requires c κs = search needs
 
 row-at-requires : tie.Need-row-at-requires
-row-at-requires c κs = row-there _ _ (c .before .pre)
+row-at-requires c κs = row-there _ _ (c .before .before .pre) (c .element-of .ensures)
+
+number-of-requires : tie.Need-number-of-requires
+number-of-requires c κs = search needs
 
 next-side-requires : tie.Need-next-side-requires
 next-side-requires c κs = search needs
 
-add-result : tie.Need-add-result
-add-result c =
-    let s = c .before .before .before in
-    omega (arith, is-next c, next-numbered (s .args .list .now) (s .args .s) (s .pre) .same)
+side-code-requires : tie.Need-side-code-requires
+side-code-requires c κs =
+    let numbered = c .before in
+    let read = numbered .before in
+    let split = read .before in
+    let s = split .before .before in
+    let x = next-numbered (s .args .list .now) (s .args .s) (s .pre) in
+    let i = turn-read (s .args .list .now) (s .args .s) (s .pre) (split .element-of .ensures) (numbered .number-of .ensures) (read .row-at .ensures) nextNumber (c .next-side .ensures) in
+    (omega (arith, split .element-of .ensures), omega (arith, i, x .index, side-facts (s .args .list .now) _ (x .side) .number-four))
 
 returns : tie.Need-returns
-returns c = is-next c
+unfolding next
+returns c =
+    let stepped = c .before in
+    let numbered = stepped .before in
+    let read = numbered .before in
+    let split = read .before in
+    let s = split .before .before in
+    let i = turn-read (s .args .list .now) (s .args .s) (s .pre) (split .element-of .ensures) (numbered .number-of .ensures) (read .row-at .ensures) nextNumber (stepped .next-side .ensures) in
+    rw (c .side-code .ensures, split .element-of .ensures, i)
 
 pub next-code-spec : {M : Type 1} → statement M
 next-code-spec =
-    tie.close (tie.spec mul-result row-at-requires next-side-requires add-result returns)
+    tie.close
+    (tie.spec
+    element-of-requires
+    row-at-requires
+    number-of-requires
+    next-side-requires
+    side-code-requires
+    returns)

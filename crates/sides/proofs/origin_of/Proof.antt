@@ -1,20 +1,30 @@
 -- `sides::origin_of` meets its contract.
 -- Assumes nothing.
-use Rattle.sides.proofs.Sided.{row-there, row-origin}
+use Rattle.sides.proofs.Sided.{row-there, origin-read}
 use borrow.Author.Needs.{needs}
 use Rattle.sides.proofs.origin_of.Statement.{statement}
 use Rattle.sides.proofs.origin_of.Tie as tie
 
+element-of-requires : tie.Need-element-of-requires
+element-of-requires c κs = search needs
+
 row-at-requires : tie.Need-row-at-requires
-row-at-requires c κs = row-there _ _ (c .before .pre)
+row-at-requires c κs = row-there _ _ (c .before .before .pre) (c .element-of .ensures)
+
+number-of-requires : tie.Need-number-of-requires
+number-of-requires c κs = search needs
 
 corner-requires : tie.Need-corner-requires
 corner-requires c κs = search needs
 
 returns : tie.Need-returns
 returns c =
-    let p = c .before .before .before in
-    rw (c .corner .ensures, c .before .row-at .ensures) (row-origin (p .args .list .now) (p .args .s) (p .pre))
+    let numbered = c .before in
+    let read = numbered .before in
+    let split = read .before in
+    origin-read _ _ (split .before .before .pre) (split .element-of .ensures) (numbered .number-of .ensures) (read .row-at .ensures) (c .corner .ensures)
 
 pub origin-of-spec : {M : Type 1} → statement M
-origin-of-spec = tie.close (tie.spec row-at-requires corner-requires returns)
+origin-of-spec =
+    tie.close
+    (tie.spec element-of-requires row-at-requires number-of-requires corner-requires returns)

@@ -1,38 +1,56 @@
 -- `sides::previous_code` meets its contract.
 -- Assumes nothing.
-use Prim.Native.Nat.{ℕ, _+_, _*_, _/_}
-use Rattle.sides.proofs.Sided.{row-there, turn-read}
-use Rattle.rules.specs.Elements.{previous, previousNumber}
-use Rattle.theory.specs.Sides.{previous-numbered}
-use borrow.Author.Needs.{needs}
-use mathlib.Core.Path.{_≡_, ap}
+use Prim.Native.Nat.{_+_, _*_, _/_, _%_}
 use native.Mathlib.Omega.{arith}
+use mathlib.Core.Path.{_≡_, ap, _∙_}
+use Rattle.rules.specs.Elements.{sides, previous, previousNumber}
+use Rattle.theory.specs.Steps.{previous-numbered}
+use Rattle.theory.specs.Sides.{side-facts}
+use Rattle.sides.proofs.Sided.{row-there, turn-read}
+use borrow.Author.Needs.{needs}
 use Rattle.sides.proofs.previous_code.Statement.{statement}
 use Rattle.sides.proofs.previous_code.Tie as tie
 
-is-previous : (c : tie.After-previous-side) → let s = c .before .before .before .args in 8 * (s .s / 8) + c .previous-side .result ≡ previous (s .list .now) (s .s)
-unfolding previous
-is-previous c =
-    let s = c .before .before .before in
-    ap (λ (i : ℕ). 8 * (s .args .s / 8) + i) (turn-read (s .args .list .now) (s .args .s) (s .pre) previousNumber (c .before .row-at .ensures) (c .previous-side .ensures))
-
-mul-result : tie.Need-mul-result
-mul-result c = search needs
+element-of-requires : tie.Need-element-of-requires
+element-of-requires c κs = search needs
 
 row-at-requires : tie.Need-row-at-requires
-row-at-requires c κs = row-there _ _ (c .before .pre)
+row-at-requires c κs = row-there _ _ (c .before .before .pre) (c .element-of .ensures)
+
+number-of-requires : tie.Need-number-of-requires
+number-of-requires c κs = search needs
 
 previous-side-requires : tie.Need-previous-side-requires
 previous-side-requires c κs = search needs
 
-add-result : tie.Need-add-result
-add-result c =
-    let s = c .before .before .before in
-    omega (arith, is-previous c, previous-numbered (s .args .list .now) (s .args .s) (s .pre) .same)
+side-code-requires : tie.Need-side-code-requires
+side-code-requires c κs =
+    let numbered = c .before in
+    let read = numbered .before in
+    let split = read .before in
+    let s = split .before .before in
+    let x = previous-numbered (s .args .list .now) (s .args .s) (s .pre) in
+    let i = turn-read (s .args .list .now) (s .args .s) (s .pre) (split .element-of .ensures) (numbered .number-of .ensures) (read .row-at .ensures) previousNumber (c .previous-side .ensures) in
+    (omega (arith, split .element-of .ensures), omega (arith, i, x .index, side-facts (s .args .list .now) _ (x .side) .number-four))
 
 returns : tie.Need-returns
-returns c = is-previous c
+unfolding previous
+returns c =
+    let stepped = c .before in
+    let numbered = stepped .before in
+    let read = numbered .before in
+    let split = read .before in
+    let s = split .before .before in
+    let i = turn-read (s .args .list .now) (s .args .s) (s .pre) (split .element-of .ensures) (numbered .number-of .ensures) (read .row-at .ensures) previousNumber (stepped .previous-side .ensures) in
+    rw (c .side-code .ensures, split .element-of .ensures, i)
 
 pub previous-code-spec : {M : Type 1} → statement M
 previous-code-spec =
-    tie.close (tie.spec mul-result row-at-requires previous-side-requires add-result returns)
+    tie.close
+    (tie.spec
+    element-of-requires
+    row-at-requires
+    number-of-requires
+    previous-side-requires
+    side-code-requires
+    returns)

@@ -7,7 +7,7 @@ use borrow.Author.Needs.{needs}
 use Rattle.rules.specs.Elements.{element, number}
 use Rattle.rules.specs.Pairing.{unfitCorner, repeatedCorner}
 use Rattle.rules.specs.Refusals.{refused, listAnswer, sideCheck}
-use Rattle.theory.specs.Sides.{means-sizes}
+use Rattle.theory.specs.FitRows.{means-sizes}
 use Rattle.theory.specs.Answers.{side-clear, side-refuses}
 use Rattle.corners.specs.Found.{found-unfit, found-repeated, found-nothing}
 use Rattle.tabulate.specs.Results.{fitAnswer, fit-rows, refuses, restated}

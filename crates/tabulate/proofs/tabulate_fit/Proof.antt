@@ -9,7 +9,7 @@ use lib.ListN.{length}
 use Rattle.lists.specs.Stores.{Kept}
 use Rattle.rules.specs.Elements.{elements, element, number}
 use Rattle.rules.specs.Refusals.{Answer, refused, unusedVertex, crowdedSide, alikeSide, sideCheck, vertexCheck}
-use Rattle.theory.specs.Sides.{Fit}
+use Rattle.theory.specs.FitRows.{Fit}
 use Rattle.theory.specs.Answers.{side-clear, side-refuses, vertex-clear, vertex-refuses}
 use Rattle.siblings.specs.Siblings.{Grouped}
 use Rattle.checks.specs.Firsts.{Firsts}

@@ -1,12 +1,17 @@
 -- `halfedge::HalfEdge::border` meets its contract. Each way out goes by the range test.
 -- Assumes nothing.
 use borrow.Author.Needs.{needs}
+use mathlib.Core.Path.{_∙_, sym}
 use native.Mathlib.Omega.{arith}
+use Prim.Native.Nat.{_≤_}
 use Rattle.rules.specs.Elements.{maxBorder}
-use Rattle.halfedge.specs.Codes.{borderCode}
+use Rattle.halfedge.specs.Codes.{borderCode, border-code}
 use Rattle.halfedge.proofs.Within.{inside, failed, passed}
 use Rattle.halfedge.proofs.HalfEdge.border.Statement.{statement}
 use Rattle.halfedge.proofs.HalfEdge.border.Tie as tie
+
+bounds : (c : tie.Else1) → let b = c .before .before .args .b in (1 ≤ b) × (b ≤ maxBorder)
+bounds c = inside 1 maxBorder (c .before .before .args .b) (passed (c .before .is-within .ensures) (c .if1 .left))
 
 is-within-requires : tie.Need-is-within-requires
 is-within-requires c κs = search needs
@@ -15,12 +20,11 @@ returns : tie.Need-returns
 unfolding borderCode
 returns c = simp (failed (c .before .is-within .ensures) (c .if1 .taken))
 
-mul-t4 : tie.Need-mul-t4
-mul-t4 c = omega (arith, inside 1 maxBorder (c .before .before .args .b) (passed (c .before .is-within .ensures) (c .if1 .left)))
+border-code-requires : tie.Need-border-code-requires
+border-code-requires c κs = bounds c .1
 
 returns-2 : tie.Need-returns-2
-unfolding borderCode
-returns-2 c = rw (passed (c .before .is-within .ensures) (c .if1 .left))
+returns-2 c = c .border-code .ensures ∙ sym (border-code _ (bounds (c .before) .0) (bounds (c .before) .1))
 
 pub border-spec : {M : Type 1} → statement M
-border-spec = tie.close (tie.spec is-within-requires returns mul-t4 returns-2)
+border-spec = tie.close (tie.spec is-within-requires returns border-code-requires returns-2)
