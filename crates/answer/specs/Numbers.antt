@@ -1,6 +1,8 @@
 -- The numbers of document 01 for each case of the enum, and their packing.
 -- Assumes nothing.
-use Prim.Native.Nat.{ℕ, _+_, _*_, _%_}
+use mathlib.Core.Bool.{true, false}
+use Prim.Native.Nat.{ℕ, _+_, _*_, _/_, _%_}
+use lib.Dec.{eqb}
 use Rattle.rules.specs.Refusals.{Answer as Stated, gives, refused}
 use Rattle.answer.specs.declared.Answer.{Answer}
 use Rattle.answer.specs.declared.Answer.the-variants.{Gives, Refused}
@@ -17,3 +19,18 @@ packed r a b = (r % 256) * 72_057_594_037_927_936 + (a % 268_435_456) * 268_435_
 abbrev pub packedAnswer : Stated → ℕ
 packedAnswer (gives a b) = packed 0 a b
 packedAnswer (refused r a b) = packed r a b
+
+-- the three formulas of the C header, borzhanu_refusal, borzhanu_first and borzhanu_second, and the answer that they tell
+abbrev pub refusalIn : ℕ → ℕ
+refusalIn x = x / 72_057_594_037_927_936
+
+abbrev pub firstIn : ℕ → ℕ
+firstIn x = x / 268_435_456 % 268_435_456
+
+abbrev pub secondIn : ℕ → ℕ
+secondIn x = x % 268_435_456
+
+abbrev pub unpacked : ℕ → Stated
+unpacked x =
+    elim (eqb (refusalIn x) 0)
+    [ true ↦ gives (firstIn x) (secondIn x) | false ↦ refused (refusalIn x) (firstIn x) (secondIn x) ]

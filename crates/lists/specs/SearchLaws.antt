@@ -7,7 +7,7 @@ use mathlib.Core.List.{List, [], _∷_, _++_}
 use Prim.Native.Nat.{ℕ, zero, suc, _+_, _-_, _≤_, _<_}
 use native.Mathlib.Omega.{arith}
 use lib.Dec.{T, ltb, eqb, T-not, nltb→le}
-use lib.ListN.{length, getD, set, replicate, length-append, length-set, List·getD-append}
+use lib.ListN.{length, set, replicate, length-append, length-set, List·getD-append}
 use lib.Seq.{getD-at, getD-set-same, getD-set-other}
 use Rattle.lists.specs.TestLaws.{Test, pass, fail, test, true-of, false-of, means-lt, means-eq, means-not, decide}
 use Rattle.lists.specs.Search.{at, least, count, upto, tab, zeros}

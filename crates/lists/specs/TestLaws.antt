@@ -1,12 +1,12 @@
 -- What the tests mean.
 -- Assumes nothing.
-use mathlib.Core.Path.{_≡_, refl, ap}
+use mathlib.Core.Path.{_≡_, refl}
 use mathlib.Core.Bool.{Bool, true, false, not}
 use mathlib.Core.Logic.{_⊎_, inl, inr}
 use mathlib.Core.List.{List, [], _∷_}
 use Prim.Native.Nat.{ℕ, suc, _≤_, _<_}
 use native.Mathlib.Omega.{arith}
-use lib.Dec.{T, leb, ltb, eqb, T-not, not-T, leb→le, le→leb, nleb→lt, eqb→eq, eqb-refl}
+use lib.Dec.{T, leb, ltb, eqb, T-not, not-T, leb→le, le→leb, eqb→eq, eqb-refl}
 use Rattle.lists.specs.Tests.{both, either, within, same}
 
 -- a test with the fact that it passes, or that it fails

@@ -1,2 +1,1 @@
 pub mod Recovering
-pub mod Demand3

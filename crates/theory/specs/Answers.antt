@@ -1,24 +1,23 @@
 -- What build answers, with fit lengths and rows: one of the refusals 5 to 8 exactly when no pairing of the sides with a turn order about
 -- every vertex exists; where one exists, only 9 remains, exactly when B2e is shorter than k.
 -- Assumes nothing.
-use mathlib.Core.Path.{_≡_, refl, ap, sym, subst, _∙_}
-use mathlib.Core.Bool.{Bool, true, false, not}
+use mathlib.Core.Path.{_≡_, ap, sym, subst, _∙_}
+use mathlib.Core.Bool.{Bool, true, false}
 use mathlib.Core.Logic.{_⊎_, inl, inr, _↔_}
 use mathlib.Core.List.{List}
-use Prim.Native.Nat.{ℕ, suc, _+_, _*_, _/_, _%_, _≤_, _<_}
+use Prim.Native.Nat.{ℕ, _≤_, _<_}
 use native.Mathlib.Omega.{arith}
-use lib.Dec.{T, leb, eqb, T-not, not-T}
+use lib.Dec.{T, leb, eqb, not-T}
 use lib.ListN.{length}
-use Rattle.lists.specs.Tests.{both}
-use Rattle.lists.specs.TestLaws.{Test, pass, fail, test, true-of, false-of, Means, passes, both-pass, means-not, means-eq, means-le, zero-or}
+use Rattle.lists.specs.TestLaws.{true-of, false-of, passes, means-not, means-eq, means-le, zero-or}
 use Rattle.lists.specs.SearchLaws.{le-or-lt}
 use Rattle.rules.specs.Elements.{element, number}
-use Rattle.rules.specs.Pairing.{Pairing, Ordered, Accepted, unfitCorner, repeatedCorner, rowsFit, sizesFit}
+use Rattle.rules.specs.Pairing.{Ordered, unfitCorner, repeatedCorner, rowsFit, sizesFit}
 use Rattle.rules.specs.Tables.{partner, borders, edges}
-use Rattle.rules.specs.Refusals.{Answer, gives, refused, unusedVertex, crowdedSide, alikeSide, unorderedVertex, sideCheck, vertexCheck, listAnswer, accepts, Buffers, callSizes, callLengths, lengthChecks, roomCheck, buildAnswer}
-use Rattle.theory.specs.FitRows.{Fit, means-fit}
+use Rattle.rules.specs.Refusals.{Answer, gives, refused, unusedVertex, crowdedSide, alikeSide, unorderedVertex, sideCheck, vertexCheck, listAnswer, Buffers, callSizes, callLengths, lengthChecks, roomCheck, buildAnswer}
+use Rattle.theory.specs.FitRows.{means-fit}
 use Rattle.theory.specs.Pairings.{pairing-exists, the-pairing}
-use Rattle.theory.specs.Orders.{Good, good}
+use Rattle.theory.specs.Orders.{good}
 use Rattle.theory.specs.Deciding.{means-used, means-ordered}
 
 -- a check that found nothing goes on to the later ones; else it refuses
@@ -46,6 +45,22 @@ room-enough room k e h = rw (true-of (leb k room) (means-le k room .shows h), ro
 pub room-short : (room k e : ℕ) → room < k → roomCheck room (gives k e) ≡ refused 9 k 0
 unfolding roomCheck
 room-short room k e h = rw (false-of (leb k room) (not-T (leb k room) (λ t. omega (arith, means-le k room .says t))), roomCheck)
+
+-- an answer has passed the checks before it
+pub past-lengths : (sizes lengths : Bool) (rest : Answer) (k e : ℕ) → lengthChecks sizes lengths rest ≡ gives k e → T sizes × T lengths × (rest ≡ gives k e)
+unfolding lengthChecks
+past-lengths true true rest k e g = (tt, tt, g)
+past-lengths true false rest k e g = let z : _≡_ {A = ℕ} 0 1 = cc in absurd (omega arith)
+past-lengths false lengths rest k e g = let z : _≡_ {A = ℕ} 0 1 = cc in absurd (omega arith)
+
+pub past-room : (room k e : ℕ) (a : Answer) → roomCheck room a ≡ gives k e → (a ≡ gives k e) × (k ≤ room)
+unfolding roomCheck
+past-room room k e (refused r p q) g = let z : _≡_ {A = ℕ} 0 1 = cc in absurd (omega arith)
+past-room room k e (gives i j) g = go (le-or-lt i room)
+  where
+    go : (i ≤ room) ⊎ (room < i) → (gives i j ≡ gives k e) × (k ≤ room)
+    go (inl h) = let f = sym (room-enough room i j h) ∙ g in let c : i ≡ k = cc in (f, omega arith)
+    go (inr h) = let f = sym (room-short room i j h) ∙ g in let z : _≡_ {A = ℕ} 0 1 = cc in absurd (omega arith)
 
 -- one of the refusals 5 to 8
 abbrev pub Late : Answer → Type 0

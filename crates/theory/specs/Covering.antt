@@ -1,29 +1,25 @@
 -- The walk over a list's own tables writes all sides at a vertex exactly where that vertex has a turn order; so it gives every accepted
 -- list back.
 -- Assumes nothing.
-use mathlib.Core.Path.{_≡_, refl, ap, sym, subst, _∙_}
-use mathlib.Core.Bool.{Bool, true, false, not}
+use mathlib.Core.Path.{_≡_, refl, ap, sym, _∙_}
 use mathlib.Core.Logic.{_⊎_, inl, inr}
-use mathlib.Core.List.{List, [], _∷_}
-use Prim.Native.Nat.{ℕ, zero, suc, _+_, _*_, _-_, _/_, _%_, _≤_, _<_}
+use mathlib.Core.List.{List}
+use Prim.Native.Nat.{ℕ, zero, suc, _+_, _*_, _-_, _≤_, _<_}
 use native.Mathlib.Omega.{arith}
-use lib.Dec.{T, eqb, T-not, not-T}
+use lib.Dec.{T-not}
 use lib.ListN.{length}
 use lib.Seq.{ext-getD}
-use Rattle.lists.specs.Tests.{both}
-use Rattle.lists.specs.TestLaws.{Test, pass, fail, test, Means, decide, means-both, means-not, means-eq, means-lt, zero-or}
+use Rattle.lists.specs.TestLaws.{Test, pass, fail, test}
 use Rattle.lists.specs.Search.{at}
-use Rattle.lists.specs.SearchLaws.{Met, lt-or-eq, le-not-lt}
-use Rattle.rules.specs.Elements.{elements, corner, sides, isSide, Side, slot, origin, destination, next, sideAt, firstSide, firstVertex}
+use Rattle.lists.specs.SearchLaws.{Met, lt-or-eq}
+use Rattle.rules.specs.Elements.{elements, sides, isSide, Side, slot, origin, next, sideAt}
 use Rattle.rules.specs.Pairing.{Pairing, Turn, SideAt, TurnOrder}
 use Rattle.rules.specs.Tables.{partner, e2e, v2e}
-use Rattle.rules.specs.Recovery.{walkStart, walk}
-use Rattle.rules.specs.Refusals.{missed, unorderedVertex}
-use Rattle.theory.specs.Sides.{SidesBy, three, four, sides-by, no-side-zero, sideAt-slot, slot-sideAt}
-use Rattle.theory.specs.FitRows.{Fit}
+use Rattle.rules.specs.Recovery.{walk}
+use Rattle.theory.specs.Sides.{no-side-zero, sideAt-slot, slot-sideAt}
 use Rattle.theory.specs.Entries.{length-e2e}
 use Rattle.theory.specs.Orders.{Good, turn-origin, turn-inj, first-after, begins}
-use Rattle.theory.specs.Walking.{Start, after, side, nowhere, start-at, Fan, Walked, walk-walked}
+use Rattle.theory.specs.Walking.{Start, after, side, nowhere, start-at, Fan, walk-walked}
 
 -- W has the origin v of each side at v
 abbrev pub Covered : List ℕ → List ℕ → ℕ → Type 0

@@ -1,26 +1,25 @@
 -- `accepted` is decided by a function that computes, and build gives one of the refusals 5 to 8 exactly when no pairing of the sides with a
 -- turn order about every vertex exists.
 -- Assumes nothing.
-use mathlib.Core.Path.{_≡_, refl, ap, sym, subst, _∙_}
-use mathlib.Core.Bool.{Bool, true, false, not}
-use mathlib.Core.Logic.{_⊎_, inl, inr, _↔_}
+use mathlib.Core.Path.{_≡_}
+use mathlib.Core.Bool.{Bool, not}
+use mathlib.Core.Logic.{_⊎_, inl, inr}
 use mathlib.Core.List.{List}
-use Prim.Native.Nat.{ℕ, suc, _+_, _*_, _/_, _%_, _≤_, _<_}
+use Prim.Native.Nat.{ℕ, _≤_, _<_}
 use native.Mathlib.Omega.{arith}
-use lib.Dec.{T, leb, eqb, T-not, not-T, nleb→lt}
-use lib.ListN.{length}
+use lib.Dec.{T, eqb, T-not, not-T}
 use Rattle.lists.specs.Tests.{both}
-use Rattle.lists.specs.TestLaws.{Test, pass, fail, test, true-of, false-of, Means, decide, passes, means-both, means-not, means-eq, means-le, zero-or}
+use Rattle.lists.specs.TestLaws.{Test, pass, fail, test, Means, decide, passes, means-both, means-not, means-eq}
 use Rattle.lists.specs.Search.{at}
-use Rattle.rules.specs.Elements.{Side, slot, origin, firstSide, firstVertex}
-use Rattle.rules.specs.Pairing.{Pairing, SideAt, TurnOrder, Ordered, Accepted, sizesFit, unfitCorner, repeatedCorner, rowsFit}
-use Rattle.rules.specs.Tables.{partner, borders, edges, e2e, v2e}
+use Rattle.rules.specs.Elements.{slot, origin, firstSide, firstVertex}
+use Rattle.rules.specs.Pairing.{Pairing, SideAt, TurnOrder, Accepted, rowsFit}
+use Rattle.rules.specs.Tables.{partner, e2e, v2e}
 use Rattle.rules.specs.Recovery.{walk}
-use Rattle.rules.specs.Refusals.{Answer, gives, refused, unusedVertex, crowdedSide, alikeSide, missed, unorderedVertex, sideCheck, vertexCheck, listAnswer, accepts, Buffers, callSizes, callLengths, lengthChecks, roomCheck, buildAnswer}
+use Rattle.rules.specs.Refusals.{unusedVertex, crowdedSide, alikeSide, missed, unorderedVertex, accepts}
 use Rattle.theory.specs.Least.{means-some, means-none, means-no-vertex, FirstVertex, nobody, somebody, first-vertex}
-use Rattle.theory.specs.FitRows.{Fit, means-fit}
+use Rattle.theory.specs.FitRows.{means-fit}
 use Rattle.theory.specs.Pairings.{pairing-exists, the-pairing}
-use Rattle.theory.specs.Orders.{Good, good, accepted-of}
+use Rattle.theory.specs.Orders.{good, accepted-of}
 use Rattle.theory.specs.Covering.{Covered, order-covered, covered-order}
 
 module _ (n : ℕ) (L : List ℕ) where

@@ -1,20 +1,19 @@
 -- The computed tables of an accepted list are the ones that document 01 describes, for any pairing of its sides.
 -- Assumes nothing.
-use mathlib.Core.Path.{_≡_, refl, ap, sym, subst, _∙_}
-use mathlib.Core.Bool.{not}
+use mathlib.Core.Path.{_≡_, ap, sym, _∙_}
 use mathlib.Core.Logic.{_⊎_, inl, inr}
 use mathlib.Core.List.{List}
 use Prim.Native.Nat.{ℕ, suc, _+_, _*_, _-_, _≤_, _<_}
 use native.Mathlib.Omega.{arith}
-use lib.Dec.{T, eqb, T-not}
+use lib.Dec.{eqb, T-not}
 use lib.ListN.{length}
 use Rattle.lists.specs.TestLaws.{means-eq}
 use Rattle.lists.specs.Search.{at}
 use Rattle.lists.specs.SearchLaws.{le-not-lt, lt-or-eq}
-use Rattle.rules.specs.Elements.{elements, corner, Side, slot, origin, destination, sideAt}
-use Rattle.rules.specs.Pairing.{Pairing, SideAt, Ordered, Accepted}
+use Rattle.rules.specs.Elements.{elements, corner, Side, slot, origin, destination}
+use Rattle.rules.specs.Pairing.{SideAt, Accepted}
 use Rattle.rules.specs.Tables.{partner, borderNumber, borders, b2e, e2e, v2e}
-use Rattle.theory.specs.Least.{First, nobody, somebody}
+use Rattle.theory.specs.Least.{nobody, somebody}
 use Rattle.theory.specs.Pairings.{pairing-unique}
 use Rattle.theory.specs.Entries.{length-e2e, length-v2e, length-b2e, e2e-paired, e2e-border, e2e-empty, b2e-border, number-from, number-to, number-less, numbered-border, VertexEntry, rim, inner, vertex-entry}
 use Rattle.theory.specs.Turns.{fourth, fourth-none}

@@ -1,20 +1,20 @@
 -- What stands in the computed tables: the entry of each side in E2e, of each border number in B2e and of each vertex in V2e.
 -- Assumes nothing.
-use mathlib.Core.Path.{_≡_, refl, ap, sym, subst, _∙_}
-use mathlib.Core.Bool.{Bool, true, false, not}
+use mathlib.Core.Path.{_≡_, refl, ap, sym, _∙_}
+use mathlib.Core.Bool.{Bool, not}
 use mathlib.Core.Logic.{_⊎_, inl, inr}
 use mathlib.Core.List.{List}
-use Prim.Native.Nat.{ℕ, suc, _+_, _*_, _-_, _/_, _%_, _≤_, _<_}
+use Prim.Native.Nat.{ℕ, _+_, _*_, _-_, _≤_, _<_}
 use native.Mathlib.Omega.{arith}
-use lib.Dec.{T, eqb, T-not, not-T}
+use lib.Dec.{T, eqb, T-not}
 use lib.ListN.{length, List·getD-eq-default}
 use Rattle.lists.specs.Tests.{both}
-use Rattle.lists.specs.TestLaws.{Test, pass, fail, test, true-of, false-of, Means, means-itself, decide, passes, both-pass, means-both, means-not, means-eq, means-lt, zero-or}
-use Rattle.lists.specs.Search.{at, count, upto, tab}
+use Rattle.lists.specs.TestLaws.{true-of, false-of, Means, decide, passes, both-pass, means-both, means-not, means-eq, means-lt, zero-or}
+use Rattle.lists.specs.Search.{at, count}
 use Rattle.lists.specs.SearchLaws.{length-tab, at-tab, length-upto, at-upto, count-lt, count-inj, count-find, count-bound, le-not-lt}
-use Rattle.rules.specs.Elements.{elements, corner, sides, isSide, Side, slot, origin, destination, next, sideAt, sideWith, firstSide, countSides}
+use Rattle.rules.specs.Elements.{elements, isSide, Side, slot, origin, destination, sideAt, sideWith, countSides}
 use Rattle.rules.specs.Tables.{partner, isBorder, b2e, borderNumber, borders, e2eEntry, e2e, borderInto, v2eEntry, v2e}
-use Rattle.theory.specs.Sides.{SidesBy, three, four, sides-by, side-facts, sideAt-slot, slot-sideAt, slot-below, slot-less, slot-inj, side-positive}
+use Rattle.theory.specs.Sides.{side-facts, sideAt-slot, slot-sideAt, slot-below, slot-less, slot-inj, side-positive}
 use Rattle.theory.specs.Least.{First, nobody, somebody, first-side}
 
 module _ (L : List ℕ) where

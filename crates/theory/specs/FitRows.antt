@@ -12,7 +12,7 @@ use Rattle.lists.specs.Tests.{both, either}
 use Rattle.lists.specs.TestLaws.{Test, pass, fail, test, Means, means-both, means-either, means-not, means-eq, means-le, means-lt}
 use Rattle.lists.specs.Search.{at}
 use Rattle.lists.specs.SearchLaws.{le-not-lt}
-use Rattle.rules.specs.Elements.{maxVertex, maxElement, elements, corner, element, sides, isSide, Side, origin, destination, next, sideAt, firstSide}
+use Rattle.rules.specs.Elements.{maxVertex, maxElement, elements, element, isSide, Side, origin, destination, next, sideAt, firstSide}
 use Rattle.rules.specs.Pairing.{sizesFit, unfitCorner, repeatedCorner, rowsFit}
 use Rattle.theory.specs.Sides.{slot-sideAt, no-side-zero}
 use Rattle.theory.specs.Least.{means-none, means-some}

@@ -1,17 +1,15 @@
 -- Turn orders: how they begin and end, and that at most one border side ends at a vertex that has one.
 -- Assumes nothing.
-use mathlib.Core.Path.{_≡_, refl, ap, sym, subst, _∙_}
-use mathlib.Core.Bool.{Bool, true, false, not}
+use mathlib.Core.Path.{_≡_, ap, sym, _∙_}
 use mathlib.Core.Logic.{_⊎_, inl, inr}
 use mathlib.Core.List.{List}
-use Prim.Native.Nat.{ℕ, zero, suc, _+_, _*_, _-_, _/_, _%_, _≤_, _<_}
+use Prim.Native.Nat.{ℕ, zero, suc, _-_, _≤_, _<_}
 use native.Mathlib.Omega.{arith}
-use lib.Dec.{T, eqb, T-not, not-T}
 use lib.ListN.{length}
-use Rattle.lists.specs.TestLaws.{Means, decide, means-eq, zero-or}
+use Rattle.lists.specs.TestLaws.{zero-or}
 use Rattle.lists.specs.Search.{at}
 use Rattle.rules.specs.Elements.{Side, origin, destination, next, previous}
-use Rattle.rules.specs.Pairing.{opposed, Pairing, Turn, SideAt, TurnOrder, Ordered, Accepted, rowsFit}
+use Rattle.rules.specs.Pairing.{Pairing, Turn, SideAt, TurnOrder, Accepted}
 use Rattle.rules.specs.Tables.{partner}
 use Rattle.theory.specs.Sides.{side-positive}
 use Rattle.theory.specs.Steps.{next-side, next-inj, previous-side, next-previous}

@@ -1,18 +1,17 @@
 -- A pairing is unique, and with fit rows it exists exactly when neither refusal 6 nor refusal 7 applies.
 -- Assumes nothing.
-use mathlib.Core.Path.{_≡_, refl, ap, sym, subst, _∙_}
-use mathlib.Core.Bool.{Bool, true, false, not}
+use mathlib.Core.Path.{_≡_, ap, sym, _∙_}
+use mathlib.Core.Bool.{Bool, not}
 use mathlib.Core.Logic.{_⊎_, inl, inr, _↔_}
 use mathlib.Core.List.{List}
-use Prim.Native.Nat.{ℕ, suc, _≤_, _<_}
+use Prim.Native.Nat.{ℕ, _≤_}
 use native.Mathlib.Omega.{arith}
-use lib.Dec.{T, leb, eqb, T-not, not-T}
+use lib.Dec.{T, leb, eqb}
 use lib.ListN.{length}
-use Rattle.lists.specs.Tests.{both, either}
+use Rattle.lists.specs.Tests.{both}
 use Rattle.lists.specs.TestLaws.{Test, pass, fail, test, Means, means-itself, decide, passes, both-pass, means-both, means-either, means-not, means-eq, means-le}
-use Rattle.lists.specs.Search.{count}
 use Rattle.lists.specs.SearchLaws.{count-last}
-use Rattle.rules.specs.Elements.{isSide, Side, slot, origin, destination, next, sideAt, sideWith, firstSide, countSides}
+use Rattle.rules.specs.Elements.{isSide, Side, slot, origin, destination, sideAt, sideWith, firstSide, countSides}
 use Rattle.rules.specs.Pairing.{alike, opposed, joins, Pairing}
 use Rattle.rules.specs.Tables.{partner}
 use Rattle.rules.specs.Refusals.{crowdedSide, alikeSide}

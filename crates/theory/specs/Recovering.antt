@@ -1,19 +1,17 @@
 -- Two accepted lists with the same V2e and E2e are equal, and recovery gives a list exactly when an accepted list has the given tables.
 -- Assumes nothing.
-use mathlib.Core.Path.{_≡_, refl, ap, sym, subst, _∙_}
+use mathlib.Core.Path.{_≡_, ap, sym, _∙_}
 use mathlib.Core.Bool.{Bool, true, false, not}
-use mathlib.Core.Logic.{_⊎_, inl, inr, _↔_}
+use mathlib.Core.Logic.{_↔_}
 use mathlib.Core.List.{List}
 use Prim.Native.Nat.{ℕ}
 use native.Mathlib.Omega.{arith}
-use lib.Dec.{T, T-not, not-T}
+use lib.Dec.{T, not-T}
 use lib.ListN.{length}
-use Rattle.lists.specs.Tests.{both, same}
-use Rattle.lists.specs.TestLaws.{Test, pass, fail, test, true-of, false-of, Means, passes, means-both, means-same}
-use Rattle.rules.specs.Pairing.{Accepted}
+use Rattle.lists.specs.TestLaws.{true-of, false-of, Means, means-both, means-same}
 use Rattle.rules.specs.Tables.{e2e, v2e}
 use Rattle.rules.specs.Recovery.{HasTables, walk}
-use Rattle.rules.specs.Refusals.{Answer, gives, refused, accepts, callSizes, callLengths, lengthChecks, after, recovers, recoverAnswer, recoverList}
+use Rattle.rules.specs.Refusals.{Answer, gives, refused, callSizes, callLengths, lengthChecks, after, recovers, recoverAnswer, recoverList}
 use Rattle.theory.specs.Entries.{length-v2e}
 use Rattle.theory.specs.Orders.{good}
 use Rattle.theory.specs.Covering.{walk-back}

@@ -1,17 +1,22 @@
--- Border sides about a vertex: with one that begins there one ends there, and there is only one that begins there.
+-- Border sides about a vertex: with one that begins there one ends there, and there is only one that begins there. So there are no more of
+-- them than vertices.
 -- Assumes nothing.
 use mathlib.Core.Path.{_≡_, ap, sym, _∙_}
 use mathlib.Core.Logic.{_⊎_, inl, inr}
 use mathlib.Core.List.{List}
-use Prim.Native.Nat.{ℕ, suc, _-_, _<_}
+use Prim.Native.Nat.{ℕ, suc, _+_, _-_, _≤_, _<_}
 use native.Mathlib.Omega.{arith}
 use lib.ListN.{length}
 use Rattle.lists.specs.TestLaws.{decide, means-lt}
 use Rattle.lists.specs.Search.{at}
+use Rattle.lists.specs.SearchLaws.{le-not-lt}
+use Rattle.lists.specs.Distinct.{crowded}
 use Rattle.rules.specs.Elements.{Side, destination}
 use Rattle.rules.specs.Pairing.{Pairing, Turn, SideAt, TurnOrder}
-use Rattle.rules.specs.Tables.{partner}
-use Rattle.theory.specs.Orders.{begins}
+use Rattle.rules.specs.Tables.{partner, borderNumber, borders, b2e}
+use Rattle.theory.specs.Steps.{next-side}
+use Rattle.theory.specs.Entries.{b2e-border, numbered-border}
+use Rattle.theory.specs.Orders.{Good, begins, one-border-into}
 
 -- r is a border side that ends at v
 abbrev pub BorderInto : List ℕ → ℕ → ℕ → Type 0
@@ -48,3 +53,33 @@ module _ (L : List ℕ) (p : Pairing L (partner L)) (v : ℕ) (o : List ℕ) (x 
       go : 0 < length o → partner L (at o (length o - 1)) ≡ 0 → Ends L o → (r : ℕ) × BorderInto L v r
       go h w (inl t) = absurd (t .0 w)
       go h w (inr (y, f)) = let (r, a, z, d, e) = begins L p v o x h f in (r, (a, z, d))
+
+-- k is at most n: the border sides end at different vertices
+pub borders-few : (n : ℕ) (L : List ℕ) → Good n L → borders L ≤ n
+borders-few n L g = le-not-lt (borders L) n (λ h. crowded n end (inside h) (apart h))
+  where
+    -- where border side i + 1 ends
+    end : ℕ → ℕ
+    end i = destination L (at (b2e L) i)
+
+    -- it is a side that ends there
+    side-of : (i : ℕ) → i < borders L → (s : ℕ) × BorderInto L (end i) s × (borderNumber L s ≡ i + 1)
+    side-of i l =
+        let (s, a, z, e) = numbered-border L (i + 1) (omega arith) (omega arith) in
+        let q : borderNumber L s - 1 ≡ i = omega arith in
+        (s, (a, z, ap (λ (r : ℕ). destination L r) (sym (b2e-border L s a z)) ∙ ap end q), e)
+
+    inside : n < borders L → (i : ℕ) → i ≤ n → (1 ≤ end i) × (end i ≤ n)
+    inside h i l =
+        let (s, (a, z, d), e) = side-of i (omega arith) in
+        let b = next-side L s a in
+        (omega (arith, d, g .fit .from _ b), omega (arith, d, g .fit .to _ b))
+
+    apart : n < borders L → (i j : ℕ) → i ≤ n → j ≤ n → end i ≡ end j → i ≡ j
+    apart h i j l m q =
+        let (s, (a, z, d), e) = side-of i (omega arith) in
+        let (t, (b, w, c), f) = side-of j (omega arith) in
+        let (from, to) = inside h i l in
+        let (o, x) = g .orders (end i) from to in
+        let r = one-border-into L (g .pairing) (end i) o x s t a z d b w (c ∙ sym q) in
+        omega (arith, ap (borderNumber L) r)

@@ -7,15 +7,16 @@ use mathlib.Core.List.{List}
 use Prim.Native.Nat.{ℕ, _*_, _≤_}
 use native.Mathlib.Omega.{arith}
 use lib.Dec.{T}
+use lib.ListN.{length}
 use Rattle.lists.specs.TestLaws.{Means, zero-or}
 use Rattle.rules.specs.Elements.{Side, origin, destination}
 use Rattle.rules.specs.Pairing.{TurnOrder, Accepted}
-use Rattle.rules.specs.Tables.{partner, borderNumber}
+use Rattle.rules.specs.Tables.{partner, borderNumber, borders}
 use Rattle.rules.specs.Refusals.{Answer, gives}
-use Rattle.rules.specs.Queries.{asked, isHalfEdge, readOpposite, readBorderSide, readVertexEntry, readOrigin, readDestination, opposite, ringSides, ring, neighbours, borderLoop, Walker, walkerStart, oppositeAnswer, nextAnswer, previousAnswer, elementAnswer, originAnswer, destinationAnswer, acrossAnswer, halfEdgeBorderAnswer, vertexBorderAnswer, ringAnswer, neighboursAnswer, borderLoopAnswer, startAnswer}
-use Rattle.theory.specs.Entries.{number-from, number-to, numbered-border}
+use Rattle.rules.specs.Queries.{Mesh, asked, isHalfEdge, isVertex, readOpposite, readBorderSide, readVertexEntry, readOrigin, readDestination, opposite, ringSides, ring, neighbours, borderLoop, Walker, walkerStart, oppositeAnswer, nextAnswer, previousAnswer, elementAnswer, originAnswer, destinationAnswer, acrossAnswer, halfEdgeBorderAnswer, vertexBorderAnswer, ringAnswer, neighboursAnswer, borderLoopAnswer, startAnswer}
+use Rattle.theory.specs.Entries.{length-b2e, number-from, number-to, numbered-border}
 use Rattle.theory.specs.Orders.{Good, good}
-use Rattle.theory.specs.Built.{built, asked-built, HalfEdge, side, border, means-half, read-paired, read-border, read-border-side, read-origin, read-destination, ReadEntry, rim, inner, read-entry}
+use Rattle.theory.specs.Built.{built, asked-built, HalfEdge, side, border, means-half, means-vertex, read-paired, read-border, read-border-side, read-origin, read-destination, ReadEntry, rim, inner, read-entry}
 use Rattle.theory.specs.Rings.{ListsOnce, the-ring, ring-lists}
 use Rattle.theory.specs.Opposites.{opposite-undone}
 use Rattle.theory.specs.Loops.{Border, LoopOf, border-loop}
@@ -24,43 +25,47 @@ use Rattle.theory.specs.Walkers.{HandsOut, walker-hands}
 use Rattle.theory.specs.Sound.{Sound, opposite-sound, next-sound, previous-sound, element-sound, origin-sound, destination-sound, across-sound, half-edge-border-sound, vertex-border-sound, ring-sound, neighbours-sound, border-loop-sound, start-sound}
 
 -- every read of built tables finds what it must
-pub record Reads (n : ℕ) (L : List ℕ) : Type 0 where
-  pub half-edges : (c : ℕ) → Means (isHalfEdge (built n L) c) (Side L c ⊎ ((b : ℕ) × Border L b × (c ≡ 8 * b)))
-  pub opposites : (s : ℕ) → Side L s → (c : ℕ) × T (isHalfEdge (built n L) c) × (readOpposite (built n L) s ≡ some c)
-  pub borders : (b : ℕ) → Border L b → (s : ℕ) × Side L s × (readBorderSide (built n L) (8 * b) ≡ some s)
-  pub entries : (v : ℕ) → 1 ≤ v → v ≤ n → (c : ℕ) × T (isHalfEdge (built n L) c) × (readVertexEntry (built n L) v ≡ some c)
-  pub origins : (s : ℕ) → Side L s → readOrigin (built n L) s ≡ some (origin L s)
-  pub destinations : (s : ℕ) → Side L s → readDestination (built n L) s ≡ some (destination L s)
+pub record Reads (n : ℕ) (L : List ℕ) (M : Mesh) : Type 0 where
+  pub half-edges : (c : ℕ) → Means (isHalfEdge M c) (Side L c ⊎ ((b : ℕ) × Border L b × (c ≡ 8 * b)))
+  pub opposites : (s : ℕ) → Side L s → (c : ℕ) × T (isHalfEdge M c) × (readOpposite M s ≡ some c)
+  pub borders : (b : ℕ) → Border L b → (s : ℕ) × Side L s × (readBorderSide M (8 * b) ≡ some s)
+  pub entries : (v : ℕ) → 1 ≤ v → v ≤ n → (c : ℕ) × T (isHalfEdge M c) × (readVertexEntry M v ≡ some c)
+  pub origins : (s : ℕ) → Side L s → readOrigin M s ≡ some (origin L s)
+  pub destinations : (s : ℕ) → Side L s → readDestination M s ≡ some (destination L s)
 
 -- "12 never comes"
-pub record Sounds (n : ℕ) (L : List ℕ) : Type 0 where
-  pub opposite : (c : ℕ) → Sound (oppositeAnswer (built n L) c)
-  pub next : (c : ℕ) → Sound (nextAnswer (built n L) c)
-  pub previous : (c : ℕ) → Sound (previousAnswer (built n L) c)
-  pub element : (c : ℕ) → Sound (elementAnswer (built n L) c)
-  pub origin : (c : ℕ) → Sound (originAnswer (built n L) c)
-  pub destination : (c : ℕ) → Sound (destinationAnswer (built n L) c)
-  pub across : (c : ℕ) → Sound (acrossAnswer (built n L) c)
-  pub half-edge-border : (c : ℕ) → Sound (halfEdgeBorderAnswer (built n L) c)
-  pub vertex-border : (v : ℕ) → Sound (vertexBorderAnswer (built n L) v)
-  pub ring : (v : ℕ) (out : List ℕ) → Sound (ringAnswer (built n L) v out)
-  pub neighbours : (v : ℕ) (out : List ℕ) → Sound (neighboursAnswer (built n L) v out)
-  pub border-loop : (b : ℕ) (out : List ℕ) → Sound (borderLoopAnswer (built n L) b out)
-  pub start : (v : ℕ) → Sound (startAnswer (built n L) v)
+pub record Sounds (M : Mesh) : Type 0 where
+  pub opposite : (c : ℕ) → Sound (oppositeAnswer M c)
+  pub next : (c : ℕ) → Sound (nextAnswer M c)
+  pub previous : (c : ℕ) → Sound (previousAnswer M c)
+  pub element : (c : ℕ) → Sound (elementAnswer M c)
+  pub origin : (c : ℕ) → Sound (originAnswer M c)
+  pub destination : (c : ℕ) → Sound (destinationAnswer M c)
+  pub across : (c : ℕ) → Sound (acrossAnswer M c)
+  pub half-edge-border : (c : ℕ) → Sound (halfEdgeBorderAnswer M c)
+  pub vertex-border : (v : ℕ) → Sound (vertexBorderAnswer M v)
+  pub ring : (v : ℕ) (out : List ℕ) → Sound (ringAnswer M v out)
+  pub neighbours : (v : ℕ) (out : List ℕ) → Sound (neighboursAnswer M v out)
+  pub border-loop : (b : ℕ) (out : List ℕ) → Sound (borderLoopAnswer M b out)
+  pub start : (v : ℕ) → Sound (startAnswer M v)
 
-pub record Served (n : ℕ) (L : List ℕ) : Type 0 where
-  pub checks : (a : Answer) → asked (built n L) a ≡ a
-  pub reads : Reads n L
-  pub turns : (v : ℕ) → 1 ≤ v → v ≤ n → (o : List ℕ) × (ringSides (built n L) v ≡ some o) × TurnOrder L (partner L) v o
-  pub rings : (v : ℕ) → 1 ≤ v → v ≤ n → (es : List ℕ) × (ring (built n L) v ≡ some es) × ListsOnce L v es
-  pub joined : (v : ℕ) → 1 ≤ v → v ≤ n → (us : List ℕ) × (neighbours (built n L) v ≡ some us) × ListsJoined L v us
-  pub undone : (c : ℕ) → T (isHalfEdge (built n L) c) → (d : ℕ) × T (isHalfEdge (built n L) d) × (opposite (built n L) c ≡ some d) × (opposite (built n L) d ≡ some c)
-  pub loops : (b : ℕ) → Border L b → (bs : List ℕ) × (borderLoop (built n L) b ≡ some bs) × LoopOf L b bs
-  pub sounds : Sounds n L
-  pub walks : (v : ℕ) → 1 ≤ v → v ≤ n → (w : Walker) → (es : List ℕ) × (ring (built n L) v ≡ some es) × (walkerStart (built n L) v w .answer ≡ gives 0 0) × HandsOut (built n L) (walkerStart (built n L) v w .walker) es
+-- M are the built tables of L
+pub record Served (n : ℕ) (L : List ℕ) (M : Mesh) : Type 0 where
+  pub list : M .list ≡ L
+  pub number : length (M .border) ≡ borders L
+  pub vertices : (v : ℕ) → Means (isVertex M v) ((1 ≤ v) × (v ≤ n))
+  pub checks : (a : Answer) → asked M a ≡ a
+  pub reads : Reads n L M
+  pub turns : (v : ℕ) → 1 ≤ v → v ≤ n → (o : List ℕ) × (ringSides M v ≡ some o) × TurnOrder L (partner L) v o
+  pub rings : (v : ℕ) → 1 ≤ v → v ≤ n → (es : List ℕ) × (ring M v ≡ some es) × ListsOnce L v es
+  pub joined : (v : ℕ) → 1 ≤ v → v ≤ n → (us : List ℕ) × (neighbours M v ≡ some us) × ListsJoined L v us
+  pub undone : (c : ℕ) → T (isHalfEdge M c) → (d : ℕ) × T (isHalfEdge M d) × (opposite M c ≡ some d) × (opposite M d ≡ some c)
+  pub loops : (b : ℕ) → Border L b → (bs : List ℕ) × (borderLoop M b ≡ some bs) × LoopOf L b bs
+  pub sounds : Sounds M
+  pub walks : (v : ℕ) → 1 ≤ v → v ≤ n → (w : Walker) → (es : List ℕ) × (ring M v ≡ some es) × (walkerStart M v w .answer ≡ gives 0 0) × HandsOut M (walkerStart M v w .walker) es
 
 module _ (n : ℕ) (L : List ℕ) (g : Good n L) where
-  reads-of : Reads n L
+  reads-of : Reads n L (built n L)
   reads-of =
       record {
         half-edges = half-edges;
@@ -96,7 +101,7 @@ module _ (n : ℕ) (L : List ℕ) (g : Good n L) where
       entries v (rim r a z d e) = (8 * borderNumber L r, half _ (border r a z refl), e)
       entries v (inner f s a e) = (s, half s (side (a .0)), e)
 
-  sounds-of : Sounds n L
+  sounds-of : Sounds (built n L)
   sounds-of =
       record {
         opposite = opposite-sound n L g;
@@ -115,10 +120,13 @@ module _ (n : ℕ) (L : List ℕ) (g : Good n L) where
       }
 
 -- theorem 6
-pub served : (n : ℕ) (L : List ℕ) → Accepted n L → Served n L
+pub served : (n : ℕ) (L : List ℕ) → Accepted n L → Served n L (built n L)
 served n L x =
     let g = good n L x in
     record {
+      list = refl;
+      number = length-b2e L;
+      vertices = means-vertex n L;
       checks = asked-built n L (g .fit);
       reads = reads-of n L g;
       turns = λ v h k. let r = the-ring n L g v h k in (r .sides, r .listed, r .order);

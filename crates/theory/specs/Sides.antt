@@ -8,11 +8,10 @@ use Prim.Native.Nat.{ℕ, _+_, _*_, _-_, _/_, _%_, _≤_, _<_}
 use native.Mathlib.Omega.{arith}
 use lib.Dec.{T, eqb, T-not}
 use lib.ListN.{length}
-use Rattle.lists.specs.Tests.{within}
 use Rattle.lists.specs.TestLaws.{Test, pass, fail, test, Means, decide, means-both, means-not, means-eq, means-lt, means-within}
 use Rattle.lists.specs.Search.{at}
 use Rattle.lists.specs.SearchLaws.{le-not-lt}
-use Rattle.rules.specs.Elements.{elements, corner, element, sidesBy, sides, isSide, Side, slot, sideAt}
+use Rattle.rules.specs.Elements.{elements, corner, sidesBy, sides, isSide, Side, slot, sideAt}
 
 -- an element has three or four sides
 pub data SidesBy (fourth k : ℕ) : Type 0 where

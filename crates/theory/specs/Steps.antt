@@ -6,7 +6,7 @@ use Prim.Native.Nat.{ℕ, _+_, _*_, _-_, _/_, _%_, _≤_}
 use native.Mathlib.Omega.{arith}
 use lib.Dec.{eqb}
 use Rattle.lists.specs.TestLaws.{Test, pass, fail, test, means-not, means-eq}
-use Rattle.rules.specs.Elements.{corner, element, number, sides, Side, nextNumber, previousNumber, next, previous}
+use Rattle.rules.specs.Elements.{corner, sides, Side, nextNumber, previousNumber, next, previous}
 use Rattle.theory.specs.Sides.{three, four, SidesBy, sides-by, side-facts, side-of}
 
 -- the number of the next side goes round, and that of the previous one back

@@ -1,23 +1,22 @@
 -- The tables of a list, read as the walk reads them: E2e speaks of the list's sides, and gives each side's turn and each walk's start.
 -- Assumes nothing.
-use mathlib.Core.Path.{_≡_, refl, ap, sym, subst, _∙_}
-use mathlib.Core.Bool.{Bool, true, false, not}
+use mathlib.Core.Path.{_≡_, refl, ap, sym, _∙_}
+use mathlib.Core.Bool.{Bool, not}
 use mathlib.Core.Logic.{_⊎_, inl, inr}
 use mathlib.Core.List.{List}
-use Prim.Native.Nat.{ℕ, suc, _+_, _*_, _-_, _/_, _%_, _≤_, _<_}
+use Prim.Native.Nat.{ℕ, _+_, _*_, _-_, _/_, _%_, _≤_}
 use native.Mathlib.Omega.{arith}
 use lib.Dec.{T, eqb, T-not, not-T}
 use lib.ListN.{length}
-use Rattle.lists.specs.TestLaws.{Test, pass, fail, test, true-of, false-of, Means, decide, means-not, means-eq, means-within, zero-or}
+use Rattle.lists.specs.TestLaws.{true-of, false-of, means-not, means-eq, means-within, zero-or}
 use Rattle.lists.specs.Tests.{within}
 use Rattle.lists.specs.Search.{at}
-use Rattle.rules.specs.Elements.{elements, corner, element, number, sides, sidesBy, isSide, Side, slot, origin, destination, next, nextNumber, sideAt, firstSide}
-use Rattle.rules.specs.Pairing.{opposed}
+use Rattle.rules.specs.Elements.{elements, corner, sides, isSide, Side, slot, next, sideAt, firstSide}
 use Rattle.rules.specs.Tables.{partner, borderNumber, e2e}
 use Rattle.rules.specs.Recovery.{sideOfBorder, walkStart, turnBy}
-use Rattle.theory.specs.Sides.{SidesBy, three, four, sides-by, SideFacts, side-facts, side-of, side-positive, sideAt-slot, slot-sideAt}
-use Rattle.theory.specs.Least.{First, nobody, somebody, first-side, first-found}
-use Rattle.theory.specs.Pairings.{partner-opposed, means-opposed}
+use Rattle.theory.specs.Sides.{SidesBy, three, four, sides-by, side-facts, side-of, side-positive, slot-sideAt}
+use Rattle.theory.specs.Least.{First, nobody, somebody, first-side}
+use Rattle.theory.specs.Pairings.{partner-opposed}
 use Rattle.theory.specs.Entries.{length-e2e, e2e-paired, e2e-border, e2e-empty, e2e-nonzero, border-no-side, number-from, number-le, number-inj}
 
 module _ (L : List ℕ) where

@@ -1,22 +1,21 @@
 -- The walk over a list's own tables: about each vertex it meets a fan of sides, and it writes the origins of these and nothing else.
 -- Assumes nothing.
-use mathlib.Core.Path.{_≡_, refl, ap, sym, subst, _∙_}
-use mathlib.Core.Bool.{Bool, true, false, not}
+use mathlib.Core.Path.{_≡_, refl, ap, sym, _∙_}
 use mathlib.Core.Logic.{_⊎_, inl, inr}
-use mathlib.Core.List.{List, [], _∷_}
-use Prim.Native.Nat.{ℕ, zero, suc, _+_, _*_, _-_, _/_, _≤_, _<_}
+use mathlib.Core.List.{List}
+use Prim.Native.Nat.{ℕ, zero, suc, _-_, _≤_, _<_}
 use native.Mathlib.Omega.{arith}
-use lib.Dec.{T, eqb, T-not, not-T}
-use lib.ListN.{length, replicate, length-replicate}
+use lib.Dec.{eqb, T-not}
+use lib.ListN.{length, length-replicate}
 use Rattle.lists.specs.TestLaws.{means-eq, zero-or}
 use Rattle.lists.specs.Search.{at, zeros}
 use Rattle.lists.specs.SearchLaws.{Met, member, lt-or-eq, at-blank}
 use Rattle.rules.specs.Elements.{Side, slot, origin, destination, next}
 use Rattle.rules.specs.Pairing.{Pairing, Turn, SideAt}
-use Rattle.rules.specs.Tables.{partner, borderNumber, e2e, v2e}
+use Rattle.rules.specs.Tables.{partner, e2e, v2e}
 use Rattle.rules.specs.Recovery.{walkStart, turnBy, trace, walkTo, walk}
 use Rattle.theory.specs.Sides.{side-positive, slot-inj}
-use Rattle.theory.specs.Least.{First, nobody, somebody}
+use Rattle.theory.specs.Least.{nobody, somebody}
 use Rattle.theory.specs.Steps.{next-side}
 use Rattle.theory.specs.Entries.{VertexEntry, rim, inner, vertex-entry, length-v2e}
 use Rattle.theory.specs.Turns.{side-e2e, e2e-side, turn-paired, turn-border, start-rim, start-side, start-none}

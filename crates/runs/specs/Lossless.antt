@@ -1,0 +1,456 @@
+-- Nothing is lost in the one number that an exported call returns. That needs a bound on every number that each call can answer.
+-- Assumes nothing.
+use mathlib.Core.Path.{_≡_, ap, sym, subst, _∙_}
+use mathlib.Core.Bool.{Bool, true, false}
+use mathlib.Core.Logic.{_⊎_, inl, inr}
+use mathlib.Core.Option.{Option, none, some}
+use mathlib.Core.List.{List, [], _∷_}
+use Prim.Native.Nat.{ℕ, zero, suc, _+_, _*_, _/_, _%_, _≤_, _<_}
+use native.Mathlib.Omega.{arith}
+use lib.Dec.{T, leb, eqb}
+use lib.ListN.{length}
+use Rattle.lists.specs.Tests.{both, within}
+use Rattle.lists.specs.TestLaws.{Test, pass, fail, test, passes, means-itself, means-both, means-either, means-eq, means-le, means-within}
+use Rattle.lists.specs.SearchLaws.{count-bound}
+use Rattle.rules.specs.Elements.{maxVertex, maxElement, elements, element, number, sides, isSide, Side, next, sideWith, firstSide, countSides}
+use Rattle.rules.specs.Elements.{firstVertex}
+use Rattle.rules.specs.Pairing.{sizesFit, unfitCorner, repeatedCorner}
+use Rattle.rules.specs.Tables.{borders, edges}
+use Rattle.rules.specs.Refusals.{Answer, gives, refused, Buffers, unusedVertex, crowdedSide, alikeSide, unorderedVertex, sideCheck, vertexCheck}
+use Rattle.rules.specs.Refusals.{listAnswer, callSizes, lengthChecks, roomCheck, buildAnswer, recovers, recoverAnswer}
+use Rattle.rules.specs.Queries.{Mesh, asked, defined, found, listed, andThen, prepend, readAll, read, bySide, follow, over, isBorderCode, isHalfEdge}
+use Rattle.rules.specs.Queries.{isVertex, readOpposite, readBorderSide, readVertexEntry, readOrigin, readDestination, opposite, borderNext, startSide}
+use Rattle.rules.specs.Queries.{onward, ringSides, ring, neighbours, loopNext, borderLoop, listedAnswer, oppositeAnswer, nextAnswer, previousAnswer}
+use Rattle.rules.specs.Queries.{elementAnswer, originAnswer, destinationAnswer, acrossAnswer, halfEdgeBorderAnswer, vertexBorderAnswer, ringAnswer}
+use Rattle.rules.specs.Queries.{neighboursAnswer, borderLoopAnswer, Walker, startAnswer, walkerStart, goesTo, moved, walkerStep}
+use Rattle.theory.specs.Sides.{side-facts}
+use Rattle.theory.specs.Least.{First, nobody, somebody, first-side, FirstVertex, first-vertex}
+use Rattle.theory.specs.Steps.{NextNumber, wraps, grows, next-number, previous-side}
+use Rattle.theory.specs.FitRows.{means-sizes}
+use Rattle.theory.specs.Built.{borders-bound}
+use Rattle.answer.specs.Numbers.{packedAnswer, unpacked}
+use Rattle.answer.specs.Packing.{Fits, unpack-packed}
+use Rattle.runs.specs.Runs.{BuildRun, RecoverRun, StepRun, walked-answers, Called, opposite-of, next-of, previous-of, element-of, origin-of}
+use Rattle.runs.specs.Runs.{destination-of, across-of, half-edge-border-of, vertex-border-of, ring-of, neighbours-of, border-loop-of, start-of}
+
+-- what check 1 says of n and the list
+abbrev Sized : ℕ → List ℕ → Type 0
+Sized n L = (n ≤ maxVertex) × ((elements L ≤ maxElement) × (length L ≡ 4 * elements L))
+
+-- an answer after checks 1 and 2
+lengths-fit : (sizes lengths : Bool) (a : Answer) → (T sizes → T lengths → Fits a) → Fits (lengthChecks sizes lengths a)
+unfolding lengthChecks
+lengths-fit true true a f = f tt tt
+lengths-fit true false a f = omega arith
+lengths-fit false lengths a f = omega arith
+
+sizes-of : (n : ℕ) (X Y : List ℕ) → T (callSizes n X Y) → T (sizesFit n X)
+unfolding callSizes
+sizes-of n X Y t = passes (sizesFit n X) (eqb (length Y) (4 * elements Y)) t .0
+
+-- build: the places of refusals 3 to 8, k and the edges
+side-fits : (r s : ℕ) (rest : Answer) → 1 ≤ r → r < 256 → s < 268_435_456 → Fits rest → Fits (sideCheck r s rest)
+unfolding sideCheck
+side-fits r s rest l h i f = go (test (eqb s 0))
+  where
+    go : Test (eqb s 0) → Fits (sideCheck r s rest)
+    go (pass t e) = rw (e, sideCheck) f
+    go (fail t e) = rw (e, sideCheck) (omega arith)
+
+vertex-fits : (r v : ℕ) (rest : Answer) → 1 ≤ r → r < 256 → v < 268_435_456 → Fits rest → Fits (vertexCheck r v rest)
+unfolding vertexCheck
+vertex-fits r v rest l h i f = go (test (eqb v 0))
+  where
+    go : Test (eqb v 0) → Fits (vertexCheck r v rest)
+    go (pass t e) = rw (e, vertexCheck) f
+    go (fail t e) = rw (e, vertexCheck) (omega arith)
+
+room-fits : (room : ℕ) (a : Answer) → Fits a → Fits (roomCheck room a)
+unfolding roomCheck
+room-fits room (refused r a b) f = f
+room-fits room (gives k e) (i, j) = go (test (leb k room))
+  where
+    go : Test (leb k room) → Fits (roomCheck room (gives k e))
+    go (pass t z) = rw (z, roomCheck) (i, j)
+    go (fail t z) = rw (z, roomCheck) (omega arith)
+
+-- a side of a list of at most 1,000,000 elements
+side-small : (L : List ℕ) (s : ℕ) → elements L ≤ maxElement → Side L s → s < 268_435_456
+side-small L s h a = omega (arith, side-facts L s a)
+
+found-small : (L : List ℕ) (t : ℕ → Bool) {s : ℕ} → elements L ≤ maxElement → First L t s → s < 268_435_456
+found-small L t h (nobody e f) = omega arith
+found-small L t {s} h (somebody a u f) = side-small L s h a
+
+vertex-small : (n : ℕ) (t : ℕ → Bool) {v : ℕ} → n ≤ maxVertex → FirstVertex n t v → v < 268_435_456
+vertex-small n t h (FirstVertex.nobody e f) = omega arith
+vertex-small n t h (FirstVertex.somebody a b u f) = omega arith
+
+module _ (n : ℕ) (L : List ℕ) (z : Sized n L) where
+  side : (t : ℕ → Bool) → firstSide L t < 268_435_456
+  side t = found-small L t (z .1 .0) (first-side L t)
+
+  vertex : (t : ℕ → Bool) → firstVertex n t < 268_435_456
+  vertex t = vertex-small n t (z .0) (first-vertex n t)
+
+  counts-fit : Fits (gives (borders L) (edges L))
+  unfolding edges countSides
+  counts-fit = (
+    omega (arith, borders-bound L),
+    omega (arith, borders-bound L, count-bound (sideWith L (λ s. true)) (length L)),
+  )
+
+  list-fits : Fits (listAnswer n L)
+  unfolding listAnswer unfitCorner repeatedCorner unusedVertex crowdedSide alikeSide unorderedVertex
+  list-fits =
+      side-fits 3 _ _ (omega arith) (omega arith) (side _)
+      (side-fits 4 _ _ (omega arith) (omega arith) (side _)
+      (vertex-fits 5 _ _ (omega arith) (omega arith) (vertex _)
+      (side-fits 6 _ _ (omega arith) (omega arith) (side _)
+      (side-fits 7 _ _ (omega arith) (omega arith) (side _)
+      (vertex-fits 8 _ _ (omega arith) (omega arith) (vertex _) counts-fit)))))
+
+pub build-fits : (n : ℕ) (L : List ℕ) (w : Buffers) → Fits (buildAnswer n L w)
+unfolding buildAnswer
+build-fits n L w =
+    lengths-fit (callSizes n L (w .opposites)) _ _
+    (λ s l. room-fits (length (w .border)) (listAnswer n L) (list-fits n L (means-sizes n L .says (sizes-of n L (w .opposites) s))))
+
+pub recover-fits : (n : ℕ) (V2e E2e list work : List ℕ) → Fits (recoverAnswer n V2e E2e list work)
+unfolding recoverAnswer
+recover-fits n V2e E2e list work = lengths-fit (callSizes n E2e list) _ _ (λ s l. go (recovers n V2e E2e))
+  where
+    go : (b : Bool) → Fits (elim b [ true ↦ gives 0 0 | false ↦ refused 10 0 0 ])
+    go true = omega arith
+    go false = omega arith
+
+-- what can be read is small, and a list that can be read is short
+abbrev Small : Option ℕ → Type 0
+Small none = Unit {0}
+Small (some x) = x < 200_000_000
+
+abbrev Short : ℕ → Option (List ℕ) → Type 0
+Short j none = Unit {0}
+Short j (some xs) = length xs ≤ j
+
+found-fits : (r : Option ℕ) → Small r → Fits (found r)
+unfolding found
+found-fits none h = omega arith
+found-fits (some x) h = omega arith
+
+listed-fits : (room j : ℕ) (r : Option (List ℕ)) → j < 268_435_456 → Short j r → Fits (listed room r)
+unfolding listed
+listed-fits room j none l h = omega arith
+listed-fits room j (some xs) l h = go (test (leb (length xs) room))
+  where
+    go : Test (leb (length xs) room) → Fits (listed room (some xs))
+    go (pass t e) = rw (e, listed) (omega arith)
+    go (fail t e) = rw (e, listed) (omega arith)
+
+defined-fits : (there : Bool) (a : Answer) → (T there → Fits a) → Fits (defined there a)
+unfolding defined
+defined-fits true a f = f tt
+defined-fits false a f = omega arith
+
+read-small : (valid : ℕ → Bool) (x : ℕ) → (T (valid x) → x < 200_000_000) → Small (read valid x)
+read-small valid x f = go (test (valid x))
+  where
+    go : Test (valid x) → Small (read valid x)
+    go (pass t e) = rw (e, read) (f t)
+    go (fail t e) = rw (e, read) tt
+
+then-small : (r : Option ℕ) (f : ℕ → Option ℕ) → Small r → ((x : ℕ) → x < 200_000_000 → Small (f x)) → Small (andThen r f)
+unfolding andThen
+then-small none f h g = tt
+then-small (some x) f h g = g x h
+
+then-short : (j : ℕ) (r : Option ℕ) (f : ℕ → Option (List ℕ)) → ((x : ℕ) → Short j (f x)) → Short j (andThen r f)
+unfolding andThen
+then-short j none f g = tt
+then-short j (some x) f g = g x
+
+prepend-short : (j x : ℕ) (r : Option (List ℕ)) → Short j r → Short (suc j) (prepend x r)
+unfolding prepend
+prepend-short j x none h = tt
+prepend-short j x (some xs) h = omega arith
+
+follow-short : (step : ℕ → Option ℕ) (j x : ℕ) → Short j (follow step j x)
+unfolding follow
+follow-short step zero x = tt
+follow-short step (suc j) x = then-short (suc j) (step x) _ (λ y. go y (follow-short step j y) (test (eqb y 0)))
+  where
+    go : (y : ℕ) → Short j (follow step j y) → Test (eqb y 0) → Short (suc j) (elim (eqb y 0) [ true ↦ some (x ∷ []) | false ↦ prepend x (follow step j y) ])
+    go y h (pass t e) = rw e (omega arith)
+    go y h (fail t e) = rw e (prepend-short j x (follow step j y) h)
+
+all-short : (f : ℕ → Option ℕ) (xs : List ℕ) → Short (length xs) (readAll f xs)
+unfolding readAll
+all-short f [] = omega arith
+all-short f (x ∷ xs) = then-short (suc (length xs)) (f x) _ (λ y. prepend-short (length xs) y (readAll f xs) (all-short f xs))
+
+over-short : (j : ℕ) (f : ℕ → Option ℕ) (r : Option (List ℕ)) → Short j r → Short j (over f r)
+unfolding over
+over-short j f none h = tt
+over-short j f (some xs) h = weaker (readAll f xs) (all-short f xs)
+  where
+    weaker : (r : Option (List ℕ)) → Short (length xs) r → Short j r
+    weaker none g = tt
+    weaker (some ys) g = omega arith
+
+next-near : (L : List ℕ) (c : ℕ) → next L c ≤ c + 1
+unfolding next
+next-near L c = go (next-number (sides L (c / 8)) (c % 8))
+  where
+    go : {i : ℕ} → NextNumber (sides L (c / 8)) (c % 8) i → 8 * (c / 8) + i ≤ c + 1
+    go (wraps e q) = omega arith
+    go (grows e q) = omega arith
+
+-- what checks 1 and 2 say of a mesh of any content
+record Bounded (M : Mesh) : Type 0 where
+  vertices : M .n ≤ maxVertex
+  size : elements (M .list) ≤ maxElement
+  border : length (M .border) ≤ 4 * elements (M .list)
+
+module _ (M : Mesh) where
+  asked-fits : (a : Answer) → (Bounded M → Fits a) → Fits (asked M a)
+  unfolding asked
+  asked-fits a f =
+      lengths-fit (callSizes (M .n) (M .list) (M .opposites)) _ a
+      (λ s l.
+      let (v, (e, q)) = means-sizes (M .n) (M .list) .says (sizes-of (M .n) (M .list) (M .opposites) s) in
+      let (p, (o, b)) =
+      means-both (means-eq (length (M .vertices)) (M .n))
+      (means-both (means-eq (length (M .opposites)) (4 * elements (M .list))) (means-le (length (M .border)) (4 * elements (M .list)))) .says l in
+      f (record { vertices = v; size = e; border = b }))
+
+  module _ (k : Bounded M) where
+    border-small : (c : ℕ) → T (isBorderCode M c) → c < 200_000_000
+    unfolding isBorderCode
+    border-small c t =
+        let (z, (from, to)) = means-both (means-eq (number c) 0) (means-within 1 (length (M .border)) (element c)) .says t in
+        omega (arith, k .size, k .border)
+
+    half-small : (c : ℕ) → T (isHalfEdge M c) → c < 200_000_000
+    unfolding isHalfEdge
+    half-small c t = go (means-either (means-itself (isSide (M .list) c)) (means-itself (isBorderCode M c)) .says t)
+      where
+        go : Side (M .list) c ⊎ T (isBorderCode M c) → c < 200_000_000
+        go (inl a) = omega (arith, side-facts (M .list) c a, k .size)
+        go (inr u) = border-small c u
+
+    side-code : (c : ℕ) → Side (M .list) c → c < 200_000_000
+    side-code c a = omega (arith, side-facts (M .list) c a, k .size)
+
+    vertex-code : (v : ℕ) → T (isVertex M v) → v < 200_000_000
+    unfolding isVertex
+    vertex-code v t = omega (arith, means-within 1 (M .n) v .says t, k .vertices)
+
+    opposite-small : (s : ℕ) → Small (readOpposite M s)
+    unfolding readOpposite
+    opposite-small s = read-small (isHalfEdge M) _ (half-small _)
+
+    border-side-small : (c : ℕ) → Small (readBorderSide M c)
+    unfolding readBorderSide
+    border-side-small c = read-small (isSide (M .list)) _ (side-code _)
+
+    origin-small : (s : ℕ) → Small (readOrigin M s)
+    unfolding readOrigin
+    origin-small s = read-small (isVertex M) _ (vertex-code _)
+
+    destination-small : (s : ℕ) → Small (readDestination M s)
+    unfolding readDestination
+    destination-small s = read-small (isVertex M) _ (vertex-code _)
+
+    next-small : (c : ℕ) → Small (borderNext M c)
+    unfolding borderNext
+    next-small c =
+        then-small (readBorderSide M c) _ (border-side-small c)
+        (λ s h. then-small (readOrigin M s) _ (origin-small s) (λ v i. read-small (isBorderCode M) _ (border-small _)))
+
+    by-small : (c : ℕ) (p q : Option ℕ) → Small p → Small q → Small (bySide c p q)
+    by-small c p q h i = go (test (eqb (number c) 0))
+      where
+        go : Test (eqb (number c) 0) → Small (bySide c p q)
+        go (pass t e) = rw (e, bySide) i
+        go (fail t e) = rw (e, bySide) h
+
+  -- an answer of one number, and of a list
+  one-fits : (there : Bool) (r : Option ℕ) → (Bounded M → T there → Small r) → Fits (asked M (defined there (found r)))
+  one-fits there r f = asked-fits _ (λ k. defined-fits there _ (λ t. found-fits r (f k t)))
+
+  lists-fit : (there : Bool) (j : ℕ) (r : Option (List ℕ)) (out : List ℕ) → (Bounded M → j < 268_435_456) → Short j r → Fits (listedAnswer M there r out)
+  unfolding listedAnswer
+  lists-fit there j r out f h = asked-fits _ (λ k. defined-fits there _ (λ t. listed-fits (length out) j r (f k) h))
+
+  pub opposite-fits : (c : ℕ) → Fits (oppositeAnswer M c)
+  unfolding oppositeAnswer opposite
+  opposite-fits c =
+      one-fits (isHalfEdge M c) _ (λ k t. by-small k c (readOpposite M c) (readBorderSide M c) (opposite-small k c) (border-side-small k c))
+
+  pub next-fits : (c : ℕ) → Fits (nextAnswer M c)
+  unfolding nextAnswer found
+  next-fits c =
+      asked-fits _
+      (λ k.
+      defined-fits (isHalfEdge M c) _
+      (λ t. next-found k (test (eqb (number c) 0)) (half-small k c t)))
+    where
+      near : c < 200_000_000 → Fits (found (some (next (M .list) c)))
+      near h = omega (arith, next-near (M .list) c)
+
+      next-found : Bounded M → Test (eqb (number c) 0) → c < 200_000_000 → Fits (found (bySide c (some (next (M .list) c)) (borderNext M c)))
+      next-found k (pass t e) h = rw (e, bySide) (found-fits (borderNext M c) (next-small k c))
+      next-found k (fail t e) h = rw (e, bySide) (near h)
+
+  pub previous-fits : (c : ℕ) → Fits (previousAnswer M c)
+  unfolding previousAnswer
+  previous-fits c =
+      asked-fits _
+      (λ k. defined-fits (isSide (M .list) c) _ (λ a. omega (arith, side-code k _ (previous-side (M .list) c a))))
+
+  pub element-fits : (c : ℕ) → Fits (elementAnswer M c)
+  unfolding elementAnswer
+  element-fits c =
+      asked-fits _ (λ k. defined-fits (isSide (M .list) c) _ (λ a. omega (arith, side-code k c a)))
+
+  pub origin-fits : (c : ℕ) → Fits (originAnswer M c)
+  unfolding originAnswer
+  origin-fits c =
+      one-fits (isHalfEdge M c) _
+      (λ k t.
+      by-small k c (readOrigin M c) _ (origin-small k c)
+      (then-small (readBorderSide M c) _ (border-side-small k c) (λ s h. destination-small k s)))
+
+  pub destination-fits : (c : ℕ) → Fits (destinationAnswer M c)
+  unfolding destinationAnswer
+  destination-fits c =
+      one-fits (isHalfEdge M c) _
+      (λ k t.
+      by-small k c (readDestination M c) _ (destination-small k c)
+      (then-small (readBorderSide M c) _ (border-side-small k c) (λ s h. origin-small k s)))
+
+  -- a number by the kind of half-edge
+  kind-small : (t x y : ℕ) → x < 200_000_000 → y < 200_000_000 → bySide t x y < 200_000_000
+  kind-small t x y h i = go (test (eqb (number t) 0))
+    where
+      go : Test (eqb (number t) 0) → bySide t x y < 200_000_000
+      go (pass u e) = rw (e, bySide) i
+      go (fail u e) = rw (e, bySide) h
+
+  pub across-fits : (c : ℕ) → Fits (acrossAnswer M c)
+  unfolding acrossAnswer
+  across-fits c =
+      one-fits (isSide (M .list) c) _
+      (λ k a. then-small (readOpposite M c) _ (opposite-small k c) (λ t h. kind-small t (element t) 0 (omega arith) (omega arith)))
+
+  pub half-edge-border-fits : (c : ℕ) → Fits (halfEdgeBorderAnswer M c)
+  unfolding halfEdgeBorderAnswer
+  half-edge-border-fits c =
+      asked-fits _ (λ k. defined-fits (isHalfEdge M c) _ (λ t. omega (arith, kind-small c 0 1 (omega arith) (omega arith))))
+
+  pub vertex-border-fits : (v : ℕ) → Fits (vertexBorderAnswer M v)
+  unfolding vertexBorderAnswer readVertexEntry
+  vertex-border-fits v =
+      one-fits (isVertex M v) _
+      (λ k t.
+      then-small (readVertexEntry M v) _ (read-small (isHalfEdge M) _ (half-small k _))
+      (λ c h. kind-small c 0 1 (omega arith) (omega arith)))
+
+  sides-short : (v : ℕ) → Short (elements (M .list)) (ringSides M v)
+  unfolding ringSides
+  sides-short v = then-short (elements (M .list)) (startSide M v) _ (λ s. follow-short (onward M s) (elements (M .list)) s)
+
+  pub ring-fits : (v : ℕ) (out : List ℕ) → Fits (ringAnswer M v out)
+  unfolding ringAnswer ring
+  ring-fits v out =
+      lists-fit (isVertex M v) (elements (M .list)) _ out (λ k. omega (arith, k .size))
+      (over-short (elements (M .list)) (λ s. some (element s)) (ringSides M v) (sides-short v))
+
+  pub neighbours-fits : (v : ℕ) (out : List ℕ) → Fits (neighboursAnswer M v out)
+  unfolding neighboursAnswer neighbours
+  neighbours-fits v out =
+      let j = elements (M .list) in
+      let ends = over (readDestination M) (ringSides M v) in
+      let short = over-short j (readDestination M) (ringSides M v) (sides-short v) in
+      lists-fit (isVertex M v) (suc j) _ out (λ k. omega (arith, k .size))
+      (then-short (suc j) (readVertexEntry M v) _ (λ c. by-kind c (test (eqb (number c) 0)) ends short))
+    where
+      by-kind : (c : ℕ) → Test (eqb (number c) 0) → (ends : Option (List ℕ)) → Short (elements (M .list)) ends
+          → Short (suc (elements (M .list))) (bySide c ends (andThen (readBorderSide M c) (λ s. andThen (readOrigin M s) (λ u. prepend u ends))))
+      by-kind c (pass t e) ends h =
+          rw (e, bySide)
+          (then-short _ (readBorderSide M c) _ (λ s. then-short _ (readOrigin M s) _ (λ u. prepend-short _ u ends h)))
+      by-kind c (fail t e) none h = rw (e, bySide) tt
+      by-kind c (fail t e) (some xs) h = rw (e, bySide) (omega arith)
+
+  pub border-loop-fits : (b : ℕ) (out : List ℕ) → Fits (borderLoopAnswer M b out)
+  unfolding borderLoopAnswer borderLoop
+  border-loop-fits b out =
+      let j = length (M .border) in
+      lists-fit (within 1 j b) j _ out (λ k. omega (arith, k .border, k .size)) (follow-short (loopNext M b) j b)
+
+  pub start-fits : (v : ℕ) (w : Walker) → Fits (walkerStart M v w .answer)
+  unfolding walkerStart startAnswer andThen
+  start-fits v w =
+      subst Fits (sym (walked-answers (startAnswer M v) _ w))
+      (one-fits (isVertex M v) _ (λ k t. last (startSide M v)))
+    where
+      last : (r : Option ℕ) → Small (andThen r (λ s. some 0))
+      last none = tt
+      last (some s) = omega arith
+
+  pub step-fits : (w : Walker) → Fits (walkerStep M w .answer)
+  unfolding walkerStep goesTo andThen
+  step-fits w = go (test (eqb (w .following) 0))
+    where
+      inside : Bool
+      inside = both (isSide (M .list) (w .start)) (both (isSide (M .list) (w .following)) (leb (w .handed + 1) (elements (M .list))))
+
+      after-some : (r : Option ℕ) → element (w .following) < 200_000_000 → Small (andThen r (λ t. some (element (w .following))))
+      after-some none h = tt
+      after-some (some x) h = h
+
+      small : Bounded M → Test inside → Small (andThen (goesTo M w) (λ t. some (element (w .following))))
+      small k (pass t e) =
+          let (a, (b, c)) = means-both (means-itself (isSide (M .list) (w .start))) (means-both (means-itself (isSide (M .list) (w .following))) (means-itself _)) .says t in
+          after-some (goesTo M w) (omega (arith, side-code k (w .following) b))
+      small k (fail t e) = rw (e, goesTo) tt
+
+      go : Test (eqb (w .following) 0) → Fits (walkerStep M w .answer)
+      go (pass t e) = rw (e, walkerStep) (subst Fits (sym (walked-answers (asked M (gives 0 0)) w w)) (asked-fits _ (λ k. omega arith)))
+      go (fail t e) =
+          rw (e, walkerStep)
+          (subst Fits (sym (walked-answers (asked M (found (andThen (goesTo M w) (λ t. some (element (w .following)))))) (moved M w (goesTo M w)) w))
+          (asked-fits _ (λ k. found-fits _ (small k (test inside)))))
+
+-- an answer of an exported call
+pub data Exported (a : Answer) : Type 0 where
+  of-build : (n : ℕ) (L : List ℕ) (w w′ : Buffers) → BuildRun n L w a w′ → Exported a
+  of-recovery : (n : ℕ) (V2e E2e list work list′ work′ : List ℕ) → RecoverRun n V2e E2e list work a list′ work′ → Exported a
+  of-query : (M : Mesh) → Called M a → Exported a
+  of-step : (M : Mesh) (w w′ : Walker) → StepRun M w a w′ → Exported a
+
+called-fits : (M : Mesh) (a : Answer) → Called M a → Fits a
+called-fits M a (opposite-of c e) = subst Fits (sym e) (opposite-fits M c)
+called-fits M a (next-of c e) = subst Fits (sym e) (next-fits M c)
+called-fits M a (previous-of c e) = subst Fits (sym e) (previous-fits M c)
+called-fits M a (element-of c e) = subst Fits (sym e) (element-fits M c)
+called-fits M a (origin-of c e) = subst Fits (sym e) (origin-fits M c)
+called-fits M a (destination-of c e) = subst Fits (sym e) (destination-fits M c)
+called-fits M a (across-of c e) = subst Fits (sym e) (across-fits M c)
+called-fits M a (half-edge-border-of c e) = subst Fits (sym e) (half-edge-border-fits M c)
+called-fits M a (vertex-border-of v e) = subst Fits (sym e) (vertex-border-fits M v)
+called-fits M a (ring-of v out e) = subst Fits (sym e) (ring-fits M v out)
+called-fits M a (neighbours-of v out e) = subst Fits (sym e) (neighbours-fits M v out)
+called-fits M a (border-loop-of b out e) = subst Fits (sym e) (border-loop-fits M b out)
+called-fits M a (start-of v w w′ run) = subst Fits (sym (run .answer)) (start-fits M v w)
+
+exported-fits : (a : Answer) → Exported a → Fits a
+exported-fits a (of-build n L w w′ run) = subst Fits (sym (run .answer)) (build-fits n L w)
+exported-fits a (of-recovery n V2e E2e list work list′ work′ run) = subst Fits (sym (run .answer)) (recover-fits n V2e E2e list work)
+exported-fits a (of-query M c) = called-fits M a c
+exported-fits a (of-step M w w′ run) = subst Fits (sym (run .answer)) (step-fits M w)
+
+-- what an exported call returns, r, taken apart by the header's formulas, is the rule's answer
+pub lossless : (a : Answer) → Exported a → (r : ℕ) → r ≡ packedAnswer a → unpacked r ≡ a
+lossless a x r e = ap (λ (y : ℕ). unpacked y) e ∙ unpack-packed a (exported-fits a x)

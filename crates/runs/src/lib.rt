@@ -1,0 +1,1 @@
+// Theorems about runs of the calls, from end to end; they stand in specs/.
