@@ -1,5 +1,7 @@
 pub mod Runs
+pub mod Contracts
 pub mod Demand3
 pub mod OnBuilt
 pub mod RoundTrip
-pub mod Lossless
+pub mod Bounds
+pub mod Exports

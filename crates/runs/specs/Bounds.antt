@@ -1,6 +1,6 @@
--- Nothing is lost in the one number that an exported call returns. That needs a bound on every number that each call can answer.
+-- A bound on every number that each call can answer, so that nothing is lost in the packed number.
 -- Assumes nothing.
-use mathlib.Core.Path.{_≡_, ap, sym, subst, _∙_}
+use mathlib.Core.Path.{_≡_, sym, subst}
 use mathlib.Core.Bool.{Bool, true, false}
 use mathlib.Core.Logic.{_⊎_, inl, inr}
 use mathlib.Core.Option.{Option, none, some}
@@ -28,10 +28,8 @@ use Rattle.theory.specs.Least.{First, nobody, somebody, first-side, FirstVertex
 use Rattle.theory.specs.Steps.{NextNumber, wraps, grows, next-number, previous-side}
 use Rattle.theory.specs.FitRows.{means-sizes}
 use Rattle.theory.specs.Built.{borders-bound}
-use Rattle.answer.specs.Numbers.{packedAnswer, unpacked}
-use Rattle.answer.specs.Packing.{Fits, unpack-packed}
-use Rattle.runs.specs.Runs.{BuildRun, RecoverRun, StepRun, walked-answers, Called, opposite-of, next-of, previous-of, element-of, origin-of}
-use Rattle.runs.specs.Runs.{destination-of, across-of, half-edge-border-of, vertex-border-of, ring-of, neighbours-of, border-loop-of, start-of}
+use Rattle.answer.specs.Packing.{Fits}
+use Rattle.runs.specs.Runs.{walked-answers}
 
 -- what check 1 says of n and the list
 abbrev Sized : ℕ → List ℕ → Type 0
@@ -422,35 +420,3 @@ module _ (M : Mesh) where
           rw (e, walkerStep)
           (subst Fits (sym (walked-answers (asked M (found (andThen (goesTo M w) (λ t. some (element (w .following)))))) (moved M w (goesTo M w)) w))
           (asked-fits _ (λ k. found-fits _ (small k (test inside)))))
-
--- an answer of an exported call
-pub data Exported (a : Answer) : Type 0 where
-  of-build : (n : ℕ) (L : List ℕ) (w w′ : Buffers) → BuildRun n L w a w′ → Exported a
-  of-recovery : (n : ℕ) (V2e E2e list work list′ work′ : List ℕ) → RecoverRun n V2e E2e list work a list′ work′ → Exported a
-  of-query : (M : Mesh) → Called M a → Exported a
-  of-step : (M : Mesh) (w w′ : Walker) → StepRun M w a w′ → Exported a
-
-called-fits : (M : Mesh) (a : Answer) → Called M a → Fits a
-called-fits M a (opposite-of c e) = subst Fits (sym e) (opposite-fits M c)
-called-fits M a (next-of c e) = subst Fits (sym e) (next-fits M c)
-called-fits M a (previous-of c e) = subst Fits (sym e) (previous-fits M c)
-called-fits M a (element-of c e) = subst Fits (sym e) (element-fits M c)
-called-fits M a (origin-of c e) = subst Fits (sym e) (origin-fits M c)
-called-fits M a (destination-of c e) = subst Fits (sym e) (destination-fits M c)
-called-fits M a (across-of c e) = subst Fits (sym e) (across-fits M c)
-called-fits M a (half-edge-border-of c e) = subst Fits (sym e) (half-edge-border-fits M c)
-called-fits M a (vertex-border-of v e) = subst Fits (sym e) (vertex-border-fits M v)
-called-fits M a (ring-of v out e) = subst Fits (sym e) (ring-fits M v out)
-called-fits M a (neighbours-of v out e) = subst Fits (sym e) (neighbours-fits M v out)
-called-fits M a (border-loop-of b out e) = subst Fits (sym e) (border-loop-fits M b out)
-called-fits M a (start-of v w w′ run) = subst Fits (sym (run .answer)) (start-fits M v w)
-
-exported-fits : (a : Answer) → Exported a → Fits a
-exported-fits a (of-build n L w w′ run) = subst Fits (sym (run .answer)) (build-fits n L w)
-exported-fits a (of-recovery n V2e E2e list work list′ work′ run) = subst Fits (sym (run .answer)) (recover-fits n V2e E2e list work)
-exported-fits a (of-query M c) = called-fits M a c
-exported-fits a (of-step M w w′ run) = subst Fits (sym (run .answer)) (step-fits M w)
-
--- what an exported call returns, r, taken apart by the header's formulas, is the rule's answer
-pub lossless : (a : Answer) → Exported a → (r : ℕ) → r ≡ packedAnswer a → unpacked r ≡ a
-lossless a x r e = ap (λ (y : ℕ). unpacked y) e ∙ unpack-packed a (exported-fits a x)

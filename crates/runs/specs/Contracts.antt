@@ -1,0 +1,103 @@
+-- Each run is what the call's own contract says: `Post` of a function holds its `ensures` of the arguments a, the result r and what its `&mut`
+-- arguments hold at exit, s.
+-- Assumes nothing.
+use mathlib.Core.Path.{_≡_}
+use Prim.Native.Nat.{ℕ}
+use contract.Lifetimes.{Lfts}
+use borrow.Fn.Kinds.{Dens, resT, endedOf}
+use denote.Triple.Clauses.{AtExit}
+use Rattle.rules.specs.Refusals.{Buffers}
+use Rattle.rules.specs.Queries.{Mesh, oppositeAnswer, nextAnswer, previousAnswer, elementAnswer, originAnswer, destinationAnswer, acrossAnswer}
+use Rattle.rules.specs.Queries.{halfEdgeBorderAnswer, vertexBorderAnswer}
+use Rattle.answer.specs.Numbers.{numbers}
+use Rattle.build.specs.Building.{lent}
+use Rattle.reads.specs.Meshes.{mesh}
+use Rattle.build.proofs.build.Kinds as build-kinds
+use Rattle.build.proofs.build.Reads as build-reads
+use Rattle.recover.proofs.recover.Kinds as recover-kinds
+use Rattle.recover.proofs.recover.Reads as recover-reads
+use Rattle.rings.proofs.ring.Kinds as ring-kinds
+use Rattle.rings.proofs.ring.Reads as ring-reads
+use Rattle.rings.proofs.neighbours.Reads as neighbours-reads
+use Rattle.rings.proofs.border_loop.Reads as border-loop-reads
+use Rattle.query.proofs.opposite.Kinds as opposite-kinds
+use Rattle.query.proofs.opposite.Reads as opposite-reads
+use Rattle.query.proofs.next.Reads as next-reads
+use Rattle.query.proofs.previous.Reads as previous-reads
+use Rattle.query.proofs.element.Reads as element-reads
+use Rattle.query.proofs.origin.Reads as origin-reads
+use Rattle.query.proofs.destination.Reads as destination-reads
+use Rattle.query.proofs.across.Reads as across-reads
+use Rattle.query.proofs.halfedge_is_border.Reads as halfedge-is-border-reads
+use Rattle.query.proofs.vertex_is_border.Reads as vertex-is-border-reads
+use Rattle.runs.specs.Runs.{BuildRun, RecoverRun, RingRun, NeighboursRun, BorderLoopRun}
+
+-- build(n, list, v2e, e2e, b2e, work)
+module _ (κs : Lfts 5) (a : Dens κs build-kinds.ps) (r : resT build-kinds.r κs .Denot) (s : AtExit (endedOf 5 build-kinds.ps build-kinds.r) κs) where
+  abbrev begins : Buffers
+  begins = lent (a .1 .1 .0 .now) (a .1 .1 .1 .0 .now) (a .1 .1 .1 .1 .0 .now) (a .1 .1 .1 .1 .1 .0 .now)
+
+  abbrev ends : Buffers
+  ends = lent (s .1 .1 .0 .now) (s .1 .1 .1 .0 .now) (s .1 .1 .1 .1 .0 .now) (s .1 .1 .1 .1 .1 .0 .now)
+
+  pub build-run : build-reads.Post κs a r s → BuildRun (a .0) (a .1 .0 .now) begins (numbers r) ends
+  build-run p = record { answer = p .0; leaves = p .1 }
+
+-- recover(n, v2e, e2e, list, work)
+module _ (κs : Lfts 4) (a : Dens κs recover-kinds.ps) (r : resT recover-kinds.r κs .Denot) (s : AtExit (endedOf 4 recover-kinds.ps recover-kinds.r) κs) where
+  pub recover-run : recover-reads.Post κs a r s
+      → RecoverRun (a .0) (a .1 .0 .now) (a .1 .1 .0 .now) (a .1 .1 .1 .0 .now) (a .1 .1 .1 .1 .0 .now) (numbers r)
+      (s .1 .1 .1 .0 .now) (s .1 .1 .1 .1 .0 .now)
+  recover-run p = record { answer = p .0; leaves = p .1 .0; clears = p .1 .1 }
+
+-- a query (n, list, v2e, e2e, b2e, code or vertex)
+module _ (κs : Lfts 4) (a : Dens κs opposite-kinds.ps) (r : resT opposite-kinds.r κs .Denot) (s : AtExit (endedOf 4 opposite-kinds.ps opposite-kinds.r) κs) where
+  abbrev asked : Mesh
+  asked = mesh (a .0) (a .1 .0 .now) (a .1 .1 .0 .now) (a .1 .1 .1 .0 .now) (a .1 .1 .1 .1 .0 .now)
+
+  abbrev of : ℕ
+  of = a .1 .1 .1 .1 .1 .0
+
+  pub opposite-run : opposite-reads.Post κs a r s → numbers r ≡ oppositeAnswer asked of
+  opposite-run p = p
+
+  pub next-run : next-reads.Post κs a r s → numbers r ≡ nextAnswer asked of
+  next-run p = p
+
+  pub previous-run : previous-reads.Post κs a r s → numbers r ≡ previousAnswer asked of
+  previous-run p = p
+
+  pub element-run : element-reads.Post κs a r s → numbers r ≡ elementAnswer asked of
+  element-run p = p
+
+  pub origin-run : origin-reads.Post κs a r s → numbers r ≡ originAnswer asked of
+  origin-run p = p
+
+  pub destination-run : destination-reads.Post κs a r s → numbers r ≡ destinationAnswer asked of
+  destination-run p = p
+
+  pub across-run : across-reads.Post κs a r s → numbers r ≡ acrossAnswer asked of
+  across-run p = p
+
+  pub half-edge-border-run : halfedge-is-border-reads.Post κs a r s → numbers r ≡ halfEdgeBorderAnswer asked of
+  half-edge-border-run p = p
+
+  pub vertex-border-run : vertex-is-border-reads.Post κs a r s → numbers r ≡ vertexBorderAnswer asked of
+  vertex-border-run p = p
+
+-- a query that writes a list (n, list, v2e, e2e, b2e, vertex or border, out)
+module _ (κs : Lfts 5) (a : Dens κs ring-kinds.ps) (r : resT ring-kinds.r κs .Denot) (s : AtExit (endedOf 5 ring-kinds.ps ring-kinds.r) κs) where
+  abbrev listed : Mesh
+  listed = mesh (a .0) (a .1 .0 .now) (a .1 .1 .0 .now) (a .1 .1 .1 .0 .now) (a .1 .1 .1 .1 .0 .now)
+
+  pub ring-run : ring-reads.Post κs a r s
+      → RingRun listed (a .1 .1 .1 .1 .1 .0) (a .1 .1 .1 .1 .1 .1 .0 .now) (numbers r) (s .1 .1 .1 .1 .1 .1 .0 .now)
+  ring-run p = record { answer = p .0; leaves = p .1 }
+
+  pub neighbours-run : neighbours-reads.Post κs a r s
+      → NeighboursRun listed (a .1 .1 .1 .1 .1 .0) (a .1 .1 .1 .1 .1 .1 .0 .now) (numbers r) (s .1 .1 .1 .1 .1 .1 .0 .now)
+  neighbours-run p = record { answer = p .0; leaves = p .1 }
+
+  pub border-loop-run : border-loop-reads.Post κs a r s
+      → BorderLoopRun listed (a .1 .1 .1 .1 .1 .0) (a .1 .1 .1 .1 .1 .1 .0 .now) (numbers r) (s .1 .1 .1 .1 .1 .1 .0 .now)
+  border-loop-run p = record { answer = p .0; leaves = p .1 }
