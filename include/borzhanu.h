@@ -14,13 +14,14 @@
  *   B2e  k entries      the side opposite each border half-edge, in rising order
  *
  * Buffers. Each is a pointer and a length in entries, all entries 32-bit. The pointer is aligned to 4
- * bytes and isn't null, even for length 0, where it isn't followed. A buffer that a call writes
- * overlaps no other buffer of that call. Nothing else is asked: a call ends, with an answer or a
- * refusal, whatever the lengths are and whatever the buffers hold, and touches nothing beyond them.
+ * bytes; with length 0 it may be null, as that of an empty vector in C++ is. A buffer that a call
+ * writes overlaps no other buffer of that call. Nothing else is asked: a call ends, with an answer or
+ * a refusal, whatever the lengths are and whatever the buffers hold, and touches nothing beyond them.
  *
  * Answers. Every call returns one 64-bit number with three numbers in it; the functions
  * borzhanu_refusal, borzhanu_first and borzhanu_second take it apart. Refusal 0 means that the call
- * has answered. After a refusal, first and second are its place, 0 and 0 unless named below.
+ * has answered. After a refusal, first and second are its place, 0 and 0 unless named below, and
+ * borzhanu_refusal_text says it in words.
  *
  * The calls keep nothing between them, so several threads may call at once on different buffers, or
  * on the same ones where every call only reads them.
@@ -56,12 +57,12 @@ enum {
     BORZHANU_CORNER_REPEATED = 4,
     /* A vertex belongs to no element. Place: the least such vertex, 0. */
     BORZHANU_VERTEX_UNUSED = 5,
-    /* Three or more plates meet at one edge. Place: element and side of the least such side. */
+    /* Three or more elements meet at an edge. Place: element and side of the least such side. */
     BORZHANU_EDGE_CROWDED = 6,
-    /* Two plates run along their common edge in the same direction: one of them is upside down, or
-       is there twice. Place: element and side of the least such side. */
+    /* Two elements run along an edge in the same direction: one of them is upside down, or is there
+       twice. Place: element and side of the least such side. */
     BORZHANU_SIDES_ALIKE = 7,
-    /* The plates at a vertex aren't one fan: they touch at this point alone.
+    /* The elements at a vertex aren't one fan: they touch at this point alone.
        Place: the least such vertex, 0. */
     BORZHANU_FAN_BROKEN = 8,
     /* B2e is too short. Place: k, the length that it needs, 0. */
@@ -95,6 +96,44 @@ static inline uint32_t borzhanu_second(uint64_t returned) {
     return (uint32_t)returned & 0xFFFFFFFu;
 }
 
+/* What a refusal number means, in words; its place isn't in them. */
+static inline const char *borzhanu_refusal_text(uint32_t refusal) {
+    switch (refusal) {
+    case BORZHANU_ANSWERED:
+        return "the call has answered";
+    case BORZHANU_SIZES:
+        return "more than 1,000,000 vertices or elements, or an element list or E2e not in fours";
+    case BORZHANU_LENGTHS:
+        return "a buffer's length doesn't fit n and m";
+    case BORZHANU_CORNER_UNFIT:
+        return "a corner is 0 (not the fourth) or above n";
+    case BORZHANU_CORNER_REPEATED:
+        return "a corner comes twice in an element";
+    case BORZHANU_VERTEX_UNUSED:
+        return "a vertex belongs to no element";
+    case BORZHANU_EDGE_CROWDED:
+        return "three or more elements meet at an edge";
+    case BORZHANU_SIDES_ALIKE:
+        return "two elements run along an edge in the same direction";
+    case BORZHANU_FAN_BROKEN:
+        return "the elements at a vertex aren't one fan";
+    case BORZHANU_BORDER_SHORT:
+        return "B2e is shorter than k";
+    case BORZHANU_NO_LIST:
+        return "no element list has exactly these tables";
+    case BORZHANU_NOT_THERE:
+        return "the vertex, border or half-edge isn't there, or the question isn't defined for it";
+    case BORZHANU_TABLE_BROKEN:
+        return "a table entry that was read names nothing, or a walk is overlong";
+    case BORZHANU_OUTPUT_SHORT:
+        return "the output is too short";
+    case BORZHANU_TEXT_UNFIT:
+        return "the listing program's text isn't in form";
+    default:
+        return "a refusal that this header doesn't know";
+    }
+}
+
 /* The code of side i of element f. */
 static inline uint32_t borzhanu_side(uint32_t f, uint32_t i) {
     return 8u * f + i;
@@ -103,6 +142,26 @@ static inline uint32_t borzhanu_side(uint32_t f, uint32_t i) {
 /* The code of border half-edge b. */
 static inline uint32_t borzhanu_border(uint32_t b) {
     return 8u * b;
+}
+
+/* Whether a code is that of a border half-edge: 1 or 0. */
+static inline int borzhanu_is_border_code(uint32_t code) {
+    return code != 0 && code % 8u == 0;
+}
+
+/* b of border half-edge b; 0 for a side. */
+static inline uint32_t borzhanu_border_of(uint32_t code) {
+    return code % 8u == 0 ? code / 8u : 0;
+}
+
+/* f of side i of element f; 0 for a border half-edge. */
+static inline uint32_t borzhanu_element_of(uint32_t code) {
+    return code % 8u == 0 ? 0 : code / 8u;
+}
+
+/* i of side i of element f; 0 for a border half-edge. */
+static inline uint32_t borzhanu_number_of(uint32_t code) {
+    return code % 8u;
 }
 
 /* The least length of the work buffer of build and recovery, in entries. */

@@ -23,7 +23,7 @@ const struct build_case build_cases[] = {
     {.name = "corner above n", .n = 2, .m = 1, .rows = {{1, 2, 3, 0}}, .refusal = 3, .first = 1, .second = 3},
     {.name = "sides alike", .n = 4, .m = 2, .rows = {{1, 2, 3, 0}, {1, 2, 4, 0}}, .refusal = 7, .first = 1,
      .second = 1},
-    {.name = "three plates on an edge", .n = 5, .m = 3, .rows = {{1, 2, 3, 0}, {2, 1, 4, 0}, {1, 2, 5, 0}},
+    {.name = "three elements on an edge", .n = 5, .m = 3, .rows = {{1, 2, 3, 0}, {2, 1, 4, 0}, {1, 2, 5, 0}},
      .refusal = 6, .first = 1, .second = 1},
     {.name = "two fans at a point", .n = 5, .m = 2, .rows = {{1, 2, 3, 0}, {1, 4, 5, 0}}, .refusal = 8, .first = 1},
     {.name = "sample surface mesh", .n = 9, .m = 8,

@@ -1,5 +1,5 @@
-/* The worked cases of docs/01-scope.md and the sample surface mesh of the half-edge paper, with the
-   values printed there. */
+/* The worked cases that docs/TRACE.md quotes under "Housings to hold up to the rules", and the sample surface mesh of
+   T. J. Alumbaugh and X. Jiao, "Compact Array-Based Mesh Data Structures", with the values printed there. */
 #ifndef CASES_H
 #define CASES_H
 

@@ -1,7 +1,7 @@
 /*
  * Compares every exported call with the reference, on inputs of every kind: answers, refusals, places,
  * and each entry of each buffer afterwards. Every call is made twice, once with the end of each buffer
- * at a page that faults when touched and once with its start.
+ * at a page that faults when touched and once with its start; an empty buffer is null the second time.
  *
  *     compare [SEED]
  */
@@ -9,6 +9,7 @@
 #include "asking.h"
 #include "borzhanu.h"
 #include "cases.h"
+#include "header.h"
 
 #include <stdio.h>
 #include <stdlib.h>
@@ -283,6 +284,41 @@ static void lengths(struct dice *dice) {
     }
 }
 
+/* A call, and the same with each buffer emptied by itself. */
+static void try_emptied(struct call call) {
+    compare(&call, NULL);
+    for (int role = 0; role < RECORD; role++) {
+        struct call emptied = call;
+        emptied.given[role].len = 0;
+        compare(&emptied, NULL);
+    }
+}
+
+static void try_emptied_calls(const struct list *list) {
+    const struct exported *of_number_1[] = {&vertex_test, &vertex_lists[0], &vertex_lists[1],
+                                            &border_list, &start_call,      &step_call};
+    struct mesh t;
+    if (!built(list, &t))
+        exit(2);
+    try_emptied(build_of(list, t.b2e.len));
+    try_emptied(recovery_of(&t));
+    for (size_t i = 0; i < CODE_CALLS; i++)
+        try_emptied(query_of(&code_calls[i], &t, borzhanu_side(1, 1)));
+    for (size_t i = 0; i < COUNT(of_number_1); i++)
+        try_emptied(query_of(of_number_1[i], &t, 1));
+    drop_tables(&t);
+}
+
+/* Buffers without entries, which one of the two placements hands over as null: all of them, of no vertices and no
+   elements, and each by itself, of a triangle. */
+static void empty_buffers(struct dice *dice) {
+    uint32_t row[4] = {1, 2, 3, 0};
+    struct list nothing = {0, 0, 0, NULL}, triangle = {3, 1, 1, row};
+    (void)dice;
+    try_emptied_calls(&nothing);
+    try_emptied_calls(&triangle);
+}
+
 /* B2e may have as many entries as E2e, and no more. */
 static void longest_b2e(const struct mesh *t) {
     struct mesh longest = *t;
@@ -355,6 +391,7 @@ static const struct {
     {"tables of one element", small_tables},
     {"tables of noise", noise_tables},
     {"lengths", lengths},
+    {"empty buffers", empty_buffers},
     {"small housings", small_housings},
     {"housings", housings},
     {"large housings", large_housings},
@@ -371,6 +408,7 @@ int main(int argc, char **argv) {
     progress.seed = argc > 1 ? strtoull(argv[1], NULL, 10) : SEED;
     struct dice dice = {progress.seed};
     double start = seconds();
+    check_header();
     prepare_calls();
     prepare_noise(&dice);
     printf("seed %llu\n", (unsigned long long)progress.seed);

@@ -23,5 +23,7 @@ uint32_t *placed(const struct guarded *memory, size_t len, enum placement placem
         fprintf(stderr, "guarded memory: no room for %zu entries\n", len);
         exit(2);
     }
-    return (uint32_t *)(void *)(placement == END_AT_GUARD ? memory->first + memory->bytes - bytes : memory->first);
+    if (placement == START_AT_GUARD)
+        return len == 0 ? NULL : (uint32_t *)(void *)memory->first;
+    return (uint32_t *)(void *)(memory->first + memory->bytes - bytes);
 }

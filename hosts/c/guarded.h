@@ -10,7 +10,8 @@ struct guarded {
     size_t bytes;         /* whole pages */
 };
 
-/* A buffer touches the page after it with its end, or the page before it with its start. */
+/* A buffer touches the page after it with its end, or the page before it with its start. An empty one is at the page
+   after it, or null: either way it faults when touched. */
 enum placement { END_AT_GUARD, START_AT_GUARD };
 
 struct guarded guarded_memory(size_t entries);

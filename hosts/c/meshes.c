@@ -66,10 +66,10 @@ void add_list(struct list *list, const struct list *other) {
     list->n += other->n;
 }
 
-static void add_cell(struct list *list, const uint32_t corner[4], enum plates plates, struct dice *dice) {
-    if (plates == QUADRILATERALS || (plates == MIXED && below(dice, 2) == 0)) {
+static void add_cell(struct list *list, const uint32_t corner[4], enum kinds kinds, struct dice *dice) {
+    if (kinds == QUADRILATERALS || (kinds == MIXED && below(dice, 2) == 0)) {
         add_row(list, corner[0], corner[1], corner[2], corner[3]);
-    } else if (plates == MIXED && below(dice, 2) == 0) {
+    } else if (kinds == MIXED && below(dice, 2) == 0) {
         add_row(list, corner[1], corner[2], corner[3], 0);
         add_row(list, corner[3], corner[0], corner[1], 0);
     } else {
@@ -78,7 +78,7 @@ static void add_cell(struct list *list, const uint32_t corner[4], enum plates pl
     }
 }
 
-struct list sheet(uint32_t width, uint32_t height, int closed_across, int closed_along, enum plates plates,
+struct list sheet(uint32_t width, uint32_t height, int closed_across, int closed_along, enum kinds kinds,
                   struct dice *dice) {
     uint32_t columns = closed_across ? width : width + 1, lines = closed_along ? height : height + 1;
     struct list list = empty_list(columns * lines, 2 * (size_t)width * height);
@@ -87,7 +87,7 @@ struct list sheet(uint32_t width, uint32_t height, int closed_across, int closed
             uint32_t right = (x + 1) % columns, up = (y + 1) % lines;
             uint32_t corner[4] = {1 + x + columns * y, 1 + right + columns * y, 1 + right + columns * up,
                                   1 + x + columns * up};
-            add_cell(&list, corner, plates, dice);
+            add_cell(&list, corner, kinds, dice);
         }
     return list;
 }
@@ -118,7 +118,7 @@ struct list book(uint32_t n, uint32_t count) {
 
 static struct list one_housing(struct dice *dice, uint32_t size) {
     uint32_t width = 1 + below(dice, 1 + size / 3), height = 1 + below(dice, 1 + size / (2 * width));
-    enum plates plates = (enum plates)below(dice, 3);
+    enum kinds kinds = (enum kinds)below(dice, 3);
     switch (below(dice, 7)) {
     case 0:
         return fan(1 + below(dice, size), 0);
@@ -129,11 +129,11 @@ static struct list one_housing(struct dice *dice, uint32_t size) {
     case 3:
         return book(3 + below(dice, size), 1 + below(dice, size));
     case 4:
-        return sheet(2 + width, height, 1, 0, plates, dice);
+        return sheet(2 + width, height, 1, 0, kinds, dice);
     case 5:
-        return sheet(2 + width, 2 + height, 1, 1, plates, dice);
+        return sheet(2 + width, 2 + height, 1, 1, kinds, dice);
     default:
-        return sheet(width, height, 0, 0, plates, dice);
+        return sheet(width, height, 0, 0, kinds, dice);
     }
 }
 

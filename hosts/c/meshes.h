@@ -20,7 +20,7 @@ struct list {
     uint32_t *rows;
 };
 
-enum plates { TRIANGLES, QUADRILATERALS, MIXED };
+enum kinds { TRIANGLES, QUADRILATERALS, MIXED };
 
 struct list empty_list(uint32_t n, size_t room);
 void drop_list(struct list *list);
@@ -28,7 +28,7 @@ void add_row(struct list *list, uint32_t a, uint32_t b, uint32_t c, uint32_t d);
 void add_list(struct list *list, const struct list *other);
 
 /* A sheet of width x height cells. Closed in one direction it is a tube, in both it has no border. */
-struct list sheet(uint32_t width, uint32_t height, int closed_across, int closed_along, enum plates plates,
+struct list sheet(uint32_t width, uint32_t height, int closed_across, int closed_along, enum kinds kinds,
                   struct dice *dice);
 /* Triangles about vertex 1; the closed fan has no border there. */
 struct list fan(uint32_t count, int closed);

@@ -1,6 +1,6 @@
 /*
- * The rules of docs/01-scope.md once more, by other means than the kernel's and without regard to
- * speed: what the kernel's answers are compared with.
+ * The rules that docs/TRACE.md quotes and crates/rules/specs defines, once more, by other means than the
+ * kernel's and without regard to speed: what the kernel's answers are compared with.
  */
 #ifndef REFERENCE_H
 #define REFERENCE_H

@@ -5,11 +5,28 @@
 
 enum { N = 9, M = 8 };
 
+static void print_half_edge(uint32_t code) {
+    if (borzhanu_is_border_code(code))
+        printf(" <%u,0>", borzhanu_border_of(code));
+    else
+        printf(" <%u,%u>", borzhanu_element_of(code), borzhanu_number_of(code));
+}
+
 static void print_half_edges(const char *name, const uint32_t *codes, uint32_t count) {
     printf("%s", name);
     for (uint32_t i = 0; i < count; i++)
-        printf(" <%u,%u>", codes[i] / 8, codes[i] % 8);
+        print_half_edge(codes[i]);
     printf("\n");
+}
+
+/* Prints a refusal, where a call returned one. */
+static int refused(uint64_t returned) {
+    uint32_t refusal = borzhanu_refusal(returned);
+    if (refusal == 0)
+        return 0;
+    printf("refusal %u at %u,%u: %s\n", refusal, borzhanu_first(returned), borzhanu_second(returned),
+           borzhanu_refusal_text(refusal));
+    return 1;
 }
 
 int main(void) {
@@ -18,22 +35,23 @@ int main(void) {
     uint32_t v2e[N], e2e[4 * M], b2e[N], work[N + 16 * M];
 
     uint64_t built = borzhanu_build(N, elements, 4 * M, v2e, N, e2e, 4 * M, b2e, N, work, N + 16 * M);
-    if (borzhanu_refusal(built) != 0) {
-        printf("refusal %u at %u,%u\n", borzhanu_refusal(built), borzhanu_first(built), borzhanu_second(built));
+    if (refused(built))
         return 1;
-    }
-    uint32_t k = borzhanu_first(built);
-    printf("%u edges, %u on the border\n", borzhanu_second(built), k);
+    uint32_t k = borzhanu_first(built), edges = borzhanu_second(built);
+    printf("%u edges, %u on the border\n", edges, k);
     print_half_edges("V2e", v2e, N);
     for (uint32_t f = 0; f < M; f++)
         print_half_edges("E2e", e2e + 4 * f, elements[4 * f + 3] == 0 ? 3 : 4);
     print_half_edges("B2e", b2e, k);
 
     borzhanu_walker walker;
-    uint64_t step = borzhanu_walker_start(N, elements, 4 * M, v2e, N, e2e, 4 * M, b2e, k, 5, &walker);
+    if (refused(borzhanu_walker_start(N, elements, 4 * M, v2e, N, e2e, 4 * M, b2e, k, 5, &walker)))
+        return 1;
     printf("elements about vertex 5:");
-    while (borzhanu_refusal(step) == 0) {
-        step = borzhanu_walker_step(N, elements, 4 * M, v2e, N, e2e, 4 * M, b2e, k, &walker);
+    for (;;) {
+        uint64_t step = borzhanu_walker_step(N, elements, 4 * M, v2e, N, e2e, 4 * M, b2e, k, &walker);
+        if (refused(step))
+            return 1;
         if (borzhanu_first(step) == 0)
             break;
         printf(" %u", borzhanu_first(step));

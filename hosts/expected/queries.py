@@ -1,5 +1,6 @@
-# What crates/queries must write, worked out from document 01 with a build and queries of its own; of the crate only its cases
-# are read. From the top folder: python3 hosts/expected/queries.py crates/queries/stdin | cmp - crates/queries/stdout
+# What crates/queries must write, worked out from the rules that docs/TRACE.md quotes, with a build and queries of its own; of
+# the crate only its cases are read.
+# From the top folder: python3 hosts/expected/queries.py crates/queries/stdin | cmp - crates/queries/stdout
 import sys
 BIG=4294967295
 class R(Exception): pass   # refusal

@@ -1,4 +1,5 @@
-# What crates/recoveries must write, worked out from document 01 with a build and a recovery of its own.
+# What crates/recoveries must write, worked out from the rules that docs/TRACE.md quotes, with a build and a
+# recovery of its own.
 # From the top folder: python3 hosts/expected/recoveries.py | cmp - crates/recoveries/stdout
 import itertools, sys
 TRI=lambda r: 3 if r[3]==0 else 4
@@ -18,7 +19,7 @@ def fit(n,rows):
 def nxt(rows,code):
     f,i=divmod(code,8); c=TRI(rows[f-1]); return 8*f+(i%c)+1
 def tables(n,rows):
-    """(V2e,E2e,B2e) when accepted, else None; straight from document 01."""
+    """(V2e,E2e,B2e) when accepted, else None; straight from the rules."""
     if not fit(n,rows): return None
     S=sides(rows)
     bypair={}

@@ -32,7 +32,7 @@ impl Dice {
 }
 
 #[derive(Clone, Copy, PartialEq, Eq)]
-pub enum Plates {
+pub enum Kinds {
     Triangles,
     Quadrilaterals,
     Mixed,
@@ -156,15 +156,15 @@ fn reverse(row: &mut [u32; 4]) {
 }
 
 /// A sheet of width × height cells. Closed in one direction it is a tube, in both it has no border.
-pub fn sheet(width: u32, height: u32, closed: (bool, bool), plates: Plates, dice: &mut Dice) -> List {
+pub fn sheet(width: u32, height: u32, closed: (bool, bool), kinds: Kinds, dice: &mut Dice) -> List {
     let columns = width + !closed.0 as u32;
     let lines = height + !closed.1 as u32;
     let vertex = |x: u32, y: u32| 1 + x % columns + columns * (y % lines);
     let mut rows = Vec::new();
     for (y, x) in (0..height).flat_map(|y| (0..width).map(move |x| (y, x))) {
         let [a, b, c, d] = [vertex(x, y), vertex(x + 1, y), vertex(x + 1, y + 1), vertex(x, y + 1)];
-        let mixed = plates == Plates::Mixed;
-        if plates == Plates::Quadrilaterals || (mixed && dice.once_in(2)) {
+        let mixed = kinds == Kinds::Mixed;
+        if kinds == Kinds::Quadrilaterals || (mixed && dice.once_in(2)) {
             rows.push([a, b, c, d]);
         } else if mixed && dice.once_in(2) {
             rows.extend([[b, c, d, 0], [d, a, b, 0]]);
@@ -198,15 +198,15 @@ pub fn book(n: u32, count: u32) -> List {
 fn one_housing(dice: &mut Dice, size: u32) -> List {
     let width = 1 + dice.below(1 + size / 3);
     let height = 1 + dice.below(1 + size / (2 * width));
-    let plates = [Plates::Triangles, Plates::Quadrilaterals, Plates::Mixed][dice.below(3) as usize];
+    let kinds = [Kinds::Triangles, Kinds::Quadrilaterals, Kinds::Mixed][dice.below(3) as usize];
     match dice.below(7) {
         0 => fan(1 + dice.below(size), false),
         1 => fan(3 + dice.below(size), true),
         2 => bipyramid(3 + dice.below(size / 2)),
         3 => book(3 + dice.below(size), 1 + dice.below(size)),
-        4 => sheet(2 + width, height, (true, false), plates, dice),
-        5 => sheet(2 + width, 2 + height, (true, true), plates, dice),
-        _ => sheet(width, height, (false, false), plates, dice),
+        4 => sheet(2 + width, height, (true, false), kinds, dice),
+        5 => sheet(2 + width, 2 + height, (true, true), kinds, dice),
+        _ => sheet(width, height, (false, false), kinds, dice),
     }
 }
 

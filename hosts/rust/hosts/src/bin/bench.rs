@@ -6,7 +6,7 @@
 //! All buffers are allocated and touched before the first run and used again in every run.
 
 use borzhanu::{build, recover, work_length, Mesh, Refusal};
-use hosts::meshes::{book, fan, sheet, Dice, List, Plates};
+use hosts::meshes::{book, fan, sheet, Dice, List, Kinds};
 use std::collections::HashMap;
 use std::env;
 use std::fs;
@@ -18,8 +18,8 @@ const SEED: u64 = 1;
 const ROUNDS: usize = 21;
 const LARGE_ROUNDS: usize = 7;
 
-/// The three tables by a hash map keyed by the vertices of each half-edge, after section 3.2 of the half-edge
-/// paper, with no check of the list. Gives k and the number of edges.
+/// The three tables by a hash map keyed by the vertices of each half-edge, after section 3.2 of T. J. Alumbaugh and
+/// X. Jiao, "Compact Array-Based Mesh Data Structures", with no check of the list. Gives k and the number of edges.
 fn hash_map_build(elements: &[u32], v2e: &mut [u32], e2e: &mut [u32], b2e: &mut [u32]) -> (u32, u32) {
     v2e.fill(0);
     e2e.fill(0);
@@ -187,12 +187,12 @@ fn shuffled(list: List, dice: &mut Dice) -> List {
 
 /// An open sheet of 2 × width × height triangles.
 fn open_sheet(width: u32, height: u32, dice: &mut Dice) -> List {
-    sheet(width, height, (false, false), Plates::Triangles, dice)
+    sheet(width, height, (false, false), Kinds::Triangles, dice)
 }
 
 fn lists_of_100_000(dice: &mut Dice) -> Vec<(&'static str, List)> {
-    let closed = sheet(250, 200, (true, true), Plates::Triangles, dice);
-    let rims = sheet(250, 200, (true, false), Plates::Triangles, dice);
+    let closed = sheet(250, 200, (true, true), Kinds::Triangles, dice);
+    let rims = sheet(250, 200, (true, false), Kinds::Triangles, dice);
     vec![
         ("closed, in order", closed.clone()),
         ("closed, shuffled", shuffled(closed, dice)),

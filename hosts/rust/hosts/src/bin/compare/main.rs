@@ -10,7 +10,7 @@ mod host;
 use borzhanu::{work_length, WalkerRecord, MAX_BORDERS, MAX_ELEMENTS, MAX_VERTICES};
 use call::{Call, Question};
 use host::{Host, Tables};
-use hosts::meshes::{any_housing, book, fan, sheet, List, Plates};
+use hosts::meshes::{any_housing, book, fan, sheet, List, Kinds};
 use std::env;
 use std::mem;
 use std::time::Instant;
@@ -91,7 +91,7 @@ fn lengths(host: &mut Host) {
     let changes = [-4, -1, 0, 1, 4];
     let noise = host.noise.clone();
     for round in 0..12 {
-        let list = sheet(1 + host.dice.below(3), 1 + host.dice.below(3), (false, false), Plates::Mixed, &mut host.dice);
+        let list = sheet(1 + host.dice.below(3), 1 + host.dice.below(3), (false, false), Kinds::Mixed, &mut host.dice);
         let tables = host.build(&list).expect("a sheet is accepted");
         let n = list.n as usize;
         let rows = tables.elements.len();
@@ -143,7 +143,7 @@ fn large_housings(host: &mut Host) {
         host.try_list(&list, 1);
     }
     let dice = &mut host.dice;
-    let list = sheet(250, 200, (true, false), Plates::Triangles, dice).shuffled(dice).renumbered(dice).rotated(dice);
+    let list = sheet(250, 200, (true, false), Kinds::Triangles, dice).shuffled(dice).renumbered(dice).rotated(dice);
     host.try_list(&list, 1);
     let list = list.damaged(&mut host.dice);
     host.try_list(&list, 1);
@@ -163,7 +163,7 @@ fn longest_b2e(host: &mut Host, tables: &Tables) {
 }
 
 fn largest_sheet(host: &mut Host) {
-    let list = sheet(1000, 1000, (true, true), Plates::Quadrilaterals, &mut host.dice);
+    let list = sheet(1000, 1000, (true, true), Kinds::Quadrilaterals, &mut host.dice);
     let tables = host.build(&list).expect("a closed sheet is accepted");
     host.compare_recovery(tables.n, &tables.v2e, &tables.e2e, 0);
     host.ask(&tables, Question::Next(borzhanu::side(MAX_ELEMENTS, 4)));
