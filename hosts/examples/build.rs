@@ -1,10 +1,14 @@
 //! Builds the tables of a small mesh, prints them, and walks about its inner vertex.
 
-use borzhanu::{build, work_length, Mesh, Refusal};
+use borzhanu::{HalfEdge, Refusal, Tables};
 
 fn print_half_edges(name: &str, codes: &[u32]) {
-    let shown: Vec<String> = codes.iter().map(|code| format!(" <{},{}>", code / 8, code % 8)).collect();
-    println!("{name}{}", shown.concat());
+    print!("{name}");
+    for &code in codes {
+        let (whole, number) = HalfEdge::from_code(code).numbers();
+        print!(" <{whole},{number}>");
+    }
+    println!();
 }
 
 fn main() -> Result<(), Refusal> {
@@ -18,22 +22,17 @@ fn main() -> Result<(), Refusal> {
         [7, 8, 5, 0],
         [5, 4, 7, 0],
     ];
-    let (n, elements) = (9, rows.as_flattened());
-    let (mut v2e, mut e2e, mut b2e) = ([0; 9], [0; 32], [0; 9]);
-    let mut work = vec![0; work_length(n, rows.len())];
-
-    let counts = build(n, elements, &mut v2e, &mut e2e, &mut b2e, &mut work)?;
-    let b2e = &b2e[..counts.borders as usize];
+    let tables = Tables::build(9, &rows)?;
+    let (mesh, counts) = (tables.mesh(), tables.counts());
     println!("{} edges, {} on the border", counts.edges, counts.borders);
-    print_half_edges("V2e", &v2e);
-    for (row, entries) in rows.iter().zip(e2e.chunks(4)) {
+    print_half_edges("V2e", mesh.v2e);
+    for (row, entries) in rows.iter().zip(mesh.e2e.chunks(4)) {
         print_half_edges("E2e", &entries[..if row[3] == 0 { 3 } else { 4 }]);
     }
-    print_half_edges("B2e", b2e);
+    print_half_edges("B2e", mesh.b2e);
 
-    let mesh = Mesh { n, elements, v2e: &v2e, e2e: &e2e, b2e };
     print!("elements about vertex 5:");
-    for element in mesh.walk(5)? {
+    for element in tables.walk(5)? {
         print!(" {}", element?);
     }
     println!();

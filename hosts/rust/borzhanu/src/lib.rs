@@ -3,13 +3,26 @@
 //!
 //! Vertices, elements and border half-edges are numbered from 1. An element is a row of four corner
 //! numbers, the fourth 0 for a triangle. Side i of element f runs from corner i, its origin, to the next
-//! corner, its destination. Half-edges travel as codes: [`side`] and [`border`] make them, and code 0 names
-//! nothing. Every buffer is the caller's; nothing is allocated.
+//! corner, its destination. [`Tables`] owns a list with its tables and answers the queries:
+//!
+//! ```
+//! use borzhanu::{HalfEdge, Tables};
+//!
+//! // Two triangles on four vertices.
+//! let tables = Tables::build(4, &[[1, 2, 3, 0], [1, 3, 4, 0]])?;
+//! assert_eq!(tables.ring(1)?, [2, 1]);
+//! assert_eq!(tables.border_loop(1)?, [1, 4, 3, 2]);
+//! assert_eq!(tables.across(HalfEdge::side(1, 3))?, 2);
+//! # Ok::<(), borzhanu::Refusal>(())
+//! ```
+//!
+//! [`build`], [`recover`] and [`Mesh`] are the kernel's own calls, on buffers that the caller lends; these
+//! allocate nothing. Half-edges are codes there, which [`side`], [`border`] and [`HalfEdge`] make, and code 0
+//! names nothing:
 //!
 //! ```
 //! use borzhanu::{build, recover, work_length, Mesh};
 //!
-//! // Two triangles on four vertices.
 //! let elements = [1, 2, 3, 0, 1, 3, 4, 0];
 //! let (mut v2e, mut e2e, mut b2e) = ([0; 4], [0; 8], [0; 4]);
 //! let mut work = vec![0; work_length(4, 2)];
@@ -34,20 +47,27 @@
 //! A refusal says why and where:
 //!
 //! ```
-//! use borzhanu::{build, Refusal};
+//! use borzhanu::{Refusal, Tables};
 //!
 //! // The second triangle is upside down: both run from vertex 1 to vertex 2.
-//! let elements = [1, 2, 3, 0, 1, 2, 4, 0];
-//! let (mut v2e, mut e2e, mut b2e, mut work) = ([0; 4], [0; 8], [0; 4], [0; 36]);
-//! let refusal = build(4, &elements, &mut v2e, &mut e2e, &mut b2e, &mut work).unwrap_err();
+//! let refusal = Tables::build(4, &[[1, 2, 3, 0], [1, 2, 4, 0]]).unwrap_err();
 //! assert_eq!(refusal, Refusal::SidesAlike { element: 1, side: 1 });
 //! assert_eq!((refusal.number(), refusal.place()), (7, (1, 1)));
+//! assert_eq!(refusal.to_string(), "two elements run along an edge in the same direction: element 1, side 1");
 //! ```
 
-mod exports;
-mod refusal;
+#![deny(missing_docs)]
 
+mod exports;
+mod half_edge;
+mod mesh;
+mod refusal;
+mod tables;
+
+pub use half_edge::HalfEdge;
+pub use mesh::{Mesh, Walker, WalkerRecord};
 pub use refusal::Refusal;
+pub use tables::Tables;
 
 /// The largest number of vertices.
 pub const MAX_VERTICES: u32 = 1_000_000;
@@ -98,8 +118,13 @@ fn first_number(returned: u64) -> Result<u32, Refusal> {
 ///
 /// `v2e` has n entries, `e2e` 4 × m, `b2e` at least k (n are always enough) and `work` at least
 /// [`work_length`]. What they hold before doesn't matter. After an answer `v2e`, `e2e` and the first k
-/// entries of `b2e` are the tables, and the rest of `b2e` is as it was; after a refusal, 1 to 9, all three
-/// are as they were. After 1 and 2 `work` is as it was; after everything else it is all zero.
+/// entries of `b2e` are the tables, and the rest of `b2e` is as it was; queries take it cut to k. After a
+/// refusal all three are as they were. After 1 and 2 `work` is as it was; after everything else it is all
+/// zero.
+///
+/// # Errors
+///
+/// Refusals 1 to 9.
 pub fn build(
     n: u32,
     elements: &[u32],
@@ -130,9 +155,12 @@ pub fn build(
 
 /// Writes the one element list that [`build`] turns into exactly this V2e and this E2e.
 ///
-/// `v2e` has n entries, `e2e` and `elements` 4 × m, `work` at least [`work_length`]. After a refusal, 1, 2
-/// or 10, `elements` is as it was. Nothing is repaired: 10 means that no list has these tables. After 1
-/// and 2 `work` is as it was; after everything else it is all zero.
+/// `v2e` has n entries, `e2e` and `elements` 4 × m, `work` at least [`work_length`]. After a refusal
+/// `elements` is as it was. After 1 and 2 `work` is as it was; after everything else it is all zero.
+///
+/// # Errors
+///
+/// Refusals 1, 2 and 10. Nothing is repaired: 10 means that no list has these tables.
 pub fn recover(n: u32, v2e: &[u32], e2e: &[u32], elements: &mut [u32], work: &mut [u32]) -> Result<(), Refusal> {
     // SAFETY: each pointer has its slice's own length, and the kernel stays within these.
     let returned = unsafe {
@@ -150,155 +178,3 @@ pub fn recover(n: u32, v2e: &[u32], e2e: &[u32], elements: &mut [u32], work: &mu
     };
     taken_apart(returned).map(|_| ())
 }
-
-/// A mesh to ask about: its element list and its tables, lent. `b2e` has exactly k entries. Tables that
-/// [`build`] wrote never give refusal 12; any others may be asked about too.
-#[derive(Clone, Copy, Debug)]
-pub struct Mesh<'a> {
-    /// The number of vertices.
-    pub n: u32,
-    pub elements: &'a [u32],
-    pub v2e: &'a [u32],
-    pub e2e: &'a [u32],
-    pub b2e: &'a [u32],
-}
-
-/// Calls a query's exported function on a mesh and further arguments.
-macro_rules! ask {
-    ($name:ident, $mesh:expr $(, $argument:expr)*) => {
-        // SAFETY: each pointer has its slice's own length, and the kernel stays within these.
-        unsafe {
-            exports::$name(
-                $mesh.n,
-                $mesh.elements.as_ptr(),
-                $mesh.elements.len(),
-                $mesh.v2e.as_ptr(),
-                $mesh.v2e.len(),
-                $mesh.e2e.as_ptr(),
-                $mesh.e2e.len(),
-                $mesh.b2e.as_ptr(),
-                $mesh.b2e.len()
-                $(, $argument)*
-            )
-        }
-    };
-}
-
-impl<'a> Mesh<'a> {
-    /// The half-edge that runs along the same edge the other way.
-    pub fn opposite(&self, code: u32) -> Result<u32, Refusal> {
-        first_number(ask!(borzhanu_opposite, self, code))
-    }
-
-    /// The half-edge that follows: of a side, in its element; of a border half-edge, along its border.
-    pub fn next(&self, code: u32) -> Result<u32, Refusal> {
-        first_number(ask!(borzhanu_next, self, code))
-    }
-
-    /// The side before a side, in its element. Refusal 11 for a border half-edge.
-    pub fn previous(&self, code: u32) -> Result<u32, Refusal> {
-        first_number(ask!(borzhanu_previous, self, code))
-    }
-
-    /// The element of a side. Refusal 11 for a border half-edge.
-    pub fn element(&self, code: u32) -> Result<u32, Refusal> {
-        first_number(ask!(borzhanu_element, self, code))
-    }
-
-    /// The vertex where a half-edge begins.
-    pub fn origin(&self, code: u32) -> Result<u32, Refusal> {
-        first_number(ask!(borzhanu_origin, self, code))
-    }
-
-    /// The vertex where a half-edge ends.
-    pub fn destination(&self, code: u32) -> Result<u32, Refusal> {
-        first_number(ask!(borzhanu_destination, self, code))
-    }
-
-    /// The element on the other side of a side, or 0 at a border. Refusal 11 for a border half-edge.
-    pub fn across(&self, code: u32) -> Result<u32, Refusal> {
-        first_number(ask!(borzhanu_across, self, code))
-    }
-
-    /// Whether a half-edge is a border half-edge.
-    pub fn halfedge_is_border(&self, code: u32) -> Result<bool, Refusal> {
-        first_number(ask!(borzhanu_halfedge_is_border, self, code)).map(|test| test == 1)
-    }
-
-    /// Whether a vertex is on a border.
-    pub fn vertex_is_border(&self, v: u32) -> Result<bool, Refusal> {
-        first_number(ask!(borzhanu_vertex_is_border, self, v)).map(|test| test == 1)
-    }
-
-    /// The elements about a vertex in turn order, each once, written from the start of `out`, and their
-    /// number. The rest of `out` is as it was; after a refusal all of it is.
-    pub fn ring(&self, v: u32, out: &mut [u32]) -> Result<usize, Refusal> {
-        first_number(ask!(borzhanu_ring, self, v, out.as_mut_ptr(), out.len())).map(|count| count as usize)
-    }
-
-    /// The vertices joined to a vertex by an edge, in turn order; written as [`Mesh::ring`] does.
-    pub fn neighbours(&self, v: u32, out: &mut [u32]) -> Result<usize, Refusal> {
-        first_number(ask!(borzhanu_neighbours, self, v, out.as_mut_ptr(), out.len())).map(|count| count as usize)
-    }
-
-    /// The border half-edges of one hole, as border numbers from b on; written as [`Mesh::ring`] does.
-    pub fn border_loop(&self, b: u32, out: &mut [u32]) -> Result<usize, Refusal> {
-        first_number(ask!(borzhanu_border_loop, self, b, out.as_mut_ptr(), out.len())).map(|count| count as usize)
-    }
-
-    /// Walks about a vertex, element by element, with no list to fill.
-    pub fn walk(&self, v: u32) -> Result<Walker<'a>, Refusal> {
-        let mut record = WalkerRecord::default();
-        self.start(v, &mut record)?;
-        Ok(Walker { mesh: *self, record, over: false })
-    }
-
-    /// Sets a walker's record to the beginning of the ring of v. After a refusal it is as it was.
-    pub fn start(&self, v: u32, walker: &mut WalkerRecord) -> Result<(), Refusal> {
-        taken_apart(ask!(borzhanu_walker_start, self, v, walker)).map(|_| ())
-    }
-
-    /// The next element of the ring, or 0 when the ring is over; the record moves on by one. After 0 and
-    /// after a refusal, 1, 2 or 12, it is as it was.
-    pub fn step(&self, walker: &mut WalkerRecord) -> Result<u32, Refusal> {
-        first_number(ask!(borzhanu_walker_step, self, walker))
-    }
-}
-
-/// How far a walk about a vertex has come.
-#[repr(C)]
-#[derive(Clone, Copy, Debug, Default, PartialEq, Eq, Hash)]
-pub struct WalkerRecord {
-    /// The side where the ring begins.
-    pub start: u32,
-    /// The side whose element comes next; 0 when the ring is over.
-    pub next: u32,
-    /// The elements handed out so far.
-    pub count: u32,
-}
-
-/// A walk about a vertex: its elements in turn order. A refusal ends it.
-#[derive(Clone, Debug)]
-pub struct Walker<'a> {
-    mesh: Mesh<'a>,
-    record: WalkerRecord,
-    over: bool,
-}
-
-impl Iterator for Walker<'_> {
-    type Item = Result<u32, Refusal>;
-
-    fn next(&mut self) -> Option<Self::Item> {
-        if self.over {
-            return None;
-        }
-        let step = self.mesh.step(&mut self.record);
-        self.over = !matches!(step, Ok(element) if element != 0);
-        match step {
-            Ok(0) => None,
-            other => Some(other),
-        }
-    }
-}
-
-impl std::iter::FusedIterator for Walker<'_> {}

@@ -3,36 +3,69 @@
 use std::error::Error;
 use std::fmt;
 
-/// Why a call refused, with its place. The numbers are those of docs/01-scope.md; its 14 belongs to the
-/// listing program, and no call here gives it.
+/// Why a call refused, with its place. The numbers are those of include/borzhanu.h; its 14 belongs to the listing
+/// program, and no call here gives it.
+#[non_exhaustive]
 #[derive(Clone, Copy, Debug, PartialEq, Eq, Hash)]
 pub enum Refusal {
     /// 1: more than 1,000,000 vertices or elements, or an element list or E2e that isn't in fours.
     Sizes,
     /// 2: a buffer is too short or too long for this n and m.
     Lengths,
-    /// 3: corner 1 to 3 is 0, or a corner is above n; the first such element, its first such corner.
-    CornerUnfit { element: u32, corner: u32 },
-    /// 4: an element has a corner twice; the first such element, the later corner.
-    CornerRepeated { element: u32, corner: u32 },
-    /// 5: a vertex belongs to no element; the least such vertex.
-    VertexUnused { vertex: u32 },
-    /// 6: three or more plates meet at one edge; the least such side.
-    EdgeCrowded { element: u32, side: u32 },
-    /// 7: two plates run along their common edge in the same direction; the least such side.
-    SidesAlike { element: u32, side: u32 },
-    /// 8: the plates at a vertex aren't one fan; the least such vertex.
-    FanBroken { vertex: u32 },
-    /// 9: B2e is too short; the length that it needs, k.
-    BorderShort { needed: u32 },
+    /// 3: corner 1 to 3 is 0, or a corner is above n.
+    CornerUnfit {
+        /// The first such element.
+        element: u32,
+        /// Its first such corner.
+        corner: u32,
+    },
+    /// 4: an element has a corner twice.
+    CornerRepeated {
+        /// The first such element.
+        element: u32,
+        /// The later corner.
+        corner: u32,
+    },
+    /// 5: a vertex belongs to no element.
+    VertexUnused {
+        /// The least such vertex.
+        vertex: u32,
+    },
+    /// 6: three or more elements meet at an edge.
+    EdgeCrowded {
+        /// The element of the least such side.
+        element: u32,
+        /// Its number in the element.
+        side: u32,
+    },
+    /// 7: two elements run along an edge in the same direction.
+    SidesAlike {
+        /// The element of the least such side.
+        element: u32,
+        /// Its number in the element.
+        side: u32,
+    },
+    /// 8: the elements at a vertex aren't one fan.
+    FanBroken {
+        /// The least such vertex.
+        vertex: u32,
+    },
+    /// 9: B2e is too short.
+    BorderShort {
+        /// The length that it needs, k.
+        needed: u32,
+    },
     /// 10: no element list has exactly these tables.
     NoList,
     /// 11: there is no such vertex, border or half-edge, or the question isn't defined for it.
     NotThere,
     /// 12: a table entry that was read names nothing, or a walk doesn't come to its end.
     TableBroken,
-    /// 13: the output is too short; the length that it needs.
-    OutputShort { needed: u32 },
+    /// 13: the output is too short.
+    OutputShort {
+        /// The length that it needs.
+        needed: u32,
+    },
 }
 
 impl Refusal {
@@ -60,7 +93,7 @@ impl Refusal {
         }
     }
 
-    /// The refusal's number, 1 to 13.
+    /// The refusal's number.
     pub fn number(self) -> u32 {
         match self {
             Refusal::Sizes => 1,
@@ -89,36 +122,67 @@ impl Refusal {
             Refusal::Sizes | Refusal::Lengths | Refusal::NoList | Refusal::NotThere | Refusal::TableBroken => (0, 0),
         }
     }
+
+    /// What the refusal means, in the words of include/borzhanu.h; its place isn't in them.
+    pub fn text(self) -> &'static str {
+        match self {
+            Refusal::Sizes => "more than 1,000,000 vertices or elements, or an element list or E2e not in fours",
+            Refusal::Lengths => "a buffer's length doesn't fit n and m",
+            Refusal::CornerUnfit { .. } => "a corner is 0 (not the fourth) or above n",
+            Refusal::CornerRepeated { .. } => "a corner comes twice in an element",
+            Refusal::VertexUnused { .. } => "a vertex belongs to no element",
+            Refusal::EdgeCrowded { .. } => "three or more elements meet at an edge",
+            Refusal::SidesAlike { .. } => "two elements run along an edge in the same direction",
+            Refusal::FanBroken { .. } => "the elements at a vertex aren't one fan",
+            Refusal::BorderShort { .. } => "B2e is shorter than k",
+            Refusal::NoList => "no element list has exactly these tables",
+            Refusal::NotThere => "the vertex, border or half-edge isn't there, or the question isn't defined for it",
+            Refusal::TableBroken => "a table entry that was read names nothing, or a walk is overlong",
+            Refusal::OutputShort { .. } => "the output is too short",
+        }
+    }
 }
 
 impl fmt::Display for Refusal {
     fn fmt(&self, f: &mut fmt::Formatter<'_>) -> fmt::Result {
+        f.write_str(self.text())?;
         match self {
-            Refusal::Sizes => write!(f, "too many vertices or elements, or a length that isn't a multiple of four"),
-            Refusal::Lengths => write!(f, "a buffer is too short or too long"),
-            Refusal::CornerUnfit { element, corner } => {
-                write!(f, "corner {corner} of element {element} is 0 or above the number of vertices")
+            Refusal::CornerUnfit { element, corner } | Refusal::CornerRepeated { element, corner } => {
+                write!(f, ": element {element}, corner {corner}")
             }
-            Refusal::CornerRepeated { element, corner } => {
-                write!(f, "corner {corner} of element {element} equals an earlier one")
+            Refusal::EdgeCrowded { element, side } | Refusal::SidesAlike { element, side } => {
+                write!(f, ": element {element}, side {side}")
             }
-            Refusal::VertexUnused { vertex } => write!(f, "vertex {vertex} belongs to no element"),
-            Refusal::EdgeCrowded { element, side } => {
-                write!(f, "three or more plates meet at side {side} of element {element}")
-            }
-            Refusal::SidesAlike { element, side } => {
-                write!(f, "another plate runs the same way along side {side} of element {element}")
-            }
-            Refusal::FanBroken { vertex } => write!(f, "the plates at vertex {vertex} aren't one fan"),
-            Refusal::BorderShort { needed } => write!(f, "B2e needs {needed} entries"),
-            Refusal::NoList => write!(f, "no element list has these tables"),
-            Refusal::NotThere => {
-                write!(f, "there is no such vertex or half-edge, or the question isn't defined for it")
-            }
-            Refusal::TableBroken => write!(f, "a table entry names nothing, or a walk doesn't end"),
-            Refusal::OutputShort { needed } => write!(f, "the output needs {needed} entries"),
+            Refusal::VertexUnused { vertex } | Refusal::FanBroken { vertex } => write!(f, ": vertex {vertex}"),
+            Refusal::BorderShort { needed } | Refusal::OutputShort { needed } => write!(f, ": needed length {needed}"),
+            Refusal::Sizes | Refusal::Lengths | Refusal::NoList | Refusal::NotThere | Refusal::TableBroken => Ok(()),
         }
     }
 }
 
 impl Error for Refusal {}
+
+#[cfg(test)]
+mod tests {
+    use super::Refusal;
+
+    const HEADER: &str = include_str!("../../../../include/borzhanu.h");
+    const README: &str = include_str!("../../../../README.md");
+
+    /// What `borzhanu_refusal_text` of the header returns for the constant of this number.
+    fn text_in_header(number: u32) -> Option<&'static str> {
+        let end = format!(" = {number}");
+        let constant = HEADER.lines().find_map(|line| line.trim_end_matches(',').strip_suffix(&end))?.trim();
+        let (_, after) = HEADER.split_once(&format!("case {constant}:"))?;
+        after.split('"').nth(1)
+    }
+
+    #[test]
+    fn header_and_readme_say_the_same() {
+        for number in 1..=13 {
+            let text = Refusal::of(number, 0, 0).text();
+            assert_eq!(text_in_header(number), Some(text));
+            assert!(README.contains(&format!("| {number} | {text} |")), "README on refusal {number}");
+        }
+    }
+}

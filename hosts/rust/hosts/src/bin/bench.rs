@@ -6,7 +6,7 @@
 //! All buffers are allocated and touched before the first run and used again in every run.
 
 use borzhanu::{build, recover, work_length, Mesh, Refusal};
-use hosts::meshes::{book, fan, sheet, Dice, List, Kinds};
+use hosts::meshes::{book, fan, sheet, Dice, Kinds, List};
 use std::collections::HashMap;
 use std::env;
 use std::fs;

@@ -10,7 +10,7 @@ mod host;
 use borzhanu::{work_length, WalkerRecord, MAX_BORDERS, MAX_ELEMENTS, MAX_VERTICES};
 use call::{Call, Question};
 use host::{Host, Tables};
-use hosts::meshes::{any_housing, book, fan, sheet, List, Kinds};
+use hosts::meshes::{any_housing, book, fan, sheet, Kinds, List};
 use std::env;
 use std::mem;
 use std::time::Instant;

@@ -1,0 +1,263 @@
+//! The queries on lent tables.
+
+use crate::exports;
+use crate::{first_number, taken_apart, Refusal};
+
+/// A mesh to ask about: its element list and its tables, lent. Half-edges go in and out as codes. Tables that
+/// [`build`](crate::build) wrote never give refusal 12; any others may be asked about too.
+#[derive(Clone, Copy, Debug)]
+pub struct Mesh<'a> {
+    /// The number of vertices.
+    pub n: u32,
+    /// The element list, 4 × m entries.
+    pub elements: &'a [u32],
+    /// V2e, n entries.
+    pub v2e: &'a [u32],
+    /// E2e, 4 × m entries.
+    pub e2e: &'a [u32],
+    /// B2e, exactly k entries: what [`build`](crate::build) wrote, cut to k.
+    pub b2e: &'a [u32],
+}
+
+/// Calls a query's exported function on a mesh and further arguments.
+macro_rules! ask {
+    ($name:ident, $mesh:expr $(, $argument:expr)*) => {
+        // SAFETY: each pointer has its slice's own length, and the kernel stays within these.
+        unsafe {
+            exports::$name(
+                $mesh.n,
+                $mesh.elements.as_ptr(),
+                $mesh.elements.len(),
+                $mesh.v2e.as_ptr(),
+                $mesh.v2e.len(),
+                $mesh.e2e.as_ptr(),
+                $mesh.e2e.len(),
+                $mesh.b2e.as_ptr(),
+                $mesh.b2e.len()
+                $(, $argument)*
+            )
+        }
+    };
+}
+
+impl<'a> Mesh<'a> {
+    /// The half-edge that runs along the same edge the other way.
+    ///
+    /// # Errors
+    ///
+    /// Refusals 1 and 2 for unfit slices, 11 for a code that names nothing, 12 for a broken table entry.
+    pub fn opposite(&self, code: u32) -> Result<u32, Refusal> {
+        first_number(ask!(borzhanu_opposite, self, code))
+    }
+
+    /// The half-edge that follows: of a side, in its element; of a border half-edge, along its border.
+    ///
+    /// # Errors
+    ///
+    /// Refusals 1 and 2 for unfit slices, 11 for a code that names nothing, 12 for a broken table entry.
+    pub fn next(&self, code: u32) -> Result<u32, Refusal> {
+        first_number(ask!(borzhanu_next, self, code))
+    }
+
+    /// The side before a side, in its element.
+    ///
+    /// # Errors
+    ///
+    /// Refusals 1 and 2 for unfit slices, 11 for a code that names no side.
+    pub fn previous(&self, code: u32) -> Result<u32, Refusal> {
+        first_number(ask!(borzhanu_previous, self, code))
+    }
+
+    /// The element of a side.
+    ///
+    /// # Errors
+    ///
+    /// Refusals 1 and 2 for unfit slices, 11 for a code that names no side.
+    pub fn element(&self, code: u32) -> Result<u32, Refusal> {
+        first_number(ask!(borzhanu_element, self, code))
+    }
+
+    /// The vertex where a half-edge begins.
+    ///
+    /// # Errors
+    ///
+    /// Refusals 1 and 2 for unfit slices, 11 for a code that names nothing, 12 for a broken table entry.
+    pub fn origin(&self, code: u32) -> Result<u32, Refusal> {
+        first_number(ask!(borzhanu_origin, self, code))
+    }
+
+    /// The vertex where a half-edge ends.
+    ///
+    /// # Errors
+    ///
+    /// Refusals 1 and 2 for unfit slices, 11 for a code that names nothing, 12 for a broken table entry.
+    pub fn destination(&self, code: u32) -> Result<u32, Refusal> {
+        first_number(ask!(borzhanu_destination, self, code))
+    }
+
+    /// The element on the other side of a side, or 0 at a border.
+    ///
+    /// # Errors
+    ///
+    /// Refusals 1 and 2 for unfit slices, 11 for a code that names no side, 12 for a broken table entry.
+    pub fn across(&self, code: u32) -> Result<u32, Refusal> {
+        first_number(ask!(borzhanu_across, self, code))
+    }
+
+    /// Whether a half-edge is a border half-edge.
+    ///
+    /// # Errors
+    ///
+    /// Refusals 1 and 2 for unfit slices, 11 for a code that names nothing.
+    pub fn halfedge_is_border(&self, code: u32) -> Result<bool, Refusal> {
+        first_number(ask!(borzhanu_halfedge_is_border, self, code)).map(|test| test == 1)
+    }
+
+    /// Whether a vertex is on a border.
+    ///
+    /// # Errors
+    ///
+    /// Refusals 1 and 2 for unfit slices, 11 for a vertex that isn't there, 12 for a broken table entry.
+    pub fn vertex_is_border(&self, v: u32) -> Result<bool, Refusal> {
+        first_number(ask!(borzhanu_vertex_is_border, self, v)).map(|test| test == 1)
+    }
+
+    /// The elements about a vertex in turn order, each once, written from the start of `out`, and their
+    /// number. The rest of `out` is as it was; after a refusal all of it is.
+    ///
+    /// # Errors
+    ///
+    /// Refusals 1 and 2 for unfit slices, 11 for a vertex that isn't there, 12 for a broken table entry or an overlong
+    /// walk, 13 for an output that is too short.
+    pub fn ring(&self, v: u32, out: &mut [u32]) -> Result<usize, Refusal> {
+        first_number(ask!(borzhanu_ring, self, v, out.as_mut_ptr(), out.len())).map(|count| count as usize)
+    }
+
+    /// The vertices joined to a vertex by an edge, in turn order; written as [`Mesh::ring`] does.
+    ///
+    /// # Errors
+    ///
+    /// Refusals 1 and 2 for unfit slices, 11 for a vertex that isn't there, 12 for a broken table entry or an overlong
+    /// walk, 13 for an output that is too short.
+    pub fn neighbours(&self, v: u32, out: &mut [u32]) -> Result<usize, Refusal> {
+        first_number(ask!(borzhanu_neighbours, self, v, out.as_mut_ptr(), out.len())).map(|count| count as usize)
+    }
+
+    /// The border half-edges of one hole, as border numbers from b on; written as [`Mesh::ring`] does.
+    ///
+    /// # Errors
+    ///
+    /// Refusals 1 and 2 for unfit slices, 11 for a border that isn't there, 12 for a broken table entry or an overlong
+    /// walk, 13 for an output that is too short.
+    pub fn border_loop(&self, b: u32, out: &mut [u32]) -> Result<usize, Refusal> {
+        first_number(ask!(borzhanu_border_loop, self, b, out.as_mut_ptr(), out.len())).map(|count| count as usize)
+    }
+
+    /// [`Mesh::ring`] as a vector.
+    ///
+    /// # Errors
+    ///
+    /// Those of [`Mesh::ring`] but 13.
+    pub fn ring_of(&self, v: u32) -> Result<Vec<u32>, Refusal> {
+        listed(|out| self.ring(v, out))
+    }
+
+    /// [`Mesh::neighbours`] as a vector.
+    ///
+    /// # Errors
+    ///
+    /// Those of [`Mesh::neighbours`] but 13.
+    pub fn neighbours_of(&self, v: u32) -> Result<Vec<u32>, Refusal> {
+        listed(|out| self.neighbours(v, out))
+    }
+
+    /// [`Mesh::border_loop`] as a vector.
+    ///
+    /// # Errors
+    ///
+    /// Those of [`Mesh::border_loop`] but 13.
+    pub fn border_loop_of(&self, b: u32) -> Result<Vec<u32>, Refusal> {
+        listed(|out| self.border_loop(b, out))
+    }
+
+    /// Walks about a vertex, element by element, with no list to fill.
+    ///
+    /// # Errors
+    ///
+    /// Refusals 1 and 2 for unfit slices, 11 for a vertex that isn't there, 12 for a broken table entry.
+    pub fn walk(&self, v: u32) -> Result<Walker<'a>, Refusal> {
+        let mut record = WalkerRecord::default();
+        self.start(v, &mut record)?;
+        Ok(Walker { mesh: *self, record, over: false })
+    }
+
+    /// Sets a walker's record to the beginning of the ring of v. After a refusal it is as it was.
+    ///
+    /// # Errors
+    ///
+    /// Refusals 1 and 2 for unfit slices, 11 for a vertex that isn't there, 12 for a broken table entry.
+    pub fn start(&self, v: u32, walker: &mut WalkerRecord) -> Result<(), Refusal> {
+        taken_apart(ask!(borzhanu_walker_start, self, v, walker)).map(|_| ())
+    }
+
+    /// The next element of the ring, or 0 when the ring is over; the record moves on by one. After 0 and
+    /// after a refusal, 1, 2 or 12, it is as it was.
+    ///
+    /// # Errors
+    ///
+    /// Refusals 1 and 2 for unfit slices, 12 for a broken table entry, an overlong walk or a record that no call made.
+    pub fn step(&self, walker: &mut WalkerRecord) -> Result<u32, Refusal> {
+        first_number(ask!(borzhanu_walker_step, self, walker))
+    }
+}
+
+/// The list that `ask` writes, in a vector of its length.
+fn listed(ask: impl Fn(&mut [u32]) -> Result<usize, Refusal>) -> Result<Vec<u32>, Refusal> {
+    // Most rings fit, so that most lists are asked for once.
+    let mut list = vec![0; 16];
+    let mut answer = ask(&mut list);
+    if let Err(Refusal::OutputShort { needed }) = answer {
+        list.resize(needed as usize, 0);
+        answer = ask(&mut list);
+    }
+    list.truncate(answer?);
+    Ok(list)
+}
+
+/// How far a walk about a vertex has come.
+#[repr(C)]
+#[derive(Clone, Copy, Debug, Default, PartialEq, Eq, Hash)]
+pub struct WalkerRecord {
+    /// The side where the ring begins.
+    pub start: u32,
+    /// The side whose element comes next; 0 when the ring is over.
+    pub next: u32,
+    /// The elements handed out so far.
+    pub count: u32,
+}
+
+/// A walk about a vertex: its elements in turn order. A refusal ends it.
+#[derive(Clone, Debug)]
+pub struct Walker<'a> {
+    mesh: Mesh<'a>,
+    record: WalkerRecord,
+    over: bool,
+}
+
+impl Iterator for Walker<'_> {
+    type Item = Result<u32, Refusal>;
+
+    fn next(&mut self) -> Option<Self::Item> {
+        if self.over {
+            return None;
+        }
+        let step = self.mesh.step(&mut self.record);
+        self.over = !matches!(step, Ok(element) if element != 0);
+        match step {
+            Ok(0) => None,
+            other => Some(other),
+        }
+    }
+}
+
+impl std::iter::FusedIterator for Walker<'_> {}

@@ -1,0 +1,177 @@
+//! An element list with its tables, owned.
+
+use crate::{build, work_length, Counts, HalfEdge, Mesh, Refusal, Walker, MAX_ELEMENTS, MAX_VERTICES};
+
+/// An element list and the tables that were built of it. Whatever is asked of them, the only refusal is
+/// [`Refusal::NotThere`].
+///
+/// ```
+/// use borzhanu::{HalfEdge, Tables};
+///
+/// let tables = Tables::build(4, &[[1, 2, 3, 0], [1, 3, 4, 0]])?;
+/// assert_eq!((tables.counts().borders, tables.counts().edges), (4, 5));
+/// assert_eq!(tables.mesh().v2e, [32, 8, 16, 24]);
+/// assert_eq!(tables.opposite(HalfEdge::side(1, 3))?, HalfEdge::side(2, 1));
+/// assert_eq!(tables.ring(1)?, [2, 1]);
+/// assert_eq!(tables.neighbours(1)?, [4, 3, 2]);
+/// # Ok::<(), borzhanu::Refusal>(())
+/// ```
+#[derive(Clone, Debug, PartialEq, Eq)]
+pub struct Tables {
+    n: u32,
+    rows: Vec<[u32; 4]>,
+    v2e: Vec<u32>,
+    e2e: Vec<u32>,
+    b2e: Vec<u32>,
+    counts: Counts,
+}
+
+impl Tables {
+    /// Builds the tables of the element list `rows` on n vertices. A row is four corners, the fourth 0 for a triangle.
+    ///
+    /// # Errors
+    ///
+    /// Refusals 1 and 3 to 8, where these rows are no mesh.
+    pub fn build(n: u32, rows: &[[u32; 4]]) -> Result<Tables, Refusal> {
+        let m = rows.len();
+        // Refused here, before memory is taken for them.
+        if n > MAX_VERTICES || m > MAX_ELEMENTS as usize {
+            return Err(Refusal::Sizes);
+        }
+        let mut v2e = vec![0; n as usize];
+        let mut e2e = vec![0; 4 * m];
+        // Each border half-edge leaves a vertex of its own.
+        let mut b2e = vec![0; n as usize];
+        let mut work = vec![0; work_length(n, m)];
+        let counts = build(n, rows.as_flattened(), &mut v2e, &mut e2e, &mut b2e, &mut work)?;
+        b2e.truncate(counts.borders as usize);
+        Ok(Tables { n, rows: rows.to_vec(), v2e, e2e, b2e, counts })
+    }
+
+    /// The list and its tables, lent.
+    pub fn mesh(&self) -> Mesh<'_> {
+        Mesh { n: self.n, elements: self.rows.as_flattened(), v2e: &self.v2e, e2e: &self.e2e, b2e: &self.b2e }
+    }
+
+    /// k and the number of edges.
+    pub fn counts(&self) -> Counts {
+        self.counts
+    }
+
+    /// The half-edge that runs along the same edge the other way.
+    ///
+    /// # Errors
+    ///
+    /// [`Refusal::NotThere`] where the mesh has no such half-edge.
+    pub fn opposite(&self, half_edge: HalfEdge) -> Result<HalfEdge, Refusal> {
+        self.mesh().opposite(half_edge.code()).map(HalfEdge::from_code)
+    }
+
+    /// The half-edge that follows: of a side, in its element; of a border half-edge, along its border.
+    ///
+    /// # Errors
+    ///
+    /// [`Refusal::NotThere`] where the mesh has no such half-edge.
+    pub fn next(&self, half_edge: HalfEdge) -> Result<HalfEdge, Refusal> {
+        self.mesh().next(half_edge.code()).map(HalfEdge::from_code)
+    }
+
+    /// The side before a side, in its element.
+    ///
+    /// # Errors
+    ///
+    /// [`Refusal::NotThere`] where the mesh has no such side, and for a border half-edge.
+    pub fn previous(&self, side: HalfEdge) -> Result<HalfEdge, Refusal> {
+        self.mesh().previous(side.code()).map(HalfEdge::from_code)
+    }
+
+    /// The element of a side.
+    ///
+    /// # Errors
+    ///
+    /// [`Refusal::NotThere`] where the mesh has no such side, and for a border half-edge.
+    pub fn element(&self, side: HalfEdge) -> Result<u32, Refusal> {
+        self.mesh().element(side.code())
+    }
+
+    /// The vertex where a half-edge begins.
+    ///
+    /// # Errors
+    ///
+    /// [`Refusal::NotThere`] where the mesh has no such half-edge.
+    pub fn origin(&self, half_edge: HalfEdge) -> Result<u32, Refusal> {
+        self.mesh().origin(half_edge.code())
+    }
+
+    /// The vertex where a half-edge ends.
+    ///
+    /// # Errors
+    ///
+    /// [`Refusal::NotThere`] where the mesh has no such half-edge.
+    pub fn destination(&self, half_edge: HalfEdge) -> Result<u32, Refusal> {
+        self.mesh().destination(half_edge.code())
+    }
+
+    /// The element on the other side of a side, or 0 at a border.
+    ///
+    /// # Errors
+    ///
+    /// [`Refusal::NotThere`] where the mesh has no such side, and for a border half-edge.
+    pub fn across(&self, side: HalfEdge) -> Result<u32, Refusal> {
+        self.mesh().across(side.code())
+    }
+
+    /// Whether a half-edge is a border half-edge.
+    ///
+    /// # Errors
+    ///
+    /// [`Refusal::NotThere`] where the mesh has no such half-edge.
+    pub fn halfedge_is_border(&self, half_edge: HalfEdge) -> Result<bool, Refusal> {
+        self.mesh().halfedge_is_border(half_edge.code())
+    }
+
+    /// Whether a vertex is on a border.
+    ///
+    /// # Errors
+    ///
+    /// [`Refusal::NotThere`] where the mesh has no vertex v.
+    pub fn vertex_is_border(&self, v: u32) -> Result<bool, Refusal> {
+        self.mesh().vertex_is_border(v)
+    }
+
+    /// The elements about a vertex in turn order, each once: at a border from rim to rim.
+    ///
+    /// # Errors
+    ///
+    /// [`Refusal::NotThere`] where the mesh has no vertex v.
+    pub fn ring(&self, v: u32) -> Result<Vec<u32>, Refusal> {
+        self.mesh().ring_of(v)
+    }
+
+    /// The vertices joined to a vertex by an edge, in turn order.
+    ///
+    /// # Errors
+    ///
+    /// [`Refusal::NotThere`] where the mesh has no vertex v.
+    pub fn neighbours(&self, v: u32) -> Result<Vec<u32>, Refusal> {
+        self.mesh().neighbours_of(v)
+    }
+
+    /// The border half-edges of one hole, as border numbers from b on.
+    ///
+    /// # Errors
+    ///
+    /// [`Refusal::NotThere`] where the mesh has no border half-edge b.
+    pub fn border_loop(&self, b: u32) -> Result<Vec<u32>, Refusal> {
+        self.mesh().border_loop_of(b)
+    }
+
+    /// Walks about a vertex, element by element, with no list to fill.
+    ///
+    /// # Errors
+    ///
+    /// [`Refusal::NotThere`] where the mesh has no vertex v.
+    pub fn walk(&self, v: u32) -> Result<Walker<'_>, Refusal> {
+        self.mesh().walk(v)
+    }
+}
