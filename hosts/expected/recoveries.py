@@ -1,7 +1,7 @@
 # What crates/recoveries must write, worked out from the rules that docs/TRACE.md quotes, with a build and a
 # recovery of its own.
 # From the top folder: python3 hosts/expected/recoveries.py | cmp - crates/recoveries/stdout
-import itertools, sys
+import functools, itertools, sys
 TRI=lambda r: 3 if r[3]==0 else 4
 def sides(rows):
     out=[]
@@ -58,11 +58,11 @@ def tables(n,rows):
         e=[c for c,a,b in S if b==v and partner[c] is None]
         V.append(8*num[e[0]] if e else min(c for c,a,b in S if a==v))
     return V,E,border
-def allrows(n):
-    return [r+(0,) for r in itertools.permutations(range(1,n+1),3)]+list(itertools.permutations(range(1,n+1),4))
+@functools.cache
+def rowsof(n,corners): return [r+(0,)*(4-corners) for r in itertools.permutations(range(1,n+1),corners)]
 def every(n,m):
     """all accepted lists, by tables"""
-    R=allrows(n); D={}
+    R=rowsof(n,3)+rowsof(n,4); D={}
     def go(rows,dirs):
         if len(rows)==m:
             t=tables(n,rows)
@@ -77,7 +77,7 @@ def every(n,m):
 def search(n,V,E):
     """every accepted list with these tables: rows tried one by one, dropped as soon as a rule of the tables is broken"""
     m=len(E)//4
-    R=allrows(n); found=[]
+    found=[]
     bnum={}
     for j,x in enumerate(E):
         if x and x%8==0: bnum.setdefault(x,[]).append(8*(j//4+1)+j%4+1)
@@ -91,7 +91,6 @@ def search(n,V,E):
         else: pin.setdefault(x,[]).append(('o',v))
     def ok(rows):
         f=len(rows); r=rows[-1]; c=TRI(r)
-        if (E[4*f-1]==0)!=(c==3): return False
         for i in range(1,5):
             x=8*f+i
             if i<=c:
@@ -113,7 +112,7 @@ def search(n,V,E):
             t=tables(n,rows)
             if t and t[0]==list(V) and t[1]==list(E): found.append(list(rows))
             return
-        for r in R:
+        for r in rowsof(n,3 if E[4*len(rows)+3]==0 else 4):
             rows.append(r)
             if ok(rows): go(rows)
             rows.pop()
