@@ -117,6 +117,9 @@ fn tables_of_other_lists() {
     assert_eq!(quadrilateral.mesh().b2e, [9, 10, 11, 12]);
 
     assert_eq!(Tables::build(2, &[[1, 2, 3, 0]]), Err(Refusal::CornerUnfit { element: 1, corner: 3 }));
+    // A quadrilateral whose corners count from 0: refused, or read as a triangle.
+    assert_eq!(Tables::build(3, &[[0, 1, 2, 3]]), Err(Refusal::CornerUnfit { element: 1, corner: 1 }));
+    assert_eq!(Tables::build(3, &[[3, 2, 1, 0]]).map(|tables| tables.counts().edges), Ok(3));
     assert_eq!(Tables::build(u32::MAX, &LISTING), Err(Refusal::Sizes));
     let too_many = vec![[1, 2, 3, 0]; MAX_ELEMENTS as usize + 1];
     assert_eq!(Tables::build(4, &too_many), Err(Refusal::Sizes));
