@@ -14,7 +14,7 @@
  *   B2e  k entries      the side opposite each border half-edge, in rising order
  *
  * Buffers. Each is a pointer and a length in entries, all entries 32-bit. The pointer is aligned to 4
- * bytes; with length 0 it may be null, as that of an empty vector in C++ is. A buffer that a call
+ * bytes; with length 0 it may be null, as an empty vector of C++ gives it. A buffer that a call
  * writes overlaps no other buffer of that call. Nothing else is asked: a call ends, with an answer or
  * a refusal, whatever the lengths are and whatever the buffers hold, and touches nothing beyond them.
  *
