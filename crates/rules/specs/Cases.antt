@@ -144,5 +144,12 @@ cases =
 
 -- the rules give every row of the table
 pub cases-hold : T (every holds cases)
-unfolding quad tri blank room left built sameAnswer gave holds every listing listingE2e tetrahedron cases least count upto tab zeros same sidesBy isSide slot origin nextNumber next sideAt firstSide countSides firstVertex alike opposed joins sizesFit unfitCorner repeatedCorner rowsFit partner isBorder b2e borderNumber borders e2eEntry e2e borderInto v2eEntry v2e edges sideOfBorder walkStart turnBy trace walkTo walk unusedVertex crowdedSide alikeSide missed unorderedVertex sideCheck vertexCheck listAnswer accepts callSizes callLengths lengthChecks roomCheck buildAnswer after onto buildLeaves recovers recoverAnswer recoverList asked defined listed listLeaves andThen prepend readAll follow over isBorderCode isHalfEdge isVertex readOpposite readBorderSide readVertexEntry readOrigin readDestination borderNext startSide onward ringSides ring neighbours loopNext borderLoop listedAnswer ringAnswer ringLeaves neighboursAnswer neighboursLeaves borderLoopAnswer borderLoopLeaves
+unfolding quad tri blank room left built sameAnswer gave holds every listing listingE2e tetrahedron cases least count upto tab zeros same
+    sidesBy isSide slot origin nextNumber next sideAt firstSide countSides firstVertex alike opposed joins sizesFit unfitCorner
+    repeatedCorner rowsFit partner isBorder b2e borderNumber borders e2eEntry e2e borderInto v2eEntry v2e edges sideOfBorder walkStart
+    turnBy trace walkTo walk unusedVertex crowdedSide alikeSide missed unorderedVertex sideCheck vertexCheck listAnswer accepts callSizes
+    callLengths lengthChecks roomCheck buildAnswer after onto buildLeaves recovers recoverAnswer recoverList asked defined listed listLeaves
+    andThen prepend readAll follow over isBorderCode isHalfEdge isVertex readOpposite readBorderSide readVertexEntry readOrigin
+    readDestination borderNext startSide onward ringSides ring neighbours loopNext borderLoop listedAnswer ringAnswer ringLeaves
+    neighboursAnswer neighboursLeaves borderLoopAnswer borderLoopLeaves
 cases-hold = tt

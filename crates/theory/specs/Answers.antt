@@ -14,7 +14,8 @@ use Rattle.lists.specs.SearchLaws.{le-or-lt}
 use Rattle.rules.specs.Elements.{element, number}
 use Rattle.rules.specs.Pairing.{Ordered, unfitCorner, repeatedCorner, rowsFit, sizesFit}
 use Rattle.rules.specs.Tables.{partner, borders, edges}
-use Rattle.rules.specs.Refusals.{Answer, gives, refused, unusedVertex, crowdedSide, alikeSide, unorderedVertex, sideCheck, vertexCheck, listAnswer, Buffers, callSizes, callLengths, lengthChecks, roomCheck, buildAnswer}
+use Rattle.rules.specs.Refusals.{Answer, gives, refused, unusedVertex, crowdedSide, alikeSide, unorderedVertex, sideCheck, vertexCheck, listAnswer, Buffers}
+use Rattle.rules.specs.Refusals.{callSizes, callLengths, lengthChecks, roomCheck, buildAnswer}
 use Rattle.theory.specs.FitRows.{means-fit}
 use Rattle.theory.specs.Pairings.{pairing-exists, the-pairing}
 use Rattle.theory.specs.Orders.{good}

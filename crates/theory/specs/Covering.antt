@@ -108,7 +108,8 @@ module _ (L : List ℕ) (p : Pairing L (partner L)) (v c : ℕ) (o : List ℕ) (
           let e = fan .once i (length o - 1) (omega arith) (omega arith) (turn-inj L p (at o i) last (at o (suc i)) a b (fan .turns i h) t) in
           absurd (omega arith)
 
-      ends : (partner L last ≡ 0) ⊎ ((i : ℕ) × (i < length o) × Turn L (partner L) last (at o i)) → Turn L (partner L) last (at o 0) ⊎ ((partner L last ≡ 0) × ((s : ℕ) → Side L s → Turn L (partner L) s (at o 0) → ⊥))
+      ends : (partner L last ≡ 0) ⊎ ((i : ℕ) × (i < length o) × Turn L (partner L) last (at o i))
+          → Turn L (partner L) last (at o 0) ⊎ ((partner L last ≡ 0) × ((s : ℕ) → Side L s → Turn L (partner L) s (at o 0) → ⊥))
       ends (inl z) = inr (z, nobodys z)
       ends (inr (i, h, t)) = inl (back i h t)
 

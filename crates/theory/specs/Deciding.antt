@@ -97,7 +97,8 @@ module _ (n : ℕ) (L : List ℕ) where
         }
 
     -- else its place is the least vertex with none
-    pub unordered-least : (unorderedVertex n L ≡ 0 → ⊥) → ((o : List ℕ) → TurnOrder L (partner L) (unorderedVertex n L) o → ⊥) × ((v : ℕ) → 1 ≤ v → v < unorderedVertex n L → (o : List ℕ) × TurnOrder L (partner L) v o)
+    pub unordered-least : (unorderedVertex n L ≡ 0 → ⊥)
+        → ((o : List ℕ) → TurnOrder L (partner L) (unorderedVertex n L) o → ⊥) × ((v : ℕ) → 1 ≤ v → v < unorderedVertex n L → (o : List ℕ) × TurnOrder L (partner L) v o)
     unfolding unorderedVertex
     unordered-least d = go (first-vertex n (missed L (walk (v2e n L) (e2e L))))
       where

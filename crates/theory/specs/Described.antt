@@ -15,7 +15,8 @@ use Rattle.rules.specs.Pairing.{SideAt, Accepted}
 use Rattle.rules.specs.Tables.{partner, borderNumber, borders, b2e, e2e, v2e}
 use Rattle.theory.specs.Least.{nobody, somebody}
 use Rattle.theory.specs.Pairings.{pairing-unique}
-use Rattle.theory.specs.Entries.{length-e2e, length-v2e, length-b2e, e2e-paired, e2e-border, e2e-empty, b2e-border, number-from, number-to, number-less, numbered-border, VertexEntry, rim, inner, vertex-entry}
+use Rattle.theory.specs.Entries.{length-e2e, length-v2e, length-b2e, e2e-paired, e2e-border, e2e-empty, b2e-border, number-from, number-to, number-less}
+use Rattle.theory.specs.Entries.{numbered-border, VertexEntry, rim, inner, vertex-entry}
 use Rattle.theory.specs.Turns.{fourth, fourth-none}
 use Rattle.theory.specs.Orders.{Good, good, one-border-into}
 

@@ -64,7 +64,8 @@ module _ (n : ℕ) (L : List ℕ) (g : Good n L) where
       let f′ : borderNext (built n L) (8 * x) ≡ some (8 * borderNumber L r) = rw e at f in
       go s r a z e q f′ (decide (means-eq (borderNumber L r) b))
     where
-      go : (s r : ℕ) → Side L s → partner L s ≡ 0 → borderNumber L s ≡ x → BorderInto L (origin L s) r → borderNext (built n L) (8 * x) ≡ some (8 * borderNumber L r) → (borderNumber L r ≡ b) ⊎ (borderNumber L r ≡ b → ⊥) → Onward n L b x
+      go : (s r : ℕ) → Side L s → partner L s ≡ 0 → borderNumber L s ≡ x → BorderInto L (origin L s) r
+          → borderNext (built n L) (8 * x) ≡ some (8 * borderNumber L r) → (borderNumber L r ≡ b) ⊎ (borderNumber L r ≡ b → ⊥) → Onward n L b x
       go s r a z e q f (inl c) =
           let i : 8 * borderNumber L r / 8 ≡ borderNumber L r = omega arith in
           back (and-then _ f ∙ rw (i, true-of (eqb (borderNumber L r) b) (means-eq _ _ .shows c)) refl)

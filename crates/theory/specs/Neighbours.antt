@@ -113,7 +113,9 @@ module _ (n : ℕ) (L : List ℕ) (g : Good n L) where
         let (ds, e, m) = read-all (readDestination (built n L)) (λ s. destination L s) (r .sides) (λ i l. read-destination n L (g .fit) (at (r .sides) i) (r .order .sides i l .0)) in
         go (r .sides) (r .order) ds m (ap (over (readDestination (built n L))) (r .listed) ∙ e) (read-entry n L g v h k)
       where
-        go : (o : List ℕ) → TurnOrder L (partner L) v o → (ds : List ℕ) → Mapped (λ s. destination L s) o ds → over (readDestination (built n L)) (ringSides (built n L) v) ≡ some ds → ReadEntry n L v → (us : List ℕ) × (neighbours (built n L) v ≡ some us) × ListsJoined L v us
+        go : (o : List ℕ) → TurnOrder L (partner L) v o → (ds : List ℕ) → Mapped (λ s. destination L s) o ds
+            → over (readDestination (built n L)) (ringSides (built n L) v) ≡ some ds → ReadEntry n L v
+            → (us : List ℕ) × (neighbours (built n L) v ≡ some us) × ListsJoined L v us
         go o x ds m e (rim r a z d f) = (
           origin L r ∷ ds,
           and-then _ f

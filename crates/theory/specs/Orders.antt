@@ -128,6 +128,7 @@ module _ (L : List ℕ) (p : Pairing L (partner L)) where
         let e = next-previous L (at o 0) a in
         go r b e (zero-or (partner L r)) d
       where
-        go : (r : ℕ) → Side L r → next L r ≡ at o 0 → (partner L r ≡ 0) ⊎ (partner L r ≡ 0 → ⊥) → origin L (at o 0) ≡ v → (r : ℕ) × Side L r × (partner L r ≡ 0) × (destination L r ≡ v) × (next L r ≡ at o 0)
+        go : (r : ℕ) → Side L r → next L r ≡ at o 0 → (partner L r ≡ 0) ⊎ (partner L r ≡ 0 → ⊥) → origin L (at o 0) ≡ v
+            → (r : ℕ) × Side L r × (partner L r ≡ 0) × (destination L r ≡ v) × (next L r ≡ at o 0)
         go r b e (inl z) d = (r, b, z, ap (origin L) e ∙ d, e)
         go r b e (inr z) d = absurd (f (partner L r) (p .mutually r b z .0) (rw e at (after-paired r b z)))

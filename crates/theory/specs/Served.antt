@@ -13,16 +13,21 @@ use Rattle.rules.specs.Elements.{Side, origin, destination}
 use Rattle.rules.specs.Pairing.{TurnOrder, Accepted}
 use Rattle.rules.specs.Tables.{partner, borderNumber, borders}
 use Rattle.rules.specs.Refusals.{Answer, gives}
-use Rattle.rules.specs.Queries.{Mesh, asked, isHalfEdge, isVertex, readOpposite, readBorderSide, readVertexEntry, readOrigin, readDestination, opposite, ringSides, ring, neighbours, borderLoop, Walker, walkerStart, oppositeAnswer, nextAnswer, previousAnswer, elementAnswer, originAnswer, destinationAnswer, acrossAnswer, halfEdgeBorderAnswer, vertexBorderAnswer, ringAnswer, neighboursAnswer, borderLoopAnswer, startAnswer}
+use Rattle.rules.specs.Queries.{Mesh, asked, isHalfEdge, isVertex, readOpposite, readBorderSide, readVertexEntry, readOrigin, readDestination, opposite}
+use Rattle.rules.specs.Queries.{ringSides, ring, neighbours, borderLoop, Walker, walkerStart, oppositeAnswer, nextAnswer, previousAnswer, elementAnswer}
+use Rattle.rules.specs.Queries.{originAnswer, destinationAnswer, acrossAnswer, halfEdgeBorderAnswer, vertexBorderAnswer, ringAnswer, neighboursAnswer}
+use Rattle.rules.specs.Queries.{borderLoopAnswer, startAnswer}
 use Rattle.theory.specs.Entries.{length-b2e, number-from, number-to, numbered-border}
 use Rattle.theory.specs.Orders.{Good, good}
-use Rattle.theory.specs.Built.{built, asked-built, HalfEdge, side, border, means-half, means-vertex, read-paired, read-border, read-border-side, read-origin, read-destination, ReadEntry, rim, inner, read-entry}
+use Rattle.theory.specs.Built.{built, asked-built, HalfEdge, side, border, means-half, means-vertex, read-paired, read-border, read-border-side}
+use Rattle.theory.specs.Built.{read-origin, read-destination, ReadEntry, rim, inner, read-entry}
 use Rattle.theory.specs.Rings.{ListsOnce, the-ring, ring-lists}
 use Rattle.theory.specs.Opposites.{opposite-undone}
 use Rattle.theory.specs.Loops.{Border, LoopOf, border-loop}
 use Rattle.theory.specs.Neighbours.{ListsJoined, neighbours-joined}
 use Rattle.theory.specs.Walkers.{HandsOut, walker-hands}
-use Rattle.theory.specs.Sound.{Sound, opposite-sound, next-sound, previous-sound, element-sound, origin-sound, destination-sound, across-sound, half-edge-border-sound, vertex-border-sound, ring-sound, neighbours-sound, border-loop-sound, start-sound}
+use Rattle.theory.specs.Sound.{Sound, opposite-sound, next-sound, previous-sound, element-sound, origin-sound, destination-sound, across-sound}
+use Rattle.theory.specs.Sound.{half-edge-border-sound, vertex-border-sound, ring-sound, neighbours-sound, border-loop-sound, start-sound}
 
 -- every read of built tables finds what it must
 pub record Reads (n : ℕ) (L : List ℕ) (M : Mesh) : Type 0 where

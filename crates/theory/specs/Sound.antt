@@ -14,10 +14,14 @@ use Rattle.lists.specs.TestLaws.{Test, pass, fail, test, means-within, zero-or}
 use Rattle.rules.specs.Elements.{element, Side, isSide, origin, destination, next, previous}
 use Rattle.rules.specs.Tables.{partner, borderNumber, b2e}
 use Rattle.rules.specs.Refusals.{Answer, gives, refused}
-use Rattle.rules.specs.Queries.{asked, defined, found, listed, andThen, bySide, isHalfEdge, isVertex, readOpposite, readBorderSide, readVertexEntry, readOrigin, readDestination, opposite, borderNext, ring, neighbours, borderLoop, listedAnswer, oppositeAnswer, nextAnswer, previousAnswer, elementAnswer, originAnswer, destinationAnswer, acrossAnswer, halfEdgeBorderAnswer, vertexBorderAnswer, ringAnswer, neighboursAnswer, borderLoopAnswer, startAnswer}
+use Rattle.rules.specs.Queries.{asked, defined, found, listed, andThen, bySide, isHalfEdge, isVertex, readOpposite, readBorderSide, readVertexEntry, readOrigin}
+use Rattle.rules.specs.Queries.{readDestination, opposite, borderNext, ring, neighbours, borderLoop, listedAnswer, oppositeAnswer, nextAnswer, previousAnswer}
+use Rattle.rules.specs.Queries.{elementAnswer, originAnswer, destinationAnswer, acrossAnswer, halfEdgeBorderAnswer, vertexBorderAnswer, ringAnswer}
+use Rattle.rules.specs.Queries.{neighboursAnswer, borderLoopAnswer, startAnswer}
 use Rattle.theory.specs.Entries.{length-b2e}
 use Rattle.theory.specs.Orders.{Good}
-use Rattle.theory.specs.Built.{built, asked-built, HalfEdge, side, border, by-side, by-border, means-half, means-vertex, read-paired, read-border, read-border-side, read-origin, read-destination, ReadEntry, rim, inner, read-entry}
+use Rattle.theory.specs.Built.{built, asked-built, HalfEdge, side, border, by-side, by-border, means-half, means-vertex, read-paired, read-border}
+use Rattle.theory.specs.Built.{read-border-side, read-origin, read-destination, ReadEntry, rim, inner, read-entry}
 use Rattle.theory.specs.Reads.{and-then}
 use Rattle.theory.specs.Rings.{start, ring-lists}
 use Rattle.theory.specs.Opposites.{opposite-undone}
@@ -55,7 +59,9 @@ module _ (n : ℕ) (L : List ℕ) (g : Good n L) where
   answer-sound there a f x y e = defined-sound there a f x y (sym (asked-built n L (g .fit) (defined there a)) ∙ e)
 
   -- an answer about a half-edge that can be read at a side and at a border
-  half-sound : (c : ℕ) (p q : Option ℕ) → (Side L c → (x : ℕ) × (p ≡ some x)) → ((s : ℕ) → Side L s → partner L s ≡ 0 → c ≡ 8 * borderNumber L s → (x : ℕ) × (q ≡ some x)) → Sound (asked (built n L) (defined (isHalfEdge (built n L) c) (found (bySide c p q))))
+  half-sound : (c : ℕ) (p q : Option ℕ) → (Side L c → (x : ℕ) × (p ≡ some x))
+      → ((s : ℕ) → Side L s → partner L s ≡ 0 → c ≡ 8 * borderNumber L s → (x : ℕ) × (q ≡ some x))
+      → Sound (asked (built n L) (defined (isHalfEdge (built n L) c) (found (bySide c p q))))
   half-sound c p q f h = answer-sound (isHalfEdge (built n L) c) (found (bySide c p q)) (λ t. go (means-half n L c .says t))
     where
       go : HalfEdge L c → Sound (found (bySide c p q))

@@ -102,7 +102,9 @@ module _ (E : List ℕ) (v : ℕ) (positive : v ≡ 0 → ⊥) where
       Result : Type 0
       Result = (o : List ℕ) × (f : ℕ) × Path E v s W o (trace (suc k) E v s W) f
 
-      go : Test (both (isSide E s) (eqb (at W (slot s)) 0)) → (zeros (set W (slot s) v) ≡ k → (o : List ℕ) × (f : ℕ) × Path E v (turnBy E s) (set W (slot s) v) o (trace k E v (turnBy E s) (set W (slot s) v)) f) → Result
+      go : Test (both (isSide E s) (eqb (at W (slot s)) 0))
+          → (zeros (set W (slot s) v) ≡ k → (o : List ℕ) × (f : ℕ) × Path E v (turnBy E s) (set W (slot s) v) o (trace k E v (turnBy E s) (set W (slot s) v)) f)
+          → Result
       go (pass t c) r =
           let (a, y) = passes (isSide E s) (eqb (at W (slot s)) 0) t in
           let z : at W (slot s) ≡ 0 = means-eq (at W (slot s)) 0 .says y in
