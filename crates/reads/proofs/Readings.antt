@@ -3,10 +3,15 @@
 use mathlib.Core.Bool.{Bool, true, false}
 use mathlib.Core.Option.{Option, none, some}
 use mathlib.Core.Path.{_≡_, refl, ap, sym, subst, _∙_}
-use Prim.Native.Nat.{ℕ, _%_}
+use mathlib.Core.List.{List}
+use Prim.Native.Nat.{ℕ, _%_, _-_}
 use native.Mathlib.Omega.{arith}
 use lib.Dec.{T, eqb}
 use borrow.Author.Tests.{eq-eqb, ne-eqb}
+use Rattle.lists.specs.Search.{at}
+use Rattle.rules.specs.Elements.{number}
+use Rattle.halfedge.specs.Codes.{of-border, of-side}
+use Rattle.theory.specs.Reads.{and-then}
 use Rattle.rules.specs.Queries.{read, andThen, bySide}
 use Rattle.reads.specs.declared.Read.{Read}
 use Rattle.reads.specs.declared.Read.the-variants.{Value, Broken}
@@ -26,6 +31,11 @@ broken-of e g = sym e ∙ ap readOf g
 pub read-as : (valid : ℕ → Bool) {ok : Bool} {x y : ℕ} {r : Option ℕ} → r ≡ read (λ _. ok) x → ok ≡ valid x → x ≡ y → r ≡ read valid y
 read-as valid {x = x} q e p = q ∙ ap (λ (b : Bool). read (λ _. b) x) e ∙ ap (read valid) p
 
+-- a read of entry i of a table, entries counted from 1
+module _ (valid : ℕ → Bool) (table : List ℕ) {ok : Bool} {i j : ℕ} {r : Option ℕ} where
+  pub read-at : r ≡ read (λ _. ok) (at table (i - 1)) → ok ≡ valid (at table (i - 1)) → i ≡ j → r ≡ read valid (at table (j - 1))
+  read-at q e p = read-as valid q e (ap (λ (k : ℕ). at table (k - 1)) p)
+
 -- what was read is valid
 read-by : (b : Bool) (x y : ℕ) → read (λ _. b) x ≡ some y → (b ≡ true) × (x ≡ y)
 read-by true x y e = (refl, (cc))
@@ -38,6 +48,14 @@ was-valid valid x y e =
 pub and-none {ℓ} : {A : Type ℓ} {r : Option ℕ} (f : ℕ → Option A) → r ≡ none → andThen r f ≡ none
 unfolding andThen
 and-none f e = ap (λ (r : Option ℕ). andThen r f) e
+
+-- a read taken apart, and what the code goes on to read
+module _ {r : Read} {o : Option ℕ} (f : ℕ → Option ℕ) (e : readOf r ≡ o) where
+  pub broken-then : r ≡ Broken → none ≡ andThen o f
+  broken-then g = sym (and-none f (broken-of e g))
+
+  pub value-then : {x : ℕ} {y : Option ℕ} → r ≡ Value x → y ≡ f x → y ≡ andThen o f
+  value-then g q = q ∙ sym (and-then f (value-of e g))
 
 pub and-assoc {ℓ} : {A : Type ℓ} (r : Option ℕ) (f : ℕ → Option ℕ) (g : ℕ → Option A) → andThen (andThen r f) g ≡ andThen r (λ x. andThen (f x) g)
 unfolding andThen
@@ -56,6 +74,14 @@ at-border c x y z = rw (eq-eqb (c % 8) 0 z, bySide)
 
 pub at-side {ℓ} : {A : Type ℓ} (c : ℕ) (x y : A) → (c % 8 ≡ 0 → ⊥) → bySide c x y ≡ x
 at-side c x y d = rw (ne-eqb (c % 8) 0 d, bySide)
+
+-- by the code's test for a border
+module _ {ℓ} {A : Type ℓ} (c : ℕ) (x y : A) {b : Bool} (e : b ≡ eqb (number c) 0) {z : A} where
+  pub border-then : b ≡ true → z ≡ y → z ≡ bySide c x y
+  border-then t q = q ∙ sym (at-border c x y (of-border c e t))
+
+  pub side-then : b ≡ false → z ≡ x → z ≡ bySide c x y
+  side-then t q = q ∙ sym (at-side c x y (of-side c e t))
 
 -- y where it is not the start, 0 where it is
 module _ {t y start : ℕ} (e : t ≡ y) where

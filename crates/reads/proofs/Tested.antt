@@ -8,8 +8,8 @@ use native.Mathlib.Omega.{arith}
 use lib.Dec.{T}
 use lib.ListN.{length}
 use Rattle.lists.specs.TestLaws.{means-itself, means-both, means-either, means-eq, means-within}
-use Rattle.rules.specs.Elements.{isSide, Side, origin}
-use Rattle.rules.specs.Queries.{Mesh, isBorderCode, isHalfEdge, isVertex, andThen, readOrigin}
+use Rattle.rules.specs.Elements.{isSide, Side, number}
+use Rattle.rules.specs.Queries.{Mesh, isBorderCode, isHalfEdge, isVertex, andThen, read, readBorderSide, readVertexEntry}
 use Rattle.theory.specs.Sides.{side-facts}
 use Rattle.reads.proofs.Readings.{was-valid, and-some}
 
@@ -40,16 +40,25 @@ module _ (M : Mesh) (c : ℕ) where
       go (inl a) = a
       go (inr b) = absurd (d (border-facts b .0))
 
--- what was read as an origin is a vertex
-pub origin-vertex : (M : Mesh) (o : Option ℕ) (v : ℕ) → andThen o (readOrigin M) ≡ some v → T (isVertex M v)
-unfolding readOrigin
-origin-vertex M o v e =
-    let (s, p, q) = and-some o (readOrigin M) v e in was-valid (isVertex M) (origin (M .list) s) v q
+-- what was read as the end of a side is a vertex
+pub end-vertex : (M : Mesh) (end : ℕ → ℕ) (o : Option ℕ) (v : ℕ) → andThen o (λ s. read (isVertex M) (end s)) ≡ some v → T (isVertex M v)
+end-vertex M end o v e =
+    let (s, p, q) = and-some o (λ s. read (isVertex M) (end s)) v e in was-valid (isVertex M) (end s) v q
 
 -- a border number has the code of a border half-edge
-pub border-code : (M : Mesh) (b : ℕ) → (1 ≤ b) × (b ≤ length (M .border)) → T (isBorderCode M (8 * b))
+pub border-numbered : (M : Mesh) (b : ℕ) → (1 ≤ b) × (b ≤ length (M .border)) → T (isBorderCode M (8 * b))
 unfolding isBorderCode
-border-code M b (l, h) =
+border-numbered M b (l, h) =
     let p : 8 * b % 8 ≡ 0 = omega arith in
     let q : 8 * b / 8 ≡ b = omega arith in
     means-both (means-eq (8 * b % 8) 0) (means-within 1 (length (M .border)) (8 * b / 8)) .shows (p, ((omega arith), (omega arith)))
+
+-- what B2e holds of a border half-edge is a side
+pub border-side : (M : Mesh) (c s : ℕ) → readBorderSide M c ≡ some s → Side (M .list) s
+unfolding readBorderSide
+border-side M c s e = was-valid (isSide (M .list)) _ s e
+
+-- what V2e holds of a vertex: a side or a border half-edge
+pub entry-border : (M : Mesh) (v c : ℕ) → readVertexEntry M v ≡ some c → number c ≡ 0 → T (isBorderCode M c)
+unfolding readVertexEntry
+entry-border M v c e z = half-border M c (was-valid (isHalfEdge M) _ c e) z

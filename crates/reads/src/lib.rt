@@ -1,4 +1,7 @@
 // What a query reads from the tables: a value that names something, or a broken entry.
+use halfedge::HalfEdge;
+use halfedge::element_of;
+use halfedge::is_border;
 use halfedge::slot_of;
 use halfedge::wide;
 use sides::destination_of;
@@ -45,16 +48,16 @@ pub fn is_border_number(b2e: &[u32], b: u32) -> bool
     if b < 1 {
         return false;
     }
-    wide(b - 1) < b2e.len()
+    wide(b) <= b2e.len()
 }
 
 fn is_border_code(n: u32, list: &[u32], v2e: &[u32], e2e: &[u32], b2e: &[u32], code: u32) -> bool
     ensures { λ r. ⌜ r ≡ isBorderCode (mesh n (now (list .entry)) (now (v2e .entry)) (now (e2e .entry)) (now (b2e .entry))) code ⌝ }
 {
-    if code % 8 != 0 {
+    if !is_border(code) {
         return false;
     }
-    is_border_number(b2e, code / 8)
+    is_border_number(b2e, element_of(code))
 }
 
 pub fn is_half_edge(n: u32, list: &[u32], v2e: &[u32], e2e: &[u32], b2e: &[u32], code: u32) -> bool
@@ -86,7 +89,7 @@ pub fn read_border_side(
     requires { ⌜ T (isBorderCode (mesh n (now list) (now v2e) (now e2e) (now b2e)) code) ⌝ }
     ensures { λ r. ⌜ readOf r ≡ readBorderSide (mesh n (now (list .entry)) (now (v2e .entry)) (now (e2e .entry)) (now (b2e .entry))) code ⌝ }
 {
-    let side = b2e[wide(code / 8) - 1];
+    let side = b2e[wide(element_of(code)) - 1];
     let valid = is_side(list, side);
     checked(valid, side)
 }
@@ -178,7 +181,7 @@ pub fn start_side(n: u32, list: &[u32], v2e: &[u32], e2e: &[u32], b2e: &[u32], v
     let Read::Value(first) = entry else {
         return Read::Broken;
     };
-    if first % 8 != 0 {
+    if !is_border(first) {
         return Read::Value(first);
     }
     let side = read_border_side(n, list, v2e, e2e, b2e, first);
@@ -206,7 +209,7 @@ pub fn ring_next(
     let Read::Value(t) = across else {
         return Read::Broken;
     };
-    if t % 8 == 0 {
+    if is_border(t) {
         return Read::Value(0);
     }
     let turn = next_code(list, t);
@@ -229,14 +232,16 @@ pub fn loop_next(
     requires { ⌜ Fit (mesh n (now list) (now v2e) (now e2e) (now b2e)) × ((1 ≤ x) × (x ≤ length (now b2e))) ⌝ }
     ensures { λ r. ⌜ readOf r ≡ loopNext (mesh n (now (list .entry)) (now (v2e .entry)) (now (e2e .entry)) (now (b2e .entry))) b x ⌝ }
 {
-    let following = border_next(n, list, v2e, e2e, b2e, 8 * x);
+    let border = HalfEdge::border(x);
+    let following = border_next(n, list, v2e, e2e, b2e, border.code);
     let Read::Value(code) = following else {
         return Read::Broken;
     };
-    if code / 8 == b {
+    let y = element_of(code);
+    if y == b {
         return Read::Value(0);
     }
-    Read::Value(code / 8)
+    Read::Value(y)
 }
 
 // The vertex before the ring of v: where V2e of v is a border, that border half-edge's destination, else 0.
@@ -248,7 +253,7 @@ pub fn prior_vertex(n: u32, list: &[u32], v2e: &[u32], e2e: &[u32], b2e: &[u32],
     let Read::Value(code) = entry else {
         return Read::Broken;
     };
-    if code % 8 != 0 {
+    if !is_border(code) {
         return Read::Value(0);
     }
     border_destination(n, list, v2e, e2e, b2e, code)

@@ -1,11 +1,8 @@
--- `reads::border_origin` meets its contract.
+-- `reads::border_origin` meets its contract: the destination of its B2e side.
 -- Assumes nothing.
-use Rattle.theory.specs.Reads.{and-then}
-use Rattle.reads.proofs.Readings.{value-of, broken-of, was-valid, and-none}
-use Rattle.rules.specs.Elements.{isSide}
-use Rattle.rules.specs.Queries.{readBorderSide}
+use Rattle.reads.proofs.Readings.{value-of, value-then, broken-then}
+use Rattle.reads.proofs.Tested.{border-side}
 use borrow.Author.Needs.{needs}
-use mathlib.Core.Path.{sym, _∙_}
 use Rattle.reads.proofs.border_origin.Statement.{statement}
 use Rattle.reads.proofs.border_origin.Tie as tie
 
@@ -19,18 +16,17 @@ enum-told : tie.Need-enum-told
 enum-told c = search needs
 
 returns : tie.Need-returns
-returns c = sym (and-none _ (broken-of (c .before .before .read-border-side .ensures) (c .enum-told .given .1)))
+returns c = broken-then _ (c .before .before .read-border-side .ensures) (c .enum-told .given .1)
 
 read-destination-requires : tie.Need-read-destination-requires
-unfolding readBorderSide
 read-destination-requires c κs =
-    let read-border-side = c .before .before .before .read-border-side in
-    was-valid (isSide _) _ _ (value-of (read-border-side .ensures) (c .before .side .given .1))
+    let side = c .before in
+    border-side _ _ _ (value-of (side .before .before .read-border-side .ensures) (side .side .given .1))
 
 returns-2 : tie.Need-returns-2
 returns-2 c =
-    let read-border-side = c .before .before .before .before .read-border-side in
-    c .read-destination .ensures ∙ sym (and-then _ (value-of (read-border-side .ensures) (c .before .before .side .given .1)))
+    let side = c .before .before in
+    value-then _ (side .before .before .read-border-side .ensures) (side .side .given .1) (c .read-destination .ensures)
 
 pub border-origin-spec : {M : Type 1} → statement M
 border-origin-spec =

@@ -1,10 +1,7 @@
 -- `reads::is_border_number` meets its contract.
 -- Assumes nothing.
-use Prim.Native.Nat.{suc}
 use borrow.Author.Needs.{needs}
 use borrow.Author.Tests.{lt-leb, le-leb}
-use mathlib.Core.Path.{_≡_}
-use native.Mathlib.Omega.{arith}
 use Rattle.reads.proofs.is_border_number.Statement.{statement}
 use Rattle.reads.proofs.is_border_number.Tie as tie
 
@@ -15,10 +12,7 @@ wide-requires : tie.Need-wide-requires
 wide-requires c κs = search needs
 
 returns-2 : tie.Need-returns-2
-returns-2 c =
-    let args = c .before .before .before .args in
-    let e : suc (c .wide .result) ≡ args .b = omega (arith, c .wide .ensures, c .before .if1 .left) in
-    simp (le-leb 1 _ (c .before .if1 .left), e)
+returns-2 c = simp (le-leb 1 _ (c .before .if1 .left), c .wide .ensures)
 
 pub is-border-number-spec : {M : Type 1} → statement M
 is-border-number-spec = tie.close (tie.spec returns wide-requires returns-2)

@@ -1,9 +1,9 @@
 -- `reads::read_opposite` meets its contract.
 -- Assumes nothing.
 use Prim.Native.Nat.{_<_}
-use Rattle.lists.specs.Search.{at}
 use Rattle.reads.proofs.Readings.{read-as}
 use Rattle.rules.specs.Queries.{isHalfEdge, readOpposite}
+use Rattle.lists.specs.Search.{at}
 use Rattle.theory.specs.Sides.{slot-below}
 use borrow.Author.Needs.{needs}
 use lib.ListN.{length}
@@ -12,18 +12,19 @@ use native.Mathlib.Omega.{arith}
 use Rattle.reads.proofs.read_opposite.Statement.{statement}
 use Rattle.reads.proofs.read_opposite.Tie as tie
 
-inside : (c : tie.After-slot-of) → c .slot-of .result < length (c .before .before .before .before .before .args .e2e .now)
+abbrev begun : tie.After-slot-of → tie.Start
+begun c = c .before .before .before .before .before
+
+inside : (c : tie.After-slot-of) → c .slot-of .result < length (begun c .args .e2e .now)
 inside c =
-    let s = c .before .before .before .before .before in
+    let s = begun c in
     omega (arith, slot-below (s .args .list .now) (s .args .s) (s .pre .1), s .pre .0 .opposites, c .slot-of .ensures)
 
 slot-of-requires : tie.Need-slot-of-requires
 slot-of-requires c κs = search needs
 
 mul-opposed : tie.Need-mul-opposed
-mul-opposed c =
-    let good = c .before .before .before .before .before .good in
-    omega (arith, inside c, good)
+mul-opposed c = omega (arith, inside c, begun c .good)
 
 shared-slice-read-opposed : tie.Need-shared-slice-read-opposed
 shared-slice-read-opposed c = inside (c .before)
@@ -37,10 +38,9 @@ checked-requires c κs = search needs
 returns : tie.Need-returns
 unfolding readOpposite
 returns c =
-    let args = c .before .before .before .before .before .before .before .before .args in
-    let slot-of = c .before .before .before .slot-of in
-    let e = args .e2e .now in
-    read-as (isHalfEdge _) (c .checked .ensures) (c .before .is-half-edge .ensures) (ap (at e) (slot-of .ensures))
+    let tested = c .before in
+    let slot = tested .before .before in
+    read-as (isHalfEdge _) (c .checked .ensures) (tested .is-half-edge .ensures) (ap (at (begun slot .args .e2e .now)) (slot .slot-of .ensures))
 
 pub read-opposite-spec : {M : Type 1} → statement M
 read-opposite-spec =

@@ -1,31 +1,33 @@
 -- `reads::read_vertex_entry` meets its contract.
 -- Assumes nothing.
-use Prim.Native.Nat.{ℕ, _-_}
-use Rattle.lists.specs.Search.{at}
-use Rattle.reads.proofs.Readings.{read-as}
+use Prim.Native.Nat.{_≤_}
+use Rattle.reads.proofs.Readings.{read-at}
 use Rattle.reads.proofs.Tested.{vertex-facts}
 use Rattle.rules.specs.Queries.{isHalfEdge, readVertexEntry}
 use borrow.Author.Needs.{needs}
-use mathlib.Core.Path.{ap}
+use lib.ListN.{length}
 use native.Mathlib.Omega.{arith}
 use Rattle.reads.proofs.read_vertex_entry.Statement.{statement}
 use Rattle.reads.proofs.read_vertex_entry.Tie as tie
+
+abbrev begun : tie.After-wide → tie.Start
+begun c = c .before .before .before .before .before
+
+-- the vertex has an entry
+numbered : (c : tie.After-wide) → (1 ≤ c .wide .result) × (c .wide .result ≤ length (begun c .args .v2e .now))
+numbered c = omega (arith, vertex-facts _ _ (begun c .pre .1), begun c .pre .0 .vertices, c .wide .ensures)
 
 wide-requires : tie.Need-wide-requires
 wide-requires c κs = search needs
 
 sub-code : tie.Need-sub-code
-sub-code c =
-    let pre = c .before .before .before .before .before .pre in
-    omega (arith, vertex-facts _ _ (pre .1), c .wide .ensures)
+sub-code c = omega (arith, numbered c)
 
 mul-code : tie.Need-mul-code
 mul-code c = search needs
 
 shared-slice-read-code : tie.Need-shared-slice-read-code
-shared-slice-read-code c =
-    let s = c .before .before .before .before .before .before in
-    omega (arith, vertex-facts _ _ (s .pre .1), s .pre .0 .vertices, c .before .wide .ensures)
+shared-slice-read-code c = omega (arith, numbered (c .before))
 
 is-half-edge-requires : tie.Need-is-half-edge-requires
 is-half-edge-requires c κs = search needs
@@ -36,10 +38,9 @@ checked-requires c κs = search needs
 returns : tie.Need-returns
 unfolding readVertexEntry
 returns c =
-    let args = c .before .before .before .before .before .before .before .before .args in
-    let wide = c .before .before .before .wide in
-    let s = args in
-    read-as (isHalfEdge _) (c .checked .ensures) (c .before .is-half-edge .ensures) (ap (λ (i : ℕ). at (s .v2e .now) (i - 1)) (wide .ensures))
+    let tested = c .before in
+    let index = tested .before .before in
+    read-at (isHalfEdge _) (begun index .args .v2e .now) (c .checked .ensures) (tested .is-half-edge .ensures) (index .wide .ensures)
 
 pub read-vertex-entry-spec : {M : Type 1} → statement M
 read-vertex-entry-spec =

@@ -1,20 +1,29 @@
--- `reads::start_side` meets its contract.
+-- `reads::start_side` meets its contract: by what V2e says of the vertex.
 -- Assumes nothing.
-use Rattle.theory.specs.Reads.{and-then}
-use Rattle.reads.proofs.Readings.{value-of, broken-of, was-valid, and-none, at-border, at-side}
-use Rattle.reads.proofs.Tested.{half-border}
-use Rattle.rules.specs.Elements.{isSide}
-use Rattle.rules.specs.Queries.{isHalfEdge, readVertexEntry, readBorderSide, startSide}
+use Prim.Native.Nat.{ℕ}
+use Rattle.halfedge.specs.Codes.{of-border}
+use Rattle.reads.proofs.Readings.{value-of, value-then, broken-then, border-then, side-then}
+use Rattle.reads.proofs.Tested.{border-side, entry-border}
+use Rattle.rules.specs.Queries.{startSide}
 use borrow.Author.Needs.{needs}
+use borrow.Author.Tests.{not-true, not-false}
 use mathlib.Core.Option.{some}
-use mathlib.Core.Path.{ap, sym, _∙_}
+use mathlib.Core.Path.{refl, ap}
 use Rattle.reads.proofs.start_side.Statement.{statement}
 use Rattle.reads.proofs.start_side.Tie as tie
 
+-- the entry of V2e was named, after it was read
+abbrev named : tie.After-is-border → tie.After-entry
+named c = c .before .before
+
+abbrev read : tie.After-is-border → tie.After-read-vertex-entry
+read c = named c .before .before
+
+abbrev code : tie.After-is-border → ℕ
+code c = named c .entry .given .0 .0
+
 read-vertex-entry-requires : tie.Need-read-vertex-entry-requires
-read-vertex-entry-requires c κs =
-    let pre = c .before .before .before .before .pre in
-    pre
+read-vertex-entry-requires c κs = search needs
 
 enum-known-entry : tie.Need-enum-known-entry
 enum-known-entry c = search needs
@@ -24,19 +33,23 @@ enum-told c = search needs
 
 returns : tie.Need-returns
 unfolding startSide
-returns c = sym (and-none _ (broken-of (c .before .before .read-vertex-entry .ensures) (c .enum-told .given .1)))
+returns c = broken-then _ (c .before .before .read-vertex-entry .ensures) (c .enum-told .given .1)
+
+is-border-requires : tie.Need-is-border-requires
+is-border-requires c κs = search needs
 
 returns-2 : tie.Need-returns-2
 unfolding startSide
 returns-2 c =
-    let read-vertex-entry = c .before .before .before .before .read-vertex-entry in
-    sym (and-then _ (value-of (read-vertex-entry .ensures) (c .before .before .entry .given .1)) ∙ at-side _ _ _ (c .if1 .taken))
+    let tested = c .before in
+    value-then _ (read tested .read-vertex-entry .ensures) (named tested .entry .given .1)
+    (side-then (code tested) _ _ (tested .is-border .ensures) (not-true _ (c .if1 .taken)) refl)
 
 read-border-side-requires : tie.Need-read-border-side-requires
-unfolding readVertexEntry
 read-border-side-requires c κs =
-    let read-vertex-entry = c .before .before .before .before .read-vertex-entry in
-    half-border _ _ (was-valid (isHalfEdge _) _ _ (value-of (read-vertex-entry .ensures) (c .before .before .entry .given .1))) (c .if1 .left)
+    let tested = c .before in
+    entry-border _ _ _ (value-of (read tested .read-vertex-entry .ensures) (named tested .entry .given .1))
+    (of-border _ (tested .is-border .ensures) (not-false _ (c .if1 .left)))
 
 enum-known-side : tie.Need-enum-known-side
 enum-known-side c = search needs
@@ -47,21 +60,28 @@ enum-told-2 c = search needs
 returns-3 : tie.Need-returns-3
 unfolding startSide
 returns-3 c =
-    let d = c .before .before .before in
-    sym (and-then _ (value-of (d .before .before .before .before .read-vertex-entry .ensures) (d .before .before .entry .given .1)) ∙ at-border _ _ _ (d .if1 .left) ∙ and-none _ (broken-of (c .before .before .read-border-side .ensures) (c .enum-told2 .given .1)))
+    let sided = c .before .before in
+    let border = sided .before in
+    let tested = border .before in
+    value-then _ (read tested .read-vertex-entry .ensures) (named tested .entry .given .1)
+    (border-then (code tested) _ _ (tested .is-border .ensures) (not-false _ (border .if1 .left))
+    (broken-then _ (sided .read-border-side .ensures) (c .enum-told2 .given .1)))
 
 next-code-requires : tie.Need-next-code-requires
-unfolding readBorderSide
 next-code-requires c κs =
-    let read-border-side = c .before .before .before .read-border-side in
-    was-valid (isSide _) _ _ (value-of (read-border-side .ensures) (c .before .side .given .1))
+    let side = c .before in
+    border-side _ _ _ (value-of (side .before .before .read-border-side .ensures) (side .side .given .1))
 
 returns-4 : tie.Need-returns-4
 unfolding startSide
 returns-4 c =
-    let read-border-side = c .before .before .before .before .read-border-side in
-    let d = c .before .before .before .before .before in
-    ap some (c .next-code .ensures) ∙ sym (and-then _ (value-of (d .before .before .before .before .read-vertex-entry .ensures) (d .before .before .entry .given .1)) ∙ at-border _ _ _ (d .if1 .left) ∙ and-then _ (value-of (read-border-side .ensures) (c .before .before .side .given .1)))
+    let side = c .before .before in
+    let sided = side .before .before in
+    let border = sided .before in
+    let tested = border .before in
+    value-then _ (read tested .read-vertex-entry .ensures) (named tested .entry .given .1)
+    (border-then (code tested) _ _ (tested .is-border .ensures) (not-false _ (border .if1 .left))
+    (value-then _ (sided .read-border-side .ensures) (side .side .given .1) (ap some (c .next-code .ensures))))
 
 pub start-side-spec : {M : Type 1} → statement M
 start-side-spec =
@@ -71,6 +91,7 @@ start-side-spec =
     enum-known-entry
     enum-told
     returns
+    is-border-requires
     returns-2
     read-border-side-requires
     enum-known-side
