@@ -3,18 +3,20 @@
 use mathlib.Core.Bool.{Bool, true, false}
 use mathlib.Core.Option.{Option}
 use mathlib.Core.Path.{_≡_, refl, ap, sym, _∙_}
-use Prim.Native.Nat.{ℕ, zero, suc, _*_, _%_, _≤_, _<_}
+use Prim.Native.Nat.{ℕ, zero, suc, _*_, _≤_, _<_}
 use native.Mathlib.Omega.{arith}
 use lib.Dec.{T, leb, eqb}
 use lib.ListN.{length}
 use Rattle.lists.specs.Tests.{both}
 use Rattle.lists.specs.TestLaws.{Means, means-both, means-eq, means-le}
-use Rattle.rules.specs.Elements.{maxVertex, maxElement, elements}
+use Rattle.rules.specs.Elements.{maxVertex, maxElement, elements, number, Side}
+use Rattle.halfedge.specs.Codes.{of-border, of-side}
 use Rattle.rules.specs.Pairing.{sizesFit}
 use Rattle.rules.specs.Refusals.{Answer, refused, callSizes, lengthChecks}
-use Rattle.rules.specs.Queries.{Mesh, asked, defined, found, bySide, isHalfEdge}
+use Rattle.rules.specs.Queries.{Mesh, asked, defined, found, bySide, isHalfEdge, isBorderCode}
 use Rattle.reads.specs.Meshes.{Fit, settle, Admits}
-use Rattle.reads.proofs.Readings.{at-border, at-side}
+use Rattle.reads.proofs.Tested.{half-border, half-side}
+use Rattle.reads.proofs.Readings.{border-then, side-then}
 
 pub holds : {b : Bool} → b ≡ true → T b
 holds e = rw e tt
@@ -46,9 +48,12 @@ module _ (M : Mesh) where
   fit-of : sizes ≡ true → lengths ≡ true → Fit M
   unfolding callSizes sizesFit
   fit-of s l =
+      let m = elements (M .list) in
       let fours : (X : _) → Means (eqb (length X) (4 * elements X)) (length X ≡ 4 * elements X) = λ X. means-eq _ _ in
-      let ((a, (b, d)), e) = means-both (means-both (means-le (M .n) maxVertex) (means-both (means-le (elements (M .list)) maxElement) (fours (M .list)))) (fours (M .opposites)) .says (holds s) in
-      let (f, (g, h)) = means-both (means-eq (length (M .vertices)) (M .n)) (means-both (means-eq (length (M .opposites)) (4 * elements (M .list))) (means-le (length (M .border)) (4 * elements (M .list)))) .says (holds l) in
+      let counts = means-both (means-le (M .n) maxVertex) (means-both (means-le m maxElement) (fours (M .list))) in
+      let tables = means-both (means-eq (length (M .opposites)) (4 * m)) (means-le (length (M .border)) (4 * m)) in
+      let ((a, (b, d)), e) = means-both counts (fours (M .opposites)) .says (holds s) in
+      let (f, (g, h)) = means-both (means-eq (length (M .vertices)) (M .n)) tables .says (holds l) in
       record { vertices = f; opposites = omega arith; border = h; elements = b }
 
   -- checks 1 and 2
@@ -116,10 +121,17 @@ module _ (M : Mesh) where
     pub admitted : k ≤ 0 → r ≡ a → r ≡ asked M (defined there a)
     admitted h e = e ∙ sym (x .settled a ∙ settle-none k a h)
 
--- an answer about a half-edge that is read one way of a side, another way of a border
-module _ (M : Mesh) (c : ℕ) {k : ℕ} (x : Admits M (isHalfEdge M c) k) (h : k ≤ 0) {r : Answer} {o : Option ℕ} (e : r ≡ found o) (p q : Option ℕ) where
-  pub border-found : c % 8 ≡ 0 → o ≡ q → r ≡ asked M (defined (isHalfEdge M c) (found (bySide c p q)))
-  border-found z f = admitted M x _ h (e ∙ ap found (f ∙ sym (at-border c p q z)))
+-- a question about a half-edge, answered one way of a side, another way of a border
+module _ (M : Mesh) (c : ℕ) {k : ℕ} (x : Admits M (isHalfEdge M c) k) (h : k ≤ 0) {b : Bool} (t : b ≡ eqb (number c) 0) where
+  pub border-there : b ≡ true → T (isBorderCode M c)
+  border-there z = half-border M c (x .found h) (of-border c t z)
 
-  pub side-found : (c % 8 ≡ 0 → ⊥) → o ≡ p → r ≡ asked M (defined (isHalfEdge M c) (found (bySide c p q)))
-  side-found d f = admitted M x _ h (e ∙ ap found (f ∙ sym (at-side c p q d)))
+  pub side-there : b ≡ false → Side (M .list) c
+  side-there z = half-side M c (x .found h) (of-side c t z)
+
+  module _ {r : Answer} {o : Option ℕ} (e : r ≡ found o) (p q : Option ℕ) where
+    pub border-found : b ≡ true → o ≡ q → r ≡ asked M (defined (isHalfEdge M c) (found (bySide c p q)))
+    border-found z f = admitted M x _ h (e ∙ ap found (border-then c p q t z f))
+
+    pub side-found : b ≡ false → o ≡ p → r ≡ asked M (defined (isHalfEdge M c) (found (bySide c p q)))
+    side-found z f = admitted M x _ h (e ∙ ap found (side-then c p q t z f))

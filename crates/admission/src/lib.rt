@@ -1,5 +1,4 @@
 // Checks 1, 2 and 11. A check answers the refusal's number, 0 where it finds nothing.
-use answer::Answer;
 use halfedge::wide;
 use lengths::sizes_fit;
 use reads::is_border_number;
@@ -11,9 +10,7 @@ ghost use mathlib.Core.Path.{_≡_};
 ghost use lib.Dec.{leb, eqb};
 ghost use lib.ListN.{length};
 ghost use Rattle.lists.specs.Tests.{both, within};
-ghost use Rattle.answer.specs.Numbers.{numbers};
 ghost use Rattle.rules.specs.Elements.{isSide};
-ghost use Rattle.rules.specs.Refusals.{refused};
 ghost use Rattle.rules.specs.Queries.{isHalfEdge, isVertex};
 ghost use Rattle.reads.specs.Meshes.{mesh, Admits};
 
@@ -92,14 +89,4 @@ pub fn border_refusal(n: u32, list: &[u32], v2e: &[u32], e2e: &[u32], b2e: &[u32
     ensures { λ r. ⌜ Admits (mesh n (now (list .entry)) (now (v2e .entry)) (now (e2e .entry)) (now (b2e .entry))) (within 1 (length (now (b2e .entry))) b) r ⌝ }
 {
     refusal(n, list, v2e, e2e, b2e, is_border_number(b2e, b))
-}
-
-pub fn refuse(number: u32) -> Answer
-    ensures { λ r. ⌜ numbers r ≡ refused number 0 0 ⌝ }
-{
-    Answer::Refused {
-        number,
-        first: 0,
-        second: 0,
-    }
 }

@@ -1,9 +1,12 @@
 // The queries that answer one number.
 use admission::half_edge_refusal;
-use admission::refuse;
 use admission::side_refusal;
 use admission::vertex_refusal;
 use answer::Answer;
+use answer::give;
+use answer::refuse;
+use halfedge::element_of;
+use halfedge::is_border;
 use reads::Read;
 use reads::border_destination;
 use reads::border_next;
@@ -23,20 +26,11 @@ ghost use Rattle.rules.specs.Queries.{found as foundIn};
 ghost use Rattle.reads.specs.Meshes.{mesh};
 ghost use Rattle.reads.specs.Readings.{readOf};
 
-fn give(x: u32) -> Answer
-    ensures { λ r. ⌜ numbers r ≡ gives x 0 ⌝ }
-{
-    Answer::Gives {
-        first: x,
-        second: 0,
-    }
-}
-
 // 1 for a border half-edge, 0 for a side.
 fn border_answer(c: u32) -> Answer
     ensures { λ r. ⌜ numbers r ≡ gives (bySide c 0 1) 0 ⌝ }
 {
-    if c % 8 == 0 {
+    if is_border(c) {
         return give(1);
     }
     give(0)
@@ -47,15 +41,8 @@ fn found(r: Read) -> Answer
     ensures { λ a. ⌜ numbers a ≡ foundIn (readOf r) ⌝ }
 {
     match r {
-        Read::Value(x) => Answer::Gives {
-            first: x,
-            second: 0,
-        },
-        Read::Broken => Answer::Refused {
-            number: 12,
-            first: 0,
-            second: 0,
-        },
+        Read::Value(x) => give(x),
+        Read::Broken => refuse(12),
     }
 }
 
@@ -67,7 +54,7 @@ pub fn opposite(n: u32, list: &[u32], v2e: &[u32], e2e: &[u32], b2e: &[u32], cod
     if 0 < refusal {
         return refuse(refusal);
     }
-    if code % 8 == 0 {
+    if is_border(code) {
         return found(read_border_side(n, list, v2e, e2e, b2e, code));
     }
     found(read_opposite(n, list, v2e, e2e, b2e, code))
@@ -81,7 +68,7 @@ pub fn next(n: u32, list: &[u32], v2e: &[u32], e2e: &[u32], b2e: &[u32], code: u
     if 0 < refusal {
         return refuse(refusal);
     }
-    if code % 8 == 0 {
+    if is_border(code) {
         return found(border_next(n, list, v2e, e2e, b2e, code));
     }
     give(next_code(list, code))
@@ -106,7 +93,7 @@ pub fn element(n: u32, list: &[u32], v2e: &[u32], e2e: &[u32], b2e: &[u32], code
     if 0 < refusal {
         return refuse(refusal);
     }
-    give(code / 8)
+    give(element_of(code))
 }
 
 // The vertex from which a half-edge runs.
@@ -117,7 +104,7 @@ pub fn origin(n: u32, list: &[u32], v2e: &[u32], e2e: &[u32], b2e: &[u32], code:
     if 0 < refusal {
         return refuse(refusal);
     }
-    if code % 8 == 0 {
+    if is_border(code) {
         return found(border_origin(n, list, v2e, e2e, b2e, code));
     }
     found(read_origin(n, list, v2e, e2e, b2e, code))
@@ -131,7 +118,7 @@ pub fn destination(n: u32, list: &[u32], v2e: &[u32], e2e: &[u32], b2e: &[u32], 
     if 0 < refusal {
         return refuse(refusal);
     }
-    if code % 8 == 0 {
+    if is_border(code) {
         return found(border_destination(n, list, v2e, e2e, b2e, code));
     }
     found(read_destination(n, list, v2e, e2e, b2e, code))
@@ -149,10 +136,10 @@ pub fn across(n: u32, list: &[u32], v2e: &[u32], e2e: &[u32], b2e: &[u32], code:
     let Read::Value(t) = opposed else {
         return refuse(12);
     };
-    if t % 8 == 0 {
+    if is_border(t) {
         return give(0);
     }
-    give(t / 8)
+    give(element_of(t))
 }
 
 // 1 for a border half-edge, 0 for a side.

@@ -1,14 +1,28 @@
--- `query::across` meets its contract.
+-- `query::across` meets its contract: by the entry of E2e.
 -- Assumes nothing.
+use Prim.Native.Nat.{ℕ}
 use Rattle.admission.proofs.Admitted.{turned-away, admitted}
-use Rattle.theory.specs.Reads.{and-then}
-use Rattle.reads.proofs.Readings.{value-of, broken-of, and-none, at-border, at-side}
+use Rattle.reads.proofs.Readings.{value-then, broken-then, border-then, side-then}
+use Rattle.rules.specs.Elements.{element}
 use Rattle.rules.specs.Queries.{found, acrossAnswer}
 use borrow.Author.Needs.{needs}
 use mathlib.Core.Option.{some}
-use mathlib.Core.Path.{ap, sym, _∙_}
+use mathlib.Core.Path.{refl, ap, _∙_}
 use Rattle.query.proofs.across.Statement.{statement}
 use Rattle.query.proofs.across.Tie as tie
+
+-- the refusal was looked at, E2e's entry was read, and was named
+abbrev refused : tie.After-read-opposite → tie.After-side-refusal
+refused c = c .before .before
+
+abbrev named : tie.After-is-border → tie.After-opposed
+named c = c .before .before
+
+abbrev reading : tie.After-is-border → tie.After-read-opposite
+reading c = named c .before .before
+
+abbrev code : tie.After-is-border → ℕ
+code c = named c .opposed .given .0 .0
 
 side-refusal-requires : tie.Need-side-refusal-requires
 side-refusal-requires c κs = search needs
@@ -35,9 +49,13 @@ refuse-requires-2 c κs = search needs
 returns-2 : tie.Need-returns-2
 unfolding acrossAnswer found
 returns-2 c =
-    let d = c .before .before .before in
-    admitted _ (d .before .before .side-refusal .ensures) _ (d .before .if1 .left)
-    (c .refuse2 .ensures ∙ ap found (sym (and-none _ (broken-of (d .read-opposite .ensures) (c .before .enum-told .given .1)))))
+    let told = c .before in
+    let read = told .before .before in
+    admitted _ (refused read .side-refusal .ensures) _ (read .before .if1 .left)
+    (c .refuse2 .ensures ∙ ap found (broken-then _ (read .read-opposite .ensures) (told .enum-told .given .1)))
+
+is-border-requires : tie.Need-is-border-requires
+is-border-requires c κs = search needs
 
 give-requires : tie.Need-give-requires
 give-requires c κs = search needs
@@ -45,10 +63,14 @@ give-requires c κs = search needs
 returns-3 : tie.Need-returns-3
 unfolding acrossAnswer found
 returns-3 c =
-    let e = c .before .before .before in
-    let d = e .before .before in
-    admitted _ (d .before .before .side-refusal .ensures) _ (d .before .if1 .left)
-    (c .give .ensures ∙ ap found (sym (and-then _ (value-of (d .read-opposite .ensures) (e .opposed .given .1)) ∙ ap some (at-border _ _ 0 (c .before .if2 .taken)))))
+    let tested = c .before .before in
+    let read = reading tested in
+    admitted _ (refused read .side-refusal .ensures) _ (read .before .if1 .left)
+    (c .give .ensures ∙ ap found (value-then _ (read .read-opposite .ensures) (named tested .opposed .given .1)
+    (ap some (border-then (code tested) (element (code tested)) 0 (tested .is-border .ensures) (c .before .if2 .taken) refl))))
+
+element-of-requires : tie.Need-element-of-requires
+element-of-requires c κs = search needs
 
 give-requires-2 : tie.Need-give-requires-2
 give-requires-2 c κs = search needs
@@ -56,10 +78,12 @@ give-requires-2 c κs = search needs
 returns-4 : tie.Need-returns-4
 unfolding acrossAnswer found
 returns-4 c =
-    let e = c .before .before .before in
-    let d = e .before .before in
-    admitted _ (d .before .before .side-refusal .ensures) _ (d .before .if1 .left)
-    (c .give2 .ensures ∙ ap found (sym (and-then _ (value-of (d .read-opposite .ensures) (e .opposed .given .1)) ∙ ap some (at-side _ _ 0 (c .before .if2 .left)))))
+    let known = c .before .before in
+    let tested = known .before in
+    let read = reading tested in
+    admitted _ (refused read .side-refusal .ensures) _ (read .before .if1 .left)
+    (c .give2 .ensures ∙ ap found (value-then _ (read .read-opposite .ensures) (named tested .opposed .given .1)
+    (ap some (side-then (code tested) (element (code tested)) 0 (tested .is-border .ensures) (known .if2 .left) (c .before .element-of .ensures)))))
 
 pub across-spec : {M : Type 1} → statement M
 across-spec =
@@ -73,7 +97,9 @@ across-spec =
     enum-told
     refuse-requires-2
     returns-2
+    is-border-requires
     give-requires
     returns-3
+    element-of-requires
     give-requires-2
     returns-4)

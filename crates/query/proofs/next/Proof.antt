@@ -1,9 +1,7 @@
--- `query::next` meets its contract.
+-- `query::next` meets its contract: along the border, or within the element.
 -- Assumes nothing.
-use Rattle.admission.proofs.Admitted.{turned-away, border-found, side-found}
-use Rattle.reads.proofs.Tested.{half-border, half-side}
-use Rattle.rules.specs.Queries.{found}
-use Rattle.rules.specs.Queries.{nextAnswer}
+use Rattle.admission.proofs.Admitted.{turned-away, border-there, side-there, border-found, side-found}
+use Rattle.rules.specs.Queries.{found, nextAnswer}
 use borrow.Author.Needs.{needs}
 use mathlib.Core.Option.{some}
 use mathlib.Core.Path.{ap}
@@ -20,9 +18,16 @@ returns : tie.Need-returns
 unfolding nextAnswer
 returns c = turned-away _ (c .before .before .half-edge-refusal .ensures) _ (c .before .if1 .taken) (c .refuse .ensures)
 
+is-border-requires : tie.Need-is-border-requires
+is-border-requires c κs = search needs
+
 border-next-requires : tie.Need-border-next-requires
 border-next-requires c κs =
-    let x = c .before .before .half-edge-refusal .ensures in (x .fit (c .before .if1 .left), half-border _ _ (x .found (c .before .if1 .left)) (c .if2 .taken))
+    let tested = c .before in
+    let refused = tested .before .before in (
+      refused .half-edge-refusal .ensures .fit (tested .before .if1 .left),
+      border-there _ _ (refused .half-edge-refusal .ensures) (tested .before .if1 .left) (tested .is-border .ensures) (c .if2 .taken),
+    )
 
 found-requires : tie.Need-found-requires
 found-requires c κs = search needs
@@ -30,12 +35,17 @@ found-requires c κs = search needs
 returns-2 : tie.Need-returns-2
 unfolding nextAnswer
 returns-2 c =
-    let d = c .before .before .before in
-    border-found _ _ (d .before .half-edge-refusal .ensures) (d .if1 .left) (c .found .ensures) _ _ (c .before .before .if2 .taken) (c .before .border-next .ensures)
+    let known = c .before .before in
+    let tested = known .before in
+    let refused = tested .before .before in
+    border-found _ _ (refused .half-edge-refusal .ensures) (tested .before .if1 .left) (tested .is-border .ensures)
+    (c .found .ensures) _ _ (known .if2 .taken) (c .before .border-next .ensures)
 
 next-code-requires : tie.Need-next-code-requires
 next-code-requires c κs =
-    let x = c .before .before .half-edge-refusal .ensures in half-side _ _ (x .found (c .before .if1 .left)) (c .if2 .left)
+    let tested = c .before in
+    let refused = tested .before .before in
+    side-there _ _ (refused .half-edge-refusal .ensures) (tested .before .if1 .left) (tested .is-border .ensures) (c .if2 .left)
 
 give-requires : tie.Need-give-requires
 give-requires c κs = search needs
@@ -43,8 +53,11 @@ give-requires c κs = search needs
 returns-3 : tie.Need-returns-3
 unfolding nextAnswer found
 returns-3 c =
-    let d = c .before .before .before in
-    side-found _ _ (d .before .half-edge-refusal .ensures) (d .if1 .left) (c .give .ensures) _ _ (c .before .before .if2 .left) (ap some (c .before .next-code .ensures))
+    let known = c .before .before in
+    let tested = known .before in
+    let refused = tested .before .before in
+    side-found _ _ (refused .half-edge-refusal .ensures) (tested .before .if1 .left) (tested .is-border .ensures)
+    (c .give .ensures) _ _ (known .if2 .left) (ap some (c .before .next-code .ensures))
 
 pub next-spec : {M : Type 1} → statement M
 next-spec =
@@ -53,6 +66,7 @@ next-spec =
     half-edge-refusal-requires
     refuse-requires
     returns
+    is-border-requires
     border-next-requires
     found-requires
     returns-2

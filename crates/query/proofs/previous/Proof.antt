@@ -28,8 +28,8 @@ give-requires c κs = search needs
 returns-2 : tie.Need-returns-2
 unfolding previousAnswer
 returns-2 c =
-    let side-refusal = c .before .before .before .side-refusal in
-    admitted _ (side-refusal .ensures) _ (c .before .before .if1 .left)
+    let admits = c .before .before in
+    admitted _ (admits .before .side-refusal .ensures) _ (admits .if1 .left)
     (c .give .ensures ∙ ap (λ (i : ℕ). gives i 0) (c .before .previous-code .ensures))
 
 pub previous-spec : {M : Type 1} → statement M

@@ -1,13 +1,16 @@
 -- `query::vertex_is_border` meets its contract.
 -- Assumes nothing.
 use Rattle.admission.proofs.Admitted.{turned-away, admitted}
-use Rattle.theory.specs.Reads.{and-then}
-use Rattle.reads.proofs.Readings.{value-of, broken-of, and-none}
+use Rattle.reads.proofs.Readings.{value-then, broken-then}
 use Rattle.rules.specs.Queries.{found, vertexBorderAnswer}
 use borrow.Author.Needs.{needs}
-use mathlib.Core.Path.{ap, sym, _∙_}
+use mathlib.Core.Path.{refl, ap, _∙_}
 use Rattle.query.proofs.vertex_is_border.Statement.{statement}
 use Rattle.query.proofs.vertex_is_border.Tie as tie
+
+-- the refusal was looked at, and V2e's entry was read
+abbrev refused : tie.After-read-vertex-entry → tie.After-vertex-refusal
+refused c = c .before .before
 
 vertex-refusal-requires : tie.Need-vertex-refusal-requires
 vertex-refusal-requires c κs = search needs
@@ -34,9 +37,10 @@ refuse-requires-2 c κs = search needs
 returns-2 : tie.Need-returns-2
 unfolding vertexBorderAnswer found
 returns-2 c =
-    let d = c .before .before .before in
-    admitted _ (d .before .before .vertex-refusal .ensures) _ (d .before .if1 .left)
-    (c .refuse2 .ensures ∙ ap found (sym (and-none _ (broken-of (d .read-vertex-entry .ensures) (c .before .enum-told .given .1)))))
+    let told = c .before in
+    let read = told .before .before in
+    admitted _ (refused read .vertex-refusal .ensures) _ (read .before .if1 .left)
+    (c .refuse2 .ensures ∙ ap found (broken-then _ (read .read-vertex-entry .ensures) (told .enum-told .given .1)))
 
 border-answer-requires : tie.Need-border-answer-requires
 border-answer-requires c κs = search needs
@@ -44,10 +48,10 @@ border-answer-requires c κs = search needs
 returns-3 : tie.Need-returns-3
 unfolding vertexBorderAnswer found
 returns-3 c =
-    let e = c .before .before in
-    let d = e .before .before in
-    admitted _ (d .before .before .vertex-refusal .ensures) _ (d .before .if1 .left)
-    (c .border-answer .ensures ∙ ap found (sym (and-then _ (value-of (d .read-vertex-entry .ensures) (e .entry .given .1)))))
+    let named = c .before .before in
+    let read = named .before .before in
+    admitted _ (refused read .vertex-refusal .ensures) _ (read .before .if1 .left)
+    (c .border-answer .ensures ∙ ap found (value-then _ (read .read-vertex-entry .ensures) (named .entry .given .1) refl))
 
 pub vertex-is-border-spec : {M : Type 1} → statement M
 vertex-is-border-spec =
