@@ -56,7 +56,8 @@ module _ (step shown : ℕ → Option ℕ) where
   unfolding follow left over readAll andThen
   walk-step j x = go (step x)
     where
-      by : (b : Bool) (y : ℕ) → over shown (elim b as (λ _. Option (List ℕ)) [ true ↦ some (x ∷ []) | false ↦ prepend x (follow step j y) ]) ≡ andThen (shown x) (λ e. prepend e (elim b as (λ _. Option (List ℕ)) [ true ↦ some [] | false ↦ walk j y ]))
+      by : (b : Bool) (y : ℕ) → over shown (elim b as (λ _. Option (List ℕ)) [ true ↦ some (x ∷ []) | false ↦ prepend x (follow step j y) ])
+          ≡ andThen (shown x) (λ e. prepend e (elim b as (λ _. Option (List ℕ)) [ true ↦ some [] | false ↦ walk j y ]))
       by true y = refl
       by false y = over-prepend x (follow step j y)
 
@@ -131,7 +132,8 @@ module _ (step shown : ℕ → Option ℕ) where
       by (inr d) =
           let (h, r) = more (sym (left-on step shown j y d) ∙ q) in (h, left-on step shown (length zs) y d ∙ r)
 
-  to-short : (j x e y : ℕ) (zs : List ℕ) → ((zs : List ℕ) → walk step shown j y ≡ some zs → Short j y zs) → shown x ≡ some e → step x ≡ some y → prepend e (left step shown j y) ≡ some zs → Short (suc j) x zs
+  to-short : (j x e y : ℕ) (zs : List ℕ) → ((zs : List ℕ) → walk step shown j y ≡ some zs → Short j y zs) → shown x ≡ some e → step x ≡ some y → prepend e (left step shown j y) ≡ some zs →
+      Short (suc j) x zs
   unfolding prepend
   to-short j x e y zs more a b q =
       let (ys, p, f) = prepend-some e (left step shown j y) zs q in

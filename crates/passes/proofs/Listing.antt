@@ -71,15 +71,15 @@ module _ (u : ℕ) (o : Option (List ℕ)) (out : List ℕ) where
     needed : length (leading u ++ zs) ≡ first + size
     needed = length-append (leading u) zs ∙ omega arith
 
-    pub short-listed : length out < first + size → Lists (preceded u o) out (refused 13 (first + size) 0) out
-    short-listed h =
-        let n = needed in rw (e, preceded-some u zs, ← n) (lists-short (leading u ++ zs) out (omega arith))
+    pub short-listed : {r : Answer} → length out < first + size → r ≡ refused 13 (first + size) 0 → Lists (preceded u o) out r out
+    short-listed h q =
+        let n = needed in rw (q, e, preceded-some u zs, ← n) (lists-short (leading u ++ zs) out (omega arith))
 
-    pub all-listed : {left : List ℕ} → first + size ≤ length out → left ≡ sets (sets out 0 (leading u)) first zs → Lists (preceded u o) out (gives (first + size) 0) left
-    all-listed h p =
+    pub all-listed : {r : Answer} {left : List ℕ} → first + size ≤ length out → r ≡ gives (first + size) 0 → left ≡ sets (sets out 0 (leading u)) first zs → Lists (preceded u o) out r left
+    all-listed h q p =
         let n = needed in
         let l : length (leading u ++ zs) ≤ length out = omega arith in
-        rw (e, preceded-some u zs, ← n, p, f, led-onto u zs out l) (lists-all (leading u ++ zs) out l)
+        rw (q, e, preceded-some u zs, ← n, p, f, led-onto u zs out l) (lists-all (leading u ++ zs) out l)
 
 -- what the writer left, at numbers and lists that are equal to its arguments
 pub wrote : {out led left zs : List ℕ} {i first : ℕ} {o : Option (List ℕ)} → left ≡ sets out i (listOf o) → out ≡ led → i ≡ first → o ≡ some zs → left ≡ sets led first zs

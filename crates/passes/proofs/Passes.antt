@@ -75,7 +75,10 @@ module _ (w : Walk) (M : Mesh) (start : ℕ) where
           record {
             bound = omega arith;
             stands = steps-onto x r t e y g;
-            total = sym (raised-more count e _) ∙ sym (ap (λ (o : Option (List ℕ)). raised count (sizeOf o)) (ap (λ (j : ℕ). rest j x) (one-more count limit h) ∙ rest-to x r t (limit - (count + 1)) e y g d)) ∙ c .total;
+            total =
+                sym (raised-more count e _)
+                ∙ sym (ap (λ (o : Option (List ℕ)). raised count (sizeOf o)) (ap (λ (j : ℕ). rest j x) (one-more count limit h) ∙ rest-to x r t (limit - (count + 1)) e y g d))
+                ∙ c .total;
           }
 
       pub counting-lost : r ≡ Lost → none ≡ sizeOf (walked w M start limit start)

@@ -19,6 +19,9 @@ use Rattle.passes.specs.Walks.{nextBy, Stands}
 use Rattle.reads.proofs.Readings.{was-valid, and-some, at-border, at-side}
 use Rattle.reads.proofs.Tested.{half-side, border-facts}
 
+pub stands-as : {w u : Walk} (M : Mesh) (x : ℕ) → w ≡ u → Stands w M x → Stands u M x
+stands-as M x e s = subst (λ w. Stands w M x) e s
+
 pub stands-positive : (w : Walk) (M : Mesh) (x : ℕ) → Stands w M x → x ≡ 0 → ⊥
 stands-positive Elements M x s z = side-positive (M .list) x s z
 stands-positive Ends M x s z = side-positive (M .list) x s z
@@ -38,7 +41,8 @@ module _ (M : Mesh) (start x y : ℕ) (d : y ≡ 0 → ⊥) where
   onward-side e =
       let (t, p, q) = and-some (readOpposite M x) _ y e in by t (was-valid (isHalfEdge M) _ t p) q (zero-or (t % 8))
     where
-      by : (t : ℕ) → T (isHalfEdge M t) → bySide t (elim (eqb (next (M .list) t) start) [ true ↦ some 0 | false ↦ some (next (M .list) t) ]) (some 0) ≡ some y → (t % 8 ≡ 0) ⊎ (t % 8 ≡ 0 → ⊥) → Side (M .list) y
+      by : (t : ℕ) → T (isHalfEdge M t) → bySide t (elim (eqb (next (M .list) t) start) [ true ↦ some 0 | false ↦ some (next (M .list) t) ]) (some 0) ≡ some y →
+          (t % 8 ≡ 0) ⊎ (t % 8 ≡ 0 → ⊥) → Side (M .list) y
       by t h q (inl z) = let r : some 0 ≡ some y = sym (at-border t _ (some 0) z) ∙ q in let f : 0 ≡ y = cc in absurd (d (sym f))
       by t h q (inr n) =
           subst (λ (u : ℕ). Side (M .list) u) (unless (next (M .list) t) start y (sym (at-side t _ (some 0) n) ∙ q) d) (next-side (M .list) t (half-side M t h n))

@@ -1,6 +1,9 @@
 // A walk about a vertex or along the border: counted first, written once its room is known.
-use admission::refuse;
 use answer::Answer;
+use answer::give;
+use answer::refuse;
+use answer::refuse_at;
+use halfedge::element_of;
 use halfedge::wide;
 use reads::Read;
 use reads::loop_next;
@@ -34,7 +37,7 @@ fn shown_by(walk: Walk, n: u32, list: &[u32], v2e: &[u32], e2e: &[u32], b2e: &[u
     ensures { λ r. ⌜ readOf r ≡ shownBy walk (mesh n (now (list .entry)) (now (v2e .entry)) (now (e2e .entry)) (now (b2e .entry))) x ⌝ }
 {
     match walk {
-        Walk::Elements => Read::Value(x / 8),
+        Walk::Elements => Read::Value(element_of(x)),
         Walk::Ends => read_destination(n, list, v2e, e2e, b2e, x),
         Walk::Borders => Read::Value(x),
     }
@@ -189,11 +192,7 @@ pub fn list_walk(
     let first = places(prior);
     let needed = first + size;
     if out.len() < wide(needed) {
-        return Answer::Refused {
-            number: 13,
-            first: needed,
-            second: 0,
-        };
+        return refuse_at(13, needed, 0);
     }
     lead(prior, out);
     write(
@@ -208,8 +207,5 @@ pub fn list_walk(
         wide(size),
         out,
     );
-    Answer::Gives {
-        first: needed,
-        second: 0,
-    }
+    give(needed)
 }

@@ -10,7 +10,8 @@ use lib.Dec.{T}
 use lib.ListN.{length}
 use Rattle.lists.specs.TestLaws.{zero-or}
 use Rattle.rules.specs.Elements.{elements, isSide, Side, next}
-use Rattle.rules.specs.Queries.{Mesh, andThen, bySide, prepend, readAll, follow, over, isHalfEdge, isVertex, readVertexEntry, readBorderSide, readOrigin, readDestination, startSide, ringSides, ring, neighbours, loopNext, borderLoop}
+use Rattle.rules.specs.Queries.{Mesh, andThen, bySide, prepend, readAll, follow, over, isHalfEdge, isVertex}
+use Rattle.rules.specs.Queries.{readVertexEntry, readBorderSide, readOrigin, readDestination, startSide, ringSides, ring, neighbours, loopNext, borderLoop}
 use Rattle.theory.specs.Steps.{next-side}
 use Rattle.passes.specs.declared.Walk.the-variants.{Elements, Ends, Borders}
 use Rattle.reads.specs.Readings.{priorVertex}
@@ -66,11 +67,13 @@ module _ (M : Mesh) (v : ℕ) where
   border-before E (some s) = read-before E s
   border-before E none = refl
 
-  code-before : (E : Option (List ℕ)) (c : ℕ) → bySide c E (andThen (readBorderSide M c) (λ s. andThen (readOrigin M s) (λ u. prepend u E))) ≡ andThen (bySide c (some 0) (andThen (readBorderSide M c) (readOrigin M))) (λ u. preceded u E)
+  code-before : (E : Option (List ℕ)) (c : ℕ) →
+      bySide c E (andThen (readBorderSide M c) (λ s. andThen (readOrigin M s) (λ u. prepend u E))) ≡ andThen (bySide c (some 0) (andThen (readBorderSide M c) (readOrigin M))) (λ u. preceded u E)
   unfolding andThen preceded
   code-before E c = by (zero-or (c % 8))
     where
-      by : (c % 8 ≡ 0) ⊎ (c % 8 ≡ 0 → ⊥) → bySide c E (andThen (readBorderSide M c) (λ s. andThen (readOrigin M s) (λ u. prepend u E))) ≡ andThen (bySide c (some 0) (andThen (readBorderSide M c) (readOrigin M))) (λ u. preceded u E)
+      by : (c % 8 ≡ 0) ⊎ (c % 8 ≡ 0 → ⊥) → bySide c E (andThen (readBorderSide M c) (λ s. andThen (readOrigin M s) (λ u. prepend u E)))
+          ≡ andThen (bySide c (some 0) (andThen (readBorderSide M c) (readOrigin M))) (λ u. preceded u E)
       by (inl z) = at-border c _ _ z ∙ border-before E (readBorderSide M c) ∙ ap (λ (o : Option ℕ). andThen o (λ u. preceded u E)) (sym (at-border c _ _ z))
       by (inr d) = at-side c _ _ d ∙ ap (λ (o : Option ℕ). andThen o (λ u. preceded u E)) (sym (at-side c (some 0) _ d))
 
@@ -78,7 +81,8 @@ module _ (M : Mesh) (v : ℕ) where
   unfolding neighbours priorVertex andThen ends
   neighbours-by = go (readVertexEntry M v)
     where
-      go : (o : Option ℕ) → andThen o (λ c. bySide c ends (andThen (readBorderSide M c) (λ s. andThen (readOrigin M s) (λ u. prepend u ends)))) ≡ andThen (andThen o (λ c. bySide c (some 0) (andThen (readBorderSide M c) (readOrigin M)))) (λ u. preceded u ends)
+      go : (o : Option ℕ) → andThen o (λ c. bySide c ends (andThen (readBorderSide M c) (λ s. andThen (readOrigin M s) (λ u. prepend u ends))))
+          ≡ andThen (andThen o (λ c. bySide c (some 0) (andThen (readBorderSide M c) (readOrigin M)))) (λ u. preceded u ends)
       go (some c) = code-before ends c
       go none = refl
 

@@ -1,8 +1,8 @@
 // The queries that write a list: ring, neighbours and border loop of document 01.
 use admission::border_refusal;
-use admission::refuse;
 use admission::vertex_refusal;
 use answer::Answer;
+use answer::refuse;
 use passes::Walk;
 use passes::list_walk;
 use reads::Read;

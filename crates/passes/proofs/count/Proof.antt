@@ -14,6 +14,13 @@ Inv-loop walk n list v2e e2e b2e limit start x₀ count₀ x count = Counting wa
 abbrev μ-loop : tie.MeasureT-loop
 μ-loop walk n list v2e e2e b2e limit start x₀ count₀ x count = limit - count
 
+abbrev begun : tie.At-loop Inv-loop μ-loop → tie.Start Inv-loop μ-loop
+begun c = c .before .before .before .before .before
+
+-- a step was taken
+abbrev visited : tie.After-known-told Inv-loop μ-loop → tie.After-visit Inv-loop μ-loop
+visited c = c .before .before .before
+
 loop-holds : tie.Need-loop-holds Inv-loop μ-loop
 loop-holds c =
     let pre = c .before .before .before .before .pre in
@@ -24,8 +31,8 @@ returns c = overlong _ _ _ (c .before .before .loop .inv) (c .before .loop-test 
 
 visit-requires : tie.Need-visit-requires Inv-loop μ-loop
 visit-requires c κs =
-    let pre = c .before .before .before .before .before .before .before .pre in
-    (pre .0, c .before .before .loop .inv .stands (c .before .loop-test .taken))
+    let loop = c .before .before in
+    (begun loop .pre .0, loop .loop .inv .stands (c .before .loop-test .taken))
 
 enum-known-step : tie.Need-enum-known-step Inv-loop μ-loop
 enum-known-step c = search needs
@@ -35,27 +42,24 @@ enum-told c = search needs
 
 returns-2 : tie.Need-returns-2 Inv-loop μ-loop
 returns-2 c =
-    let if1 = c .before .before .before .if1 in
-    let l = c .before .before .before .before in
-    counting-lost _ _ _ (l .before .loop .inv) (if1 .left) _ (c .before .before .visit .ensures) (l .loop-test .taken) (c .enum-told .given .1)
+    let lost = c .before .before in
+    let within = lost .before in
+    let test = within .before in
+    counting-lost _ _ _ (test .before .loop .inv) (within .if1 .left) _ (lost .visit .ensures) (test .loop-test .taken) (c .enum-told .given .1)
 
 add-count : tie.Need-add-count Inv-loop μ-loop
 add-count c =
-    let fits = c .before .before .before .before .before .before .before .before .before .before .before .fits in
-    let if1 = c .before .before .before .before .if1 in
-    omega (arith, if1 .left, fits .limit)
+    let within = visited c .before in
+    omega (arith, within .if1 .left, begun (within .before .before) .fits .limit)
 
 loop-less : tie.Need-loop-less Inv-loop μ-loop
-loop-less c =
-    let if1 = c .before .before .before .before .if1 in
-    omega (arith, if1 .left)
+loop-less c = omega (arith, visited c .before .if1 .left)
 
 loop-again : tie.Need-loop-again Inv-loop μ-loop
 loop-again c =
-    let if1 = c .before .before .before .before .if1 in
-    let visit = c .before .before .before .visit in
-    let l = c .before .before .before .before .before in
-    counting-more _ _ _ (l .before .loop .inv) (if1 .left) _ (visit .ensures) (l .loop-test .taken) _ _ (c .before .step .given .1)
+    let within = visited c .before in
+    let test = within .before in
+    counting-more _ _ _ (test .before .loop .inv) (within .if1 .left) _ (visited c .visit .ensures) (test .loop-test .taken) _ _ (c .before .step .given .1)
 
 returns-3 : tie.Need-returns-3 Inv-loop μ-loop
 returns-3 c = counted _ _ _ (c .before .loop .inv) (c .loop-test .left)

@@ -1,7 +1,6 @@
 -- `passes::list_walk` meets its contract: what was counted is what is written.
 -- Assumes nothing.
--- the walk that was counted
-use Prim.Native.Nat.{ℕ}
+use Prim.Native.Nat.{ℕ, _+_, _≤_}
 use Rattle.passes.proofs.Following.{Sized, sized, sized-again}
 use Rattle.passes.proofs.Listing.{none-listed, short-listed, all-listed, wrote, leading-one}
 use Rattle.reads.proofs.Readings.{value-of, broken-of}
@@ -9,6 +8,7 @@ use Rattle.reads.specs.Meshes.{mesh}
 use Rattle.passes.specs.Walks.{nextBy, shownBy, walked}
 use Rattle.rules.specs.Queries.{Mesh}
 use borrow.Author.Needs.{needs}
+use lib.ListN.{length}
 use mathlib.Core.Path.{ap, _∙_}
 use native.Mathlib.Omega.{arith}
 use Rattle.passes.proofs.list_walk.Statement.{statement}
@@ -17,14 +17,37 @@ use Rattle.passes.proofs.list_walk.Tie as tie
 abbrev meshOf : tie.Start → Mesh
 meshOf s = mesh (s .args .n) (s .args .list .now) (s .args .v2e .now) (s .args .e2e .now) (s .args .b2e .now)
 
+abbrev begun : tie.After-counted → tie.Start
+begun c = c .before .before .before .before .before .before .before .before
+
+-- the walk was counted; its places are known; they are in the output, and the first is written; then the rest
+abbrev counted : tie.After-places → tie.After-counted
+counted c = c .before .before
+
+abbrev led : tie.After-wide3 → tie.After-lead
+led c = c .before .before .before .before
+
+abbrev fits : tie.After-wide3 → tie.Else1
+fits c = led c .before .before
+
+abbrev placed : tie.After-wide3 → tie.After-places
+placed c = fits c .before .before
+
+abbrev written : tie.After-give → tie.After-write
+written c = c .before .before .before
+
 -- the walk that was counted
-found : (c : tie.After-counted) → let s = c .before .before .before .before .before .before .before .before in Sized (nextBy (s .args .walk) (meshOf s) (s .args .start)) (shownBy (s .args .walk) (meshOf s)) (s .args .limit) (s .args .start) (c .counted .given .0 .0)
+found :
+    (c : tie.After-counted) → let s = begun c in
+    Sized (nextBy (s .args .walk) (meshOf s) (s .args .start)) (shownBy (s .args .walk) (meshOf s)) (s .args .limit) (s .args .start) (c .counted .given .0 .0)
 found c = sized _ _ _ _ _ (value-of (c .before .before .count .ensures) (c .counted .given .1))
 
+-- its places are in the output
+inside : (c : tie.After-wide3) → let p = placed c in p .places .result + counted p .counted .given .0 .0 ≤ length (begun (counted p) .args .out .now)
+inside c = omega (arith, fits c .if1 .left, fits c .before .wide .ensures)
+
 count-requires : tie.Need-count-requires
-count-requires c κs =
-    let pre = c .before .before .before .before .before .pre in
-    pre .0
+count-requires c κs = search needs
 
 enum-known-counted : tie.Need-enum-known-counted
 enum-known-counted c = search needs
@@ -37,26 +60,29 @@ refuse-requires c κs = search needs
 
 returns : tie.Need-returns
 returns c =
-    let count = c .before .before .before .count in
-    none-listed _ _ _ (broken-of (count .ensures) (c .before .enum-told .given .1)) (c .refuse .ensures)
+    let told = c .before in
+    none-listed _ _ _ (broken-of (told .before .before .count .ensures) (told .enum-told .given .1)) (c .refuse .ensures)
 
 places-requires : tie.Need-places-requires
 places-requires c κs = search needs
 
 add-needed : tie.Need-add-needed
 add-needed c =
-    let pre = c .before .before .before .before .before .before .before .before .before .before .pre in
-    let args = c .before .before .before .before .before .before .before .before .before .before .args in
-    omega (arith, leading-one (args .prior), c .places .ensures, found (c .before .before) .bound, pre .1)
+    let s = begun (counted c) in
+    omega (arith, leading-one (s .args .prior), c .places .ensures, found (counted c) .bound, s .pre .1)
 
 wide-requires : tie.Need-wide-requires
 wide-requires c κs = search needs
 
+refuse-at-requires : tie.Need-refuse-at-requires
+refuse-at-requires c κs = search needs
+
 returns-2 : tie.Need-returns-2
 returns-2 c =
-    let p = c .before .before in
-    let z = found (p .before .before) in
-    short-listed _ _ _ (z .found) (p .places .ensures) (z .long) (omega arith)
+    let short = c .before in
+    let places = short .before .before in
+    let walk = found (counted places) in
+    short-listed _ _ _ (walk .found) (places .places .ensures) (walk .long) (omega arith) (c .refuse-at .ensures)
 
 lead-requires : tie.Need-lead-requires
 lead-requires c κs = search needs
@@ -69,25 +95,32 @@ wide-requires-3 c κs = search needs
 
 write-requires : tie.Need-write-requires
 write-requires c κs =
-    let wide = c .before .before .before .before .before .before .before .before .wide in
-    let if1 = c .before .before .before .before .before .before .before .if1 in
-    let lead = c .before .before .before .before .before .lead in
-    let p = c .before .before .before .before .before .before .before .before .before in
-    let s = p .before .before .before .before .before .before .before .before .before .before in
-    let z = found (p .before .before) in
-    (s .pre .0, (rw (c .before .wide3 .ensures) (sized-again _ _ z), omega (arith, if1 .left, wide .ensures, c .before .wide3 .ensures, c .before .before .wide2 .ensures, lead .kept)))
+    let size = c .before in
+    let first = size .before in
+    let walk = counted (placed size) in (
+      begun walk .pre .0,
+      (
+        rw (size .wide3 .ensures) (sized-again _ _ (found walk)),
+        omega (arith, inside size, size .wide3 .ensures, first .wide2 .ensures, led size .lead .kept),
+      ),
+    )
+
+give-requires : tie.Need-give-requires
+give-requires c κs = search needs
 
 same-length : tie.Need-same-length
 same-length c = search needs
 
 returns-3 : tie.Need-returns-3
 returns-3 c =
-    let w = c .before .before in
-    let p = w .before .before .before .before .before .before .before .before .before .before in
-    let s = p .before .before .before .before .before .before .before .before .before .before in
-    let z = found (p .before .before) in
-    all-listed _ _ _ (z .found) (p .places .ensures) (z .long) (omega (arith, w .before .before .before .before .before .before .before .before .if1 .left, w .before .before .before .before .before .before .before .before .before .wide .ensures))
-    (wrote (w .write .ensures) (w .before .before .before .before .before .before .lead .ensures) (w .before .before .before .wide2 .ensures) (ap (λ (j : ℕ). walked (s .args .walk) (meshOf s) (s .args .start) j (s .args .start)) (w .before .before .wide3 .ensures) ∙ z .again))
+    let size = written c .before .before in
+    let first = size .before in
+    let places = placed size in
+    let s = begun (counted places) in
+    let walk = found (counted places) in
+    let again = ap (λ (j : ℕ). walked (s .args .walk) (meshOf s) (s .args .start) j (s .args .start)) (size .wide3 .ensures) ∙ walk .again in
+    all-listed _ _ _ (walk .found) (places .places .ensures) (walk .long) (inside size) (c .give .ensures)
+    (wrote (written c .write .ensures) (led size .lead .ensures) (first .wide2 .ensures) again)
 
 pub list-walk-spec : {M : Type 1} → statement M
 list-walk-spec =
@@ -101,10 +134,12 @@ list-walk-spec =
     places-requires
     add-needed
     wide-requires
+    refuse-at-requires
     returns-2
     lead-requires
     wide-requires-2
     wide-requires-3
     write-requires
+    give-requires
     same-length
     returns-3)

@@ -7,9 +7,7 @@ use Rattle.passes.proofs.visit.Statement.{statement}
 use Rattle.passes.proofs.visit.Tie as tie
 
 shown-by-requires : tie.Need-shown-by-requires
-shown-by-requires c κs =
-    let pre = c .before .before .before .before .pre in
-    pre .1
+shown-by-requires c κs = search needs
 
 enum-known-listed : tie.Need-enum-known-listed
 enum-known-listed c = search needs
@@ -21,9 +19,7 @@ returns : tie.Need-returns
 returns c = inl (broken-of (c .before .before .shown-by .ensures) (c .enum-told .given .1))
 
 next-by-requires : tie.Need-next-by-requires
-next-by-requires c κs =
-    let pre = c .before .before .before .before .before .before .before .before .pre in
-    pre
+next-by-requires c κs = search needs
 
 enum-known-following : tie.Need-enum-known-following
 enum-known-following c = search needs
@@ -36,8 +32,10 @@ returns-2 c = inr (broken-of (c .before .before .next-by .ensures) (c .enum-told
 
 returns-3 : tie.Need-returns-3
 returns-3 c =
-    let d = c .before .before .before in
-    (value-of (d .before .before .before .before .shown-by .ensures) (d .before .before .listed .given .1), value-of (d .next-by .ensures) (c .before .following .given .1))
+    let named = c .before in
+    let stepped = named .before .before in
+    let listed = stepped .before .before in
+    (value-of (listed .before .before .shown-by .ensures) (listed .listed .given .1), value-of (stepped .next-by .ensures) (named .following .given .1))
 
 pub visit-spec : {M : Type 1} → statement M
 visit-spec =

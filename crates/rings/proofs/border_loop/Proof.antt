@@ -36,9 +36,9 @@ same-length c = search needs
 returns-2 : tie.Need-returns-2
 unfolding borderLoopAnswer borderLoopLeaves preceded
 returns-2 c =
-    let w = c .before .before in
-    let d = w .before .before in
-    list-done _ (d .before .border-refusal .ensures) _ _ _ (d .if1 .left) (border-walk _ _) (w .list-walk .ensures)
+    let walked = c .before .before in
+    let passed = walked .before .before in
+    list-done _ (passed .before .border-refusal .ensures) _ _ _ (passed .if1 .left) (border-walk _ _) (walked .list-walk .ensures)
 
 pub border-loop-spec : {M : Type 1} → statement M
 border-loop-spec =

@@ -9,6 +9,17 @@ use native.Mathlib.Omega.{arith}
 use Rattle.rings.proofs.neighbours.Statement.{statement}
 use Rattle.rings.proofs.neighbours.Tie as tie
 
+-- the start side was read, and named; then the vertex before it
+abbrev started : tie.After-known-told → tie.After-start-side
+started c = c .before .before .before
+
+abbrev asked : tie.After-known-told2 → tie.After-prior-vertex
+asked c = c .before .before .before
+
+-- the checks were passed
+abbrev passed : tie.After-known-told2 → tie.Else1
+passed c = started (asked c .before) .before
+
 vertex-refusal-requires : tie.Need-vertex-refusal-requires
 vertex-refusal-requires c κs = search needs
 
@@ -35,12 +46,17 @@ refuse-requires-2 c κs = search needs
 returns-2 : tie.Need-returns-2
 unfolding neighboursAnswer neighboursLeaves
 returns-2 c =
-    let d = c .before .before .before in
-    list-broken _ (d .before .before .vertex-refusal .ensures) _ _ (d .before .if1 .left) (neighbours-unstarted _ _ (broken-of (d .start-side .ensures) (c .before .enum-told .given .1))) (c .refuse2 .ensures)
+    let told = c .before in
+    let lost = told .before .before in
+    let admitted = lost .before in
+    list-broken _ (admitted .before .vertex-refusal .ensures) _ _ (admitted .if1 .left)
+    (neighbours-unstarted _ _ (broken-of (lost .start-side .ensures) (told .enum-told .given .1))) (c .refuse2 .ensures)
 
 prior-vertex-requires : tie.Need-prior-vertex-requires
 prior-vertex-requires c κs =
-    let d = c .before .before .before .before in let x = d .before .vertex-refusal .ensures in (x .fit (d .if1 .left), x .found (d .if1 .left))
+    let admitted = started c .before in
+    let x = admitted .before .vertex-refusal .ensures in
+    (x .fit (admitted .if1 .left), x .found (admitted .if1 .left))
 
 enum-known-earlier : tie.Need-enum-known-earlier
 enum-known-earlier c = search needs
@@ -54,19 +70,21 @@ refuse-requires-3 c κs = search needs
 returns-3 : tie.Need-returns-3
 unfolding neighboursAnswer neighboursLeaves
 returns-3 c =
-    let p = c .before .before .before in
-    let d = p .before .before .before .before .before in
-    list-broken _ (d .before .vertex-refusal .ensures) _ _ (d .if1 .left) (neighbours-unread _ _ (broken-of (p .prior-vertex .ensures) (c .before .enum-told2 .given .1))) (c .refuse3 .ensures)
+    let told = c .before in
+    let lost = told .before .before in
+    let admitted = started (lost .before) .before in
+    list-broken _ (admitted .before .vertex-refusal .ensures) _ _ (admitted .if1 .left)
+    (neighbours-unread _ _ (broken-of (lost .prior-vertex .ensures) (told .enum-told2 .given .1))) (c .refuse3 .ensures)
 
 cast-limit : tie.Need-cast-limit
-cast-limit c = let d = c .before .before .before .before .before .before .before .before in omega (arith, d .before .vertex-refusal .ensures .fit (d .if1 .left) .elements)
+cast-limit c = omega (arith, passed c .before .vertex-refusal .ensures .fit (passed c .if1 .left) .elements)
 
 list-walk-requires : tie.Need-list-walk-requires
 list-walk-requires c κs =
-    let e = c .before .before .before .before .before .before in
-    let d = e .before .before in
-    let f = d .before .before .vertex-refusal .ensures .fit (d .before .if1 .left) in
-    ((f, start-side _ _ _ (value-of (d .start-side .ensures) (e .begun .given .1))), omega (arith, f .elements))
+    let admitted = passed (c .before) in
+    let known = asked (c .before) .before in
+    let fit = admitted .before .vertex-refusal .ensures .fit (admitted .if1 .left) in
+    ((fit, start-side _ _ _ (value-of (started known .start-side .ensures) (known .before .begun .given .1))), omega (arith, fit .elements))
 
 same-length : tie.Need-same-length
 same-length c = search needs
@@ -74,12 +92,12 @@ same-length c = search needs
 returns-4 : tie.Need-returns-4
 unfolding neighboursAnswer neighboursLeaves
 returns-4 c =
-    let w = c .before .before in
-    let u = w .before .before .before in
-    let p = u .before .before in
-    let e = p .before .before in
-    let d = e .before .before in
-    list-done _ (d .before .before .vertex-refusal .ensures) _ _ _ (d .before .if1 .left) (neighbours-walk _ _ _ _ (value-of (d .start-side .ensures) (e .begun .given .1)) (value-of (p .prior-vertex .ensures) (u .earlier .given .1))) (w .list-walk .ensures)
+    let walked = c .before .before in
+    let prior = walked .before .before in
+    let known = asked prior .before in
+    list-done _ (passed prior .before .vertex-refusal .ensures) _ _ _ (passed prior .if1 .left)
+    (neighbours-walk _ _ _ _ (value-of (started known .start-side .ensures) (known .before .begun .given .1))
+    (value-of (asked prior .prior-vertex .ensures) (prior .before .earlier .given .1))) (walked .list-walk .ensures)
 
 pub neighbours-spec : {M : Type 1} → statement M
 neighbours-spec =

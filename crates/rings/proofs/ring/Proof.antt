@@ -10,6 +10,10 @@ use native.Mathlib.Omega.{arith}
 use Rattle.rings.proofs.ring.Statement.{statement}
 use Rattle.rings.proofs.ring.Tie as tie
 
+-- the start side was read, and named
+abbrev started : tie.After-known-told → tie.After-start-side
+started c = c .before .before .before
+
 vertex-refusal-requires : tie.Need-vertex-refusal-requires
 vertex-refusal-requires c κs = search needs
 
@@ -36,18 +40,23 @@ refuse-requires-2 c κs = search needs
 returns-2 : tie.Need-returns-2
 unfolding ringAnswer ringLeaves
 returns-2 c =
-    let d = c .before .before .before in
-    list-broken _ (d .before .before .vertex-refusal .ensures) _ _ (d .before .if1 .left) (ring-none _ _ (broken-of (d .start-side .ensures) (c .before .enum-told .given .1))) (c .refuse2 .ensures)
+    let told = c .before in
+    let lost = told .before .before in
+    let passed = lost .before in
+    list-broken _ (passed .before .vertex-refusal .ensures) _ _ (passed .if1 .left)
+    (ring-none _ _ (broken-of (lost .start-side .ensures) (told .enum-told .given .1))) (c .refuse2 .ensures)
 
 cast-limit : tie.Need-cast-limit
-cast-limit c = let d = c .before .before .before .before in omega (arith, d .before .vertex-refusal .ensures .fit (d .if1 .left) .elements)
+cast-limit c =
+    let passed = started c .before in
+    omega (arith, passed .before .vertex-refusal .ensures .fit (passed .if1 .left) .elements)
 
 list-walk-requires : tie.Need-list-walk-requires
 list-walk-requires c κs =
-    let e = c .before .before in
-    let d = e .before .before in
-    let f = d .before .before .vertex-refusal .ensures .fit (d .before .if1 .left) in
-    ((f, start-side _ _ _ (value-of (d .start-side .ensures) (e .begun .given .1))), omega (arith, f .elements))
+    let known = c .before in
+    let passed = started known .before in
+    let fit = passed .before .vertex-refusal .ensures .fit (passed .if1 .left) in
+    ((fit, start-side _ _ _ (value-of (started known .start-side .ensures) (known .before .begun .given .1))), omega (arith, fit .elements))
 
 same-length : tie.Need-same-length
 same-length c = search needs
@@ -55,10 +64,11 @@ same-length c = search needs
 returns-3 : tie.Need-returns-3
 unfolding ringAnswer ringLeaves preceded
 returns-3 c =
-    let w = c .before .before in
-    let e = w .before .before .before in
-    let d = e .before .before in
-    list-done _ (d .before .before .vertex-refusal .ensures) _ _ _ (d .before .if1 .left) (ring-walk _ _ _ (value-of (d .start-side .ensures) (e .begun .given .1))) (w .list-walk .ensures)
+    let walked = c .before .before in
+    let known = walked .before .before in
+    let passed = started known .before in
+    list-done _ (passed .before .vertex-refusal .ensures) _ _ _ (passed .if1 .left)
+    (ring-walk _ _ _ (value-of (started known .start-side .ensures) (known .before .begun .given .1))) (walked .list-walk .ensures)
 
 pub ring-spec : {M : Type 1} → statement M
 ring-spec =
