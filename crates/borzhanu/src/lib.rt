@@ -1,10 +1,13 @@
 // The exported calls. Each answers in one 64-bit number: the refusal's number (0: an answer), and two numbers beside it.
+use walker::Call;
+use walker::Walker;
 ghost use mathlib.Core.Path.{_≡_};
 ghost use Rattle.answer.specs.Numbers.{packedAnswer};
 ghost use Rattle.rules.specs.Refusals.{buildAnswer, buildLeaves, recoverAnswer, recoverList, recoverWork};
 ghost use Rattle.rules.specs.Queries.{oppositeAnswer, nextAnswer, previousAnswer, elementAnswer, originAnswer, destinationAnswer, acrossAnswer, halfEdgeBorderAnswer, vertexBorderAnswer, ringAnswer, ringLeaves, neighboursAnswer, neighboursLeaves, borderLoopAnswer, borderLoopLeaves, walkerStart, walkerStep};
 ghost use Rattle.build.specs.Building.{lent};
 ghost use Rattle.reads.specs.Meshes.{mesh};
+ghost use Rattle.walker.specs.Walkers.{calledBy};
 ghost use Rattle.borzhanu.specs.Walkers.{walkerIn, entriesOf};
 
 // V2e, E2e and the first k entries of B2e of an element list: k and the number of edges.
@@ -225,6 +228,34 @@ pub extern "C" fn borzhanu_border_loop(
     answer::pack(rings::border_loop(n, elements, v2e, e2e, b2e, b, out))
 }
 
+// A walker call on a record that a host holds as three numbers.
+fn called(
+    n: u32,
+    elements: &[u32],
+    v2e: &[u32],
+    e2e: &[u32],
+    b2e: &[u32],
+    call: Call,
+    walker: &mut [u32; 3],
+) -> u64
+    ensures { λ r. ⌜ r ≡ packedAnswer (calledBy call (mesh n (now (elements .entry)) (now (v2e .entry)) (now (e2e .entry)) (now (b2e .entry))) (walkerIn (now (walker .entry))) .answer) ⌝ }
+    ensures { λ _. ⌜ now (walker .exit) ≡ entriesOf (calledBy call (mesh n (now (elements .entry)) (now (v2e .entry)) (now (e2e .entry)) (now (b2e .entry))) (walkerIn (now (walker .entry))) .walker) ⌝ }
+{
+    let start = walker[0];
+    let following = walker[1];
+    let handed = walker[2];
+    let record = Walker {
+        start,
+        following,
+        handed,
+    };
+    let moved = walker::call_at(record, n, elements, v2e, e2e, b2e, call);
+    let left = moved.walker;
+    *walker = [left.start, left.following, left.handed];
+    let answered = moved.answer;
+    answer::pack(answered)
+}
+
 // The walker, three numbers, is set to the start of the ring of v.
 #[no_mangle]
 pub extern "C" fn borzhanu_walker_start(
@@ -239,13 +270,7 @@ pub extern "C" fn borzhanu_walker_start(
     ensures { λ r. ⌜ r ≡ packedAnswer (walkerStart (mesh n (now (elements .entry)) (now (v2e .entry)) (now (e2e .entry)) (now (b2e .entry))) v (walkerIn (now (walker .entry))) .answer) ⌝ }
     ensures { λ _. ⌜ now (walker .exit) ≡ entriesOf (walkerStart (mesh n (now (elements .entry)) (now (v2e .entry)) (now (e2e .entry)) (now (b2e .entry))) v (walkerIn (now (walker .entry))) .walker) ⌝ }
 {
-    let start = walker[0];
-    let following = walker[1];
-    let handed = walker[2];
-    let moved = walker::start_at(start, following, handed, n, elements, v2e, e2e, b2e, v);
-    *walker = [moved.start, moved.following, moved.handed];
-    let answered = moved.answer;
-    answer::pack(answered)
+    called(n, elements, v2e, e2e, b2e, Call::Start(v), walker)
 }
 
 // The walker's element, 0 after the ring's last; the walker moves on.
@@ -261,11 +286,5 @@ pub extern "C" fn borzhanu_walker_step(
     ensures { λ r. ⌜ r ≡ packedAnswer (walkerStep (mesh n (now (elements .entry)) (now (v2e .entry)) (now (e2e .entry)) (now (b2e .entry))) (walkerIn (now (walker .entry))) .answer) ⌝ }
     ensures { λ _. ⌜ now (walker .exit) ≡ entriesOf (walkerStep (mesh n (now (elements .entry)) (now (v2e .entry)) (now (e2e .entry)) (now (b2e .entry))) (walkerIn (now (walker .entry))) .walker) ⌝ }
 {
-    let start = walker[0];
-    let following = walker[1];
-    let handed = walker[2];
-    let moved = walker::step_at(start, following, handed, n, elements, v2e, e2e, b2e);
-    *walker = [moved.start, moved.following, moved.handed];
-    let answered = moved.answer;
-    answer::pack(answered)
+    called(n, elements, v2e, e2e, b2e, Call::Step, walker)
 }

@@ -13,7 +13,9 @@
 ghost use Prim.Native.Nat.{_≤_, _<_};
 ghost use lib.ListN.{length};
 use answer::Answer;
+use walker::Call;
 use walker::Moved;
+use walker::Walker;
 
 // What an output holds before.
 const LEFT: u32 = 7;
@@ -186,56 +188,44 @@ fn list_all(letter: u8, numbers: &[u32; 128], end: u32) {
 // A line of an answer and of the record that the call leaves.
 fn emit_moved(letter: u8, m: Moved) {
     let a = m.answer;
-    cases::emit_line(letter, &[coded(a), m.start, m.following, m.handed]);
+    let w = m.walker;
+    cases::emit_line(letter, &[coded(a), w.start, w.following, w.handed]);
 }
 
-fn step(numbers: &[u32; 128], start: u32, following: u32, handed: u32) -> Moved {
-    walker::step_at(
-        start,
-        following,
-        handed,
+fn called(numbers: &[u32; 128], w: Walker, call: Call) -> Moved {
+    walker::call_at(
+        w,
         numbers[8],
         part(numbers, 0),
         part(numbers, 1),
         part(numbers, 2),
         part(numbers, 3),
+        call,
     )
 }
 
 // Nine steps.
-fn step_on(numbers: &[u32; 128], first: u32, second: u32, third: u32) {
-    let mut start = first;
-    let mut following = second;
-    let mut handed = third;
+fn step_on(numbers: &[u32; 128], first: Walker) {
+    let mut w = first;
     let mut i = 0u32;
     while i < 9 {
-        let m = step(numbers, start, following, handed);
-        start = m.start;
-        following = m.following;
-        handed = m.handed;
+        let m = called(numbers, w, Call::Step);
         emit_moved(b'S', m);
+        w = m.walker;
         i += 1;
     }
 }
 
-fn walk_from(numbers: &[u32; 128], v: u32) -> Moved {
-    walker::start_at(
-        LEFT,
-        LEFT,
-        LEFT,
-        numbers[8],
-        part(numbers, 0),
-        part(numbers, 1),
-        part(numbers, 2),
-        part(numbers, 3),
-        v,
-    )
-}
-
 fn walk_one(numbers: &[u32; 128], v: u32) {
-    let m = walk_from(numbers, v);
+    let unset = Walker {
+        start: LEFT,
+        following: LEFT,
+        handed: LEFT,
+    };
+    let m = called(numbers, unset, Call::Start(v));
     emit_moved(b'W', m);
-    step_on(numbers, m.start, m.following, m.handed);
+    let w = m.walker;
+    step_on(numbers, w);
 }
 
 fn walk_all(numbers: &[u32; 128], end: u32) {
@@ -320,7 +310,12 @@ fn prepare(numbers: &mut [u32; 128]) {
 
 fn run_numbers(numbers: &[u32; 128]) {
     if numbers[1] == 3 {
-        step_on(numbers, numbers[2], numbers[3], numbers[4]);
+        let w = Walker {
+            start: numbers[2],
+            following: numbers[3],
+            handed: numbers[4],
+        };
+        step_on(numbers, w);
         return;
     }
     query_all(numbers);

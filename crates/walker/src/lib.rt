@@ -1,8 +1,10 @@
 // A walker: a record that each call moves on by one element of the ring.
 use admission::length_refusal;
-use admission::refuse;
 use admission::vertex_refusal;
 use answer::Answer;
+use answer::give;
+use answer::refuse;
+use halfedge::element_of;
 use halfedge::wide;
 use reads::Read;
 use reads::ring_next;
@@ -12,7 +14,7 @@ ghost use mathlib.Core.Path.{_≡_};
 ghost use Rattle.rules.specs.Queries.{goesTo, walkerStart, walkerStep};
 ghost use Rattle.reads.specs.Meshes.{mesh, Fit};
 ghost use Rattle.reads.specs.Readings.{readOf};
-ghost use Rattle.walker.specs.Walkers.{walkerOf, movedOf, recordOf, leftBy};
+ghost use Rattle.walker.specs.Walkers.{recordOf, movedOf, leftBy, calledBy};
 
 // The ring's start side, the side whose element comes next (0 when the ring is over), and the count handed out.
 pub struct Walker {
@@ -21,185 +23,137 @@ pub struct Walker {
     pub handed: u32,
 }
 
-// What a walker call answers, and the numbers of the record that it leaves.
+// What a walker is called for: to start at a vertex, or to step.
+pub enum Call {
+    Start(u32),
+    Step,
+}
+
+// What a walker call answers, and the record that it leaves.
 pub struct Moved {
     pub answer: Answer,
-    pub start: u32,
-    pub following: u32,
-    pub handed: u32,
+    pub walker: Walker,
 }
 
 // The side that the record goes on to, 0 at the ring's end.
-fn goes_to(
-    start: u32,
-    following: u32,
-    handed: u32,
-    n: u32,
-    list: &[u32],
-    v2e: &[u32],
-    e2e: &[u32],
-    b2e: &[u32],
-) -> Read
+fn goes_to(w: Walker, n: u32, list: &[u32], v2e: &[u32], e2e: &[u32], b2e: &[u32]) -> Read
     requires { ⌜ Fit (mesh n (now list) (now v2e) (now e2e) (now b2e)) ⌝ }
-    ensures { λ r. ⌜ readOf r ≡ goesTo (mesh n (now (list .entry)) (now (v2e .entry)) (now (e2e .entry)) (now (b2e .entry))) (walkerOf start following handed) ⌝ }
+    ensures { λ r. ⌜ readOf r ≡ goesTo (mesh n (now (list .entry)) (now (v2e .entry)) (now (e2e .entry)) (now (b2e .entry))) (recordOf w) ⌝ }
 {
-    if !is_side(list, start) {
+    if !is_side(list, w.start) {
         return Read::Broken;
     }
-    if !is_side(list, following) {
+    if !is_side(list, w.following) {
         return Read::Broken;
     }
-    if list.len() / 4 <= wide(handed) {
+    if list.len() / 4 <= wide(w.handed) {
         return Read::Broken;
     }
-    let turn = ring_next(n, list, v2e, e2e, b2e, start, following);
+    let turn = ring_next(n, list, v2e, e2e, b2e, w.start, w.following);
     let Read::Value(t) = turn else {
         return Read::Broken;
     };
     if t == 0 {
         return Read::Value(0);
     }
-    if list.len() / 4 <= wide(handed) + 1 {
+    if list.len() / 4 <= wide(w.handed) + 1 {
         return Read::Broken;
     }
     Read::Value(t)
 }
 
-// A step from a record of these three numbers.
-pub fn step_at(
-    start: u32,
-    following: u32,
-    handed: u32,
-    n: u32,
-    list: &[u32],
-    v2e: &[u32],
-    e2e: &[u32],
-    b2e: &[u32],
-) -> Moved
-    ensures { λ r. ⌜ movedOf r ≡ walkerStep (mesh n (now (list .entry)) (now (v2e .entry)) (now (e2e .entry)) (now (b2e .entry))) (walkerOf start following handed) ⌝ }
+fn step_at(w: Walker, n: u32, list: &[u32], v2e: &[u32], e2e: &[u32], b2e: &[u32]) -> Moved
+    ensures { λ r. ⌜ movedOf r ≡ walkerStep (mesh n (now (list .entry)) (now (v2e .entry)) (now (e2e .entry)) (now (b2e .entry))) (recordOf w) ⌝ }
 {
     let refusal = length_refusal(n, list, v2e, e2e, b2e);
     if 0 < refusal {
         return Moved {
             answer: refuse(refusal),
-            start,
-            following,
-            handed,
+            walker: w,
         };
     }
-    if following == 0 {
+    if w.following == 0 {
         return Moved {
-            answer: Answer::Gives {
-                first: 0,
-                second: 0,
-            },
-            start,
-            following,
-            handed,
+            answer: give(0),
+            walker: w,
         };
     }
-    let turn = goes_to(start, following, handed, n, list, v2e, e2e, b2e);
+    let turn = goes_to(w, n, list, v2e, e2e, b2e);
     let Read::Value(t) = turn else {
         return Moved {
             answer: refuse(12),
-            start,
-            following,
-            handed,
+            walker: w,
         };
     };
     Moved {
-        answer: Answer::Gives {
-            first: following / 8,
-            second: 0,
+        answer: give(element_of(w.following)),
+        walker: Walker {
+            start: w.start,
+            following: t,
+            handed: w.handed + 1,
         },
-        start,
-        following: t,
-        handed: handed + 1,
     }
 }
 
-// A start at v, given the three numbers of the record before.
-pub fn start_at(
-    start: u32,
-    following: u32,
-    handed: u32,
-    n: u32,
-    list: &[u32],
-    v2e: &[u32],
-    e2e: &[u32],
-    b2e: &[u32],
-    v: u32,
-) -> Moved
-    ensures { λ r. ⌜ movedOf r ≡ walkerStart (mesh n (now (list .entry)) (now (v2e .entry)) (now (e2e .entry)) (now (b2e .entry))) v (walkerOf start following handed) ⌝ }
+fn start_at(w: Walker, n: u32, list: &[u32], v2e: &[u32], e2e: &[u32], b2e: &[u32], v: u32) -> Moved
+    ensures { λ r. ⌜ movedOf r ≡ walkerStart (mesh n (now (list .entry)) (now (v2e .entry)) (now (e2e .entry)) (now (b2e .entry))) v (recordOf w) ⌝ }
 {
     let refusal = vertex_refusal(n, list, v2e, e2e, b2e, v);
     if 0 < refusal {
         return Moved {
             answer: refuse(refusal),
-            start,
-            following,
-            handed,
+            walker: w,
         };
     }
     let begun = start_side(n, list, v2e, e2e, b2e, v);
     let Read::Value(s) = begun else {
         return Moved {
             answer: refuse(12),
-            start,
-            following,
-            handed,
+            walker: w,
         };
     };
     Moved {
-        answer: Answer::Gives {
-            first: 0,
-            second: 0,
+        answer: give(0),
+        walker: Walker {
+            start: s,
+            following: s,
+            handed: 0,
         },
-        start: s,
-        following: s,
-        handed: 0,
     }
 }
 
-// The walker's element comes out, and the record moves on.
-pub fn walker_step(
-    w: &mut Walker,
+// A call on a record by value.
+pub fn call_at(
+    w: Walker,
     n: u32,
     list: &[u32],
     v2e: &[u32],
     e2e: &[u32],
     b2e: &[u32],
-) -> Answer
-    ensures { λ r. ⌜ leftBy r (now (w .exit)) ≡ walkerStep (mesh n (now (list .entry)) (now (v2e .entry)) (now (e2e .entry)) (now (b2e .entry))) (recordOf (now (w .entry))) ⌝ }
+    call: Call,
+) -> Moved
+    ensures { λ r. ⌜ movedOf r ≡ calledBy call (mesh n (now (list .entry)) (now (v2e .entry)) (now (e2e .entry)) (now (b2e .entry))) (recordOf w) ⌝ }
 {
-    let start = w.start;
-    let following = w.following;
-    let handed = w.handed;
-    let moved = step_at(start, following, handed, n, list, v2e, e2e, b2e);
-    w.start = moved.start;
-    w.following = moved.following;
-    w.handed = moved.handed;
-    moved.answer
+    match call {
+        Call::Start(v) => start_at(w, n, list, v2e, e2e, b2e, v),
+        Call::Step => step_at(w, n, list, v2e, e2e, b2e),
+    }
 }
 
-// The walker is set to the start of the ring of v.
-pub fn walker_start(
+// A call on a record that is lent: it is set to the ring's start, or its element comes out and it moves on.
+pub fn move_on(
     w: &mut Walker,
     n: u32,
     list: &[u32],
     v2e: &[u32],
     e2e: &[u32],
     b2e: &[u32],
-    v: u32,
+    call: Call,
 ) -> Answer
-    ensures { λ r. ⌜ leftBy r (now (w .exit)) ≡ walkerStart (mesh n (now (list .entry)) (now (v2e .entry)) (now (e2e .entry)) (now (b2e .entry))) v (recordOf (now (w .entry))) ⌝ }
+    ensures { λ r. ⌜ leftBy r (now (w .exit)) ≡ calledBy call (mesh n (now (list .entry)) (now (v2e .entry)) (now (e2e .entry)) (now (b2e .entry))) (recordOf (now (w .entry))) ⌝ }
 {
-    let start = w.start;
-    let following = w.following;
-    let handed = w.handed;
-    let moved = start_at(start, following, handed, n, list, v2e, e2e, b2e, v);
-    w.start = moved.start;
-    w.following = moved.following;
-    w.handed = moved.handed;
+    let before = *w;
+    let moved = call_at(before, n, list, v2e, e2e, b2e, call);
+    *w = moved.walker;
     moved.answer
 }

@@ -1,8 +1,7 @@
 -- `borzhanu::borzhanu_border_loop` meets its contract: what the call answers, packed.
 -- Assumes nothing.
-use mathlib.Core.Path.{ap, _∙_}
 use borrow.Author.Needs.{needs}
-use Rattle.answer.specs.Numbers.{packedAnswer}
+use Rattle.borzhanu.proofs.Packed.{packs-with}
 use Rattle.borzhanu.proofs.borzhanu_border_loop.Statement.{statement}
 use Rattle.borzhanu.proofs.borzhanu_border_loop.Tie as tie
 
@@ -17,9 +16,8 @@ same-length c = search needs
 
 returns : tie.Need-returns
 returns c =
-    let border-loop = c .before .before .before .border-loop in
-    let asked = border-loop .ensures in
-    (c .pack .ensures ∙ ap packedAnswer (asked .0), asked .1)
+    let left = c .before .before in
+    packs-with (c .pack .ensures) (left .before .border-loop .ensures)
 
 pub borzhanu-border-loop-spec : {M : Type 1} → statement M
 borzhanu-border-loop-spec = tie.close (tie.spec border-loop-requires pack-requires same-length returns)

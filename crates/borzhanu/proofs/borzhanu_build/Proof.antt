@@ -1,10 +1,12 @@
 -- `borzhanu::borzhanu_build` meets its contract: what the call answers, packed.
 -- Assumes nothing.
-use mathlib.Core.Path.{ap, _∙_}
 use borrow.Author.Needs.{needs}
-use Rattle.answer.specs.Numbers.{packedAnswer}
+use Rattle.borzhanu.proofs.Packed.{packs-with}
 use Rattle.borzhanu.proofs.borzhanu_build.Statement.{statement}
 use Rattle.borzhanu.proofs.borzhanu_build.Tie as tie
+
+abbrev built : tie.After-pack → tie.After-build
+built c = c .before .before .before .before .before .before .before .before .before
 
 build-requires : tie.Need-build-requires
 build-requires c κs = search needs
@@ -25,10 +27,7 @@ same-length-4 : tie.Need-same-length-4
 same-length-4 c = search needs
 
 returns : tie.Need-returns
-returns c =
-    let build = c .before .before .before .before .before .before .before .before .before .build in
-    let built = build .ensures in
-    (c .pack .ensures ∙ ap packedAnswer (built .0), built .1)
+returns c = packs-with (c .pack .ensures) (built c .build .ensures)
 
 pub borzhanu-build-spec : {M : Type 1} → statement M
 borzhanu-build-spec =

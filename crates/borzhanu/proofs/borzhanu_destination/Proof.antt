@@ -1,8 +1,7 @@
 -- `borzhanu::borzhanu_destination` meets its contract: what the call answers, packed.
 -- Assumes nothing.
-use mathlib.Core.Path.{ap, _∙_}
 use borrow.Author.Needs.{needs}
-use Rattle.answer.specs.Numbers.{packedAnswer}
+use Rattle.borzhanu.proofs.Packed.{packs}
 use Rattle.borzhanu.proofs.borzhanu_destination.Statement.{statement}
 use Rattle.borzhanu.proofs.borzhanu_destination.Tie as tie
 
@@ -13,7 +12,7 @@ pack-requires : tie.Need-pack-requires
 pack-requires c κs = search needs
 
 returns : tie.Need-returns
-returns c = c .pack .ensures ∙ ap packedAnswer (c .before .destination .ensures)
+returns c = packs (c .pack .ensures) (c .before .destination .ensures)
 
 pub borzhanu-destination-spec : {M : Type 1} → statement M
 borzhanu-destination-spec = tie.close (tie.spec destination-requires pack-requires returns)

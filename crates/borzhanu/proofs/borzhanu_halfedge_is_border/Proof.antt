@@ -1,8 +1,7 @@
 -- `borzhanu::borzhanu_halfedge_is_border` meets its contract: what the call answers, packed.
 -- Assumes nothing.
-use mathlib.Core.Path.{ap, _∙_}
 use borrow.Author.Needs.{needs}
-use Rattle.answer.specs.Numbers.{packedAnswer}
+use Rattle.borzhanu.proofs.Packed.{packs}
 use Rattle.borzhanu.proofs.borzhanu_halfedge_is_border.Statement.{statement}
 use Rattle.borzhanu.proofs.borzhanu_halfedge_is_border.Tie as tie
 
@@ -13,7 +12,7 @@ pack-requires : tie.Need-pack-requires
 pack-requires c κs = search needs
 
 returns : tie.Need-returns
-returns c = c .pack .ensures ∙ ap packedAnswer (c .before .halfedge-is-border .ensures)
+returns c = packs (c .pack .ensures) (c .before .halfedge-is-border .ensures)
 
 pub borzhanu-halfedge-is-border-spec : {M : Type 1} → statement M
 borzhanu-halfedge-is-border-spec = tie.close (tie.spec halfedge-is-border-requires pack-requires returns)

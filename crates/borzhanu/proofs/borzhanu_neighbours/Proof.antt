@@ -1,8 +1,7 @@
 -- `borzhanu::borzhanu_neighbours` meets its contract: what the call answers, packed.
 -- Assumes nothing.
-use mathlib.Core.Path.{ap, _∙_}
 use borrow.Author.Needs.{needs}
-use Rattle.answer.specs.Numbers.{packedAnswer}
+use Rattle.borzhanu.proofs.Packed.{packs-with}
 use Rattle.borzhanu.proofs.borzhanu_neighbours.Statement.{statement}
 use Rattle.borzhanu.proofs.borzhanu_neighbours.Tie as tie
 
@@ -17,9 +16,8 @@ same-length c = search needs
 
 returns : tie.Need-returns
 returns c =
-    let neighbours = c .before .before .before .neighbours in
-    let asked = neighbours .ensures in
-    (c .pack .ensures ∙ ap packedAnswer (asked .0), asked .1)
+    let left = c .before .before in
+    packs-with (c .pack .ensures) (left .before .neighbours .ensures)
 
 pub borzhanu-neighbours-spec : {M : Type 1} → statement M
 borzhanu-neighbours-spec = tie.close (tie.spec neighbours-requires pack-requires same-length returns)

@@ -1,8 +1,7 @@
 -- `borzhanu::borzhanu_next` meets its contract: what the call answers, packed.
 -- Assumes nothing.
-use mathlib.Core.Path.{ap, _∙_}
 use borrow.Author.Needs.{needs}
-use Rattle.answer.specs.Numbers.{packedAnswer}
+use Rattle.borzhanu.proofs.Packed.{packs}
 use Rattle.borzhanu.proofs.borzhanu_next.Statement.{statement}
 use Rattle.borzhanu.proofs.borzhanu_next.Tie as tie
 
@@ -13,7 +12,7 @@ pack-requires : tie.Need-pack-requires
 pack-requires c κs = search needs
 
 returns : tie.Need-returns
-returns c = c .pack .ensures ∙ ap packedAnswer (c .before .next .ensures)
+returns c = packs (c .pack .ensures) (c .before .next .ensures)
 
 pub borzhanu-next-spec : {M : Type 1} → statement M
 borzhanu-next-spec = tie.close (tie.spec next-requires pack-requires returns)

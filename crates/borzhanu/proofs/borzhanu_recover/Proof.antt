@@ -1,10 +1,12 @@
 -- `borzhanu::borzhanu_recover` meets its contract: what the call answers, packed.
 -- Assumes nothing.
-use mathlib.Core.Path.{ap, _∙_}
 use borrow.Author.Needs.{needs}
-use Rattle.answer.specs.Numbers.{packedAnswer}
+use Rattle.borzhanu.proofs.Packed.{packs-with}
 use Rattle.borzhanu.proofs.borzhanu_recover.Statement.{statement}
 use Rattle.borzhanu.proofs.borzhanu_recover.Tie as tie
+
+abbrev recovered : tie.After-pack → tie.After-recover
+recovered c = c .before .before .before .before .before
 
 recover-requires : tie.Need-recover-requires
 recover-requires c κs = search needs
@@ -19,10 +21,7 @@ same-length-2 : tie.Need-same-length-2
 same-length-2 c = search needs
 
 returns : tie.Need-returns
-returns c =
-    let recover = c .before .before .before .before .before .recover in
-    let recovered = recover .ensures in
-    (c .pack .ensures ∙ ap packedAnswer (recovered .0), recovered .1)
+returns c = packs-with (c .pack .ensures) (recovered c .recover .ensures)
 
 pub borzhanu-recover-spec : {M : Type 1} → statement M
 borzhanu-recover-spec =

@@ -1,8 +1,7 @@
 -- `borzhanu::borzhanu_ring` meets its contract: what the call answers, packed.
 -- Assumes nothing.
-use mathlib.Core.Path.{ap, _∙_}
 use borrow.Author.Needs.{needs}
-use Rattle.answer.specs.Numbers.{packedAnswer}
+use Rattle.borzhanu.proofs.Packed.{packs-with}
 use Rattle.borzhanu.proofs.borzhanu_ring.Statement.{statement}
 use Rattle.borzhanu.proofs.borzhanu_ring.Tie as tie
 
@@ -17,9 +16,8 @@ same-length c = search needs
 
 returns : tie.Need-returns
 returns c =
-    let ring = c .before .before .before .ring in
-    let asked = ring .ensures in
-    (c .pack .ensures ∙ ap packedAnswer (asked .0), asked .1)
+    let left = c .before .before in
+    packs-with (c .pack .ensures) (left .before .ring .ensures)
 
 pub borzhanu-ring-spec : {M : Type 1} → statement M
 borzhanu-ring-spec = tie.close (tie.spec ring-requires pack-requires same-length returns)

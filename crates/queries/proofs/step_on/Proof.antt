@@ -7,16 +7,16 @@ use Rattle.queries.proofs.step_on.Statement.{statement}
 use Rattle.queries.proofs.step_on.Tie as tie
 
 abbrev Inv-loop : tie.InvT-loop
-Inv-loop numbers first second third start₀ following₀ handed₀ i₀ start following handed i = Unit {0}
+Inv-loop numbers first i₀ w i = Unit {0}
 
 abbrev μ-loop : tie.MeasureT-loop
-μ-loop numbers first second third start₀ following₀ handed₀ i₀ start following handed i = 9 - i
+μ-loop numbers first i₀ w i = 9 - i
 
 loop-holds : tie.Need-loop-holds Inv-loop μ-loop
 loop-holds c = tt
 
-step-requires : tie.Need-step-requires Inv-loop μ-loop
-step-requires c κs = search needs
+called-requires : tie.Need-called-requires Inv-loop μ-loop
+called-requires c κs = search needs
 
 emit-moved-requires : tie.Need-emit-moved-requires Inv-loop μ-loop
 emit-moved-requires c κs = search needs
@@ -40,7 +40,7 @@ step-on-spec =
     Inv-loop
     μ-loop
     loop-holds
-    step-requires
+    called-requires
     emit-moved-requires
     add-i
     loop-less

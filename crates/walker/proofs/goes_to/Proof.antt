@@ -13,14 +13,28 @@ use native.Mathlib.Omega.{arith}
 use Rattle.walker.proofs.goes_to.Statement.{statement}
 use Rattle.walker.proofs.goes_to.Tie as tie
 
-from-side : (c : tie.Else1) → let s = c .before .before .before .before .before .before .args in isSide (s .list .now) (s .start) ≡ true
+abbrev begun : tie.After-is-side → tie.Start
+begun c = c .before .before .before .before .before
+
+-- the tests that are passed: the start is a side, so is what follows, and less than m are handed out
+abbrev first : tie.Else2 → tie.Else1
+first c = c .before .before
+
+abbrev second : tie.Else3 → tie.Else2
+second c = c .before .before
+
+from-side : (c : tie.Else1) → let a = begun (c .before) .args in isSide (a .list .now) (a .w .start) ≡ true
 from-side c = passed (c .before .is-side .ensures) (c .if1 .left)
 
-to-side : (c : tie.Else2) → let s = c .before .before .before .before .before .before .before .before .args in isSide (s .list .now) (s .following) ≡ true
+to-side : (c : tie.Else2) → let a = begun (first c .before) .args in isSide (a .list .now) (a .w .following) ≡ true
 to-side c = passed (c .before .is-side2 .ensures) (c .if2 .left)
 
-in-count : (c : tie.Else3) → let s = c .before .before .before .before .before .before .before .before .before .before .args in s .handed < elements (s .list .now)
+in-count : (c : tie.Else3) → let a = begun (first (second c) .before) .args in a .w .handed < elements (a .list .now)
 in-count c = omega arith
+
+-- the turn was read, and named
+abbrev read : tie.After-known-told → tie.After-ring-next
+read c = c .before .before .before
 
 is-side-requires : tie.Need-is-side-requires
 is-side-requires c κs = search needs
@@ -38,12 +52,12 @@ wide-requires : tie.Need-wide-requires
 wide-requires c κs = search needs
 
 returns-3 : tie.Need-returns-3
-returns-3 c = all-handed _ _ (from-side (c .before .before .before .before)) (to-side (c .before .before)) (omega arith)
+returns-3 c =
+    let sides = c .before .before in
+    all-handed _ _ (from-side (first sides)) (to-side sides) (omega arith)
 
 ring-next-requires : tie.Need-ring-next-requires
-ring-next-requires c κs =
-    let pre = c .before .before .before .before .before .before .before .before .before .before .pre in
-    (pre, holds (to-side (c .before .before)))
+ring-next-requires c κs = (begun (first (second c) .before) .pre, holds (to-side (second c)))
 
 enum-known-turn : tie.Need-enum-known-turn
 enum-known-turn c = search needs
@@ -53,14 +67,17 @@ enum-told c = search needs
 
 returns-4 : tie.Need-returns-4
 returns-4 c =
-    let d = c .before .before .before in
-    no-turn _ _ (from-side (d .before .before .before .before)) (to-side (d .before .before)) (in-count d) (broken-of (c .before .before .ring-next .ensures) (c .enum-told .given .1))
+    let lost = c .before .before in
+    let sides = second (lost .before) in
+    no-turn _ _ (from-side (first sides)) (to-side sides) (in-count (lost .before)) (broken-of (lost .ring-next .ensures) (c .enum-told .given .1))
 
 returns-5 : tie.Need-returns-5
 returns-5 c =
-    let ring-next = c .before .before .before .before .ring-next in
-    let d = c .before .before .before .before .before in
-    ring-over _ _ (from-side (d .before .before .before .before)) (to-side (d .before .before)) (in-count d) _ (value-of (ring-next .ensures) (c .before .before .turn .given .1)) (c .if4 .taken)
+    let known = c .before in
+    let counted = read known .before in
+    let sides = second counted in
+    ring-over _ _ (from-side (first sides)) (to-side sides) (in-count counted) _ (value-of (read known .ring-next .ensures) (known .before .turn .given .1))
+    (c .if4 .taken)
 
 wide-requires-2 : tie.Need-wide-requires-2
 wide-requires-2 c κs = search needs
@@ -70,15 +87,21 @@ add-if5 c = search needs
 
 returns-6 : tie.Need-returns-6
 returns-6 c =
-    let e = c .before .before in
-    let d = e .before .before .before .before .before in
-    overlong _ _ (from-side (d .before .before .before .before)) (to-side (d .before .before)) (in-count d) _ (value-of (e .before .before .before .before .ring-next .ensures) (e .before .before .turn .given .1)) (e .if4 .left) (omega (arith, c .if5 .taken, c .before .wide2 .ensures))
+    let on = c .before .before in
+    let known = on .before in
+    let counted = read known .before in
+    let sides = second counted in
+    overlong _ _ (from-side (first sides)) (to-side sides) (in-count counted) _ (value-of (read known .ring-next .ensures) (known .before .turn .given .1))
+    (on .if4 .left) (omega (arith, c .if5 .taken, c .before .wide2 .ensures))
 
 returns-7 : tie.Need-returns-7
 returns-7 c =
-    let e = c .before .before in
-    let d = e .before .before .before .before .before in
-    ring-on _ _ (from-side (d .before .before .before .before)) (to-side (d .before .before)) (in-count d) _ (value-of (e .before .before .before .before .ring-next .ensures) (e .before .before .turn .given .1)) (e .if4 .left) (omega (arith, c .if5 .left, c .before .wide2 .ensures))
+    let on = c .before .before in
+    let known = on .before in
+    let counted = read known .before in
+    let sides = second counted in
+    ring-on _ _ (from-side (first sides)) (to-side sides) (in-count counted) _ (value-of (read known .ring-next .ensures) (known .before .turn .given .1))
+    (on .if4 .left) (omega (arith, c .if5 .left, c .before .wide2 .ensures))
 
 pub goes-to-spec : {M : Type 1} → statement M
 goes-to-spec =

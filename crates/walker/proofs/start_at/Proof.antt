@@ -29,13 +29,22 @@ refuse-requires-2 c κs = search needs
 
 returns-2 : tie.Need-returns-2
 returns-2 c =
-    let d = c .before .before .before in
-    answers _ (c .refuse2 .ensures) (start-lost _ _ _ (d .before .before .vertex-refusal .ensures) (d .before .if1 .left) (broken-of (d .start-side .ensures) (c .before .enum-told .given .1)))
+    let told = c .before in
+    let lost = told .before .before in
+    let passed = lost .before in
+    answers _ (c .refuse2 .ensures)
+    (start-lost _ _ _ (passed .before .vertex-refusal .ensures) (passed .if1 .left) (broken-of (lost .start-side .ensures) (told .enum-told .given .1)))
+
+give-requires : tie.Need-give-requires
+give-requires c κs = search needs
 
 returns-3 : tie.Need-returns-3
 returns-3 c =
-    let d = c .before .before .before in
-    start-done _ _ _ (d .before .before .vertex-refusal .ensures) (d .before .if1 .left) _ (value-of (d .start-side .ensures) (c .before .begun .given .1))
+    let begun = c .before .before in
+    let read = begun .before .before in
+    let passed = read .before in
+    answers _ (c .give .ensures)
+    (start-done _ _ _ (passed .before .vertex-refusal .ensures) (passed .if1 .left) _ (value-of (read .start-side .ensures) (begun .begun .given .1)))
 
 pub start-at-spec : {M : Type 1} → statement M
 start-at-spec =
@@ -49,4 +58,5 @@ start-at-spec =
     enum-told
     refuse-requires-2
     returns-2
+    give-requires
     returns-3)
