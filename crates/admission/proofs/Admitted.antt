@@ -121,17 +121,20 @@ module _ (M : Mesh) where
     pub admitted : k ≤ 0 → r ≡ a → r ≡ asked M (defined there a)
     admitted h e = e ∙ sym (x .settled a ∙ settle-none k a h)
 
--- a question about a half-edge, answered one way of a side, another way of a border
-module _ (M : Mesh) (c : ℕ) {k : ℕ} (x : Admits M (isHalfEdge M c) k) (h : k ≤ 0) {b : Bool} (t : b ≡ eqb (number c) 0) where
-  pub border-there : b ≡ true → T (isBorderCode M c)
-  border-there z = half-border M c (x .found h) (of-border c t z)
+-- a question about a half-edge that is there, b where it is a border: answered one way of a side, another way of a border
+pub record Asked (M : Mesh) (c : ℕ) (b : Bool) : Type 0 where
+  pub fit : Fit M
+  pub border : b ≡ true → T (isBorderCode M c)
+  pub side : b ≡ false → Side (M .list) c
+  pub border-found : (p q : Option ℕ) {r : Answer} {o : Option ℕ} → b ≡ true → r ≡ found o → o ≡ q → r ≡ asked M (defined (isHalfEdge M c) (found (bySide c p q)))
+  pub side-found : (p q : Option ℕ) {r : Answer} {o : Option ℕ} → b ≡ false → r ≡ found o → o ≡ p → r ≡ asked M (defined (isHalfEdge M c) (found (bySide c p q)))
 
-  pub side-there : b ≡ false → Side (M .list) c
-  side-there z = half-side M c (x .found h) (of-side c t z)
-
-  module _ {r : Answer} {o : Option ℕ} (e : r ≡ found o) (p q : Option ℕ) where
-    pub border-found : b ≡ true → o ≡ q → r ≡ asked M (defined (isHalfEdge M c) (found (bySide c p q)))
-    border-found z f = admitted M x _ h (e ∙ ap found (border-then c p q t z f))
-
-    pub side-found : b ≡ false → o ≡ p → r ≡ asked M (defined (isHalfEdge M c) (found (bySide c p q)))
-    side-found z f = admitted M x _ h (e ∙ ap found (side-then c p q t z f))
+pub asks : (M : Mesh) (c : ℕ) {k : ℕ} {b : Bool} → Admits M (isHalfEdge M c) k → k ≤ 0 → b ≡ eqb (number c) 0 → Asked M c b
+asks M c x h t =
+    record {
+      fit = x .fit h;
+      border = λ z. half-border M c (x .found h) (of-border c t z);
+      side = λ z. half-side M c (x .found h) (of-side c t z);
+      border-found = λ p q z e f. admitted M x _ h (e ∙ ap found (border-then c p q t z f));
+      side-found = λ p q z e f. admitted M x _ h (e ∙ ap found (side-then c p q t z f));
+    }

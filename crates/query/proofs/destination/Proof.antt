@@ -1,10 +1,20 @@
 -- `query::destination` meets its contract: one reader of a border, another of a side.
 -- Assumes nothing.
-use Rattle.admission.proofs.Admitted.{turned-away, border-there, side-there, border-found, side-found}
+use Rattle.admission.proofs.Admitted.{Asked, asks, turned-away}
+use Rattle.reads.specs.Meshes.{mesh}
 use Rattle.rules.specs.Queries.{destinationAnswer}
 use borrow.Author.Needs.{needs}
 use Rattle.query.proofs.destination.Statement.{statement}
 use Rattle.query.proofs.destination.Tie as tie
+
+-- the half-edge is there, and was tested for a border
+abbrev begun : tie.After-is-border → tie.Start
+begun c = c .before .before .before .before .before .before .before
+
+asked :
+    (c : tie.After-is-border) → let a = begun c .args in
+    Asked (mesh (a .n) (a .list .now) (a .v2e .now) (a .e2e .now) (a .b2e .now)) (a .code) (c .is-border .result)
+asked c = asks _ _ (c .before .before .half-edge-refusal .ensures) (c .before .if1 .left) (c .is-border .ensures)
 
 half-edge-refusal-requires : tie.Need-half-edge-refusal-requires
 half-edge-refusal-requires c κs = search needs
@@ -20,10 +30,7 @@ is-border-requires : tie.Need-is-border-requires
 is-border-requires c κs = search needs
 
 border-destination-requires : tie.Need-border-destination-requires
-border-destination-requires c κs =
-    let tested = c .before in
-    let refused = tested .before .before in
-    border-there _ _ (refused .half-edge-refusal .ensures) (tested .before .if1 .left) (tested .is-border .ensures) (c .if2 .taken)
+border-destination-requires c κs = asked (c .before) .border (c .if2 .taken)
 
 found-requires : tie.Need-found-requires
 found-requires c κs = search needs
@@ -31,17 +38,11 @@ found-requires c κs = search needs
 returns-2 : tie.Need-returns-2
 unfolding destinationAnswer
 returns-2 c =
-    let known = c .before .before in
-    let tested = known .before in
-    let refused = tested .before .before in
-    border-found _ _ (refused .half-edge-refusal .ensures) (tested .before .if1 .left) (tested .is-border .ensures)
-    (c .found .ensures) _ _ (known .if2 .taken) (c .before .border-destination .ensures)
+    let border = c .before .before in
+    asked (border .before) .border-found _ _ (border .if2 .taken) (c .found .ensures) (c .before .border-destination .ensures)
 
 read-destination-requires : tie.Need-read-destination-requires
-read-destination-requires c κs =
-    let tested = c .before in
-    let refused = tested .before .before in
-    side-there _ _ (refused .half-edge-refusal .ensures) (tested .before .if1 .left) (tested .is-border .ensures) (c .if2 .left)
+read-destination-requires c κs = asked (c .before) .side (c .if2 .left)
 
 found-requires-2 : tie.Need-found-requires-2
 found-requires-2 c κs = search needs
@@ -49,11 +50,8 @@ found-requires-2 c κs = search needs
 returns-3 : tie.Need-returns-3
 unfolding destinationAnswer
 returns-3 c =
-    let known = c .before .before in
-    let tested = known .before in
-    let refused = tested .before .before in
-    side-found _ _ (refused .half-edge-refusal .ensures) (tested .before .if1 .left) (tested .is-border .ensures)
-    (c .found2 .ensures) _ _ (known .if2 .left) (c .before .read-destination .ensures)
+    let side = c .before .before in
+    asked (side .before) .side-found _ _ (side .if2 .left) (c .found2 .ensures) (c .before .read-destination .ensures)
 
 pub destination-spec : {M : Type 1} → statement M
 destination-spec =

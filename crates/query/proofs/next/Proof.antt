@@ -1,12 +1,22 @@
 -- `query::next` meets its contract: along the border, or within the element.
 -- Assumes nothing.
-use Rattle.admission.proofs.Admitted.{turned-away, border-there, side-there, border-found, side-found}
+use Rattle.admission.proofs.Admitted.{Asked, asks, turned-away}
+use Rattle.reads.specs.Meshes.{mesh}
 use Rattle.rules.specs.Queries.{found, nextAnswer}
 use borrow.Author.Needs.{needs}
 use mathlib.Core.Option.{some}
 use mathlib.Core.Path.{ap}
 use Rattle.query.proofs.next.Statement.{statement}
 use Rattle.query.proofs.next.Tie as tie
+
+-- the half-edge is there, and was tested for a border
+abbrev begun : tie.After-is-border → tie.Start
+begun c = c .before .before .before .before .before .before .before
+
+asked :
+    (c : tie.After-is-border) → let a = begun c .args in
+    Asked (mesh (a .n) (a .list .now) (a .v2e .now) (a .e2e .now) (a .b2e .now)) (a .code) (c .is-border .result)
+asked c = asks _ _ (c .before .before .half-edge-refusal .ensures) (c .before .if1 .left) (c .is-border .ensures)
 
 half-edge-refusal-requires : tie.Need-half-edge-refusal-requires
 half-edge-refusal-requires c κs = search needs
@@ -22,12 +32,7 @@ is-border-requires : tie.Need-is-border-requires
 is-border-requires c κs = search needs
 
 border-next-requires : tie.Need-border-next-requires
-border-next-requires c κs =
-    let tested = c .before in
-    let refused = tested .before .before in (
-      refused .half-edge-refusal .ensures .fit (tested .before .if1 .left),
-      border-there _ _ (refused .half-edge-refusal .ensures) (tested .before .if1 .left) (tested .is-border .ensures) (c .if2 .taken),
-    )
+border-next-requires c κs = (asked (c .before) .fit, asked (c .before) .border (c .if2 .taken))
 
 found-requires : tie.Need-found-requires
 found-requires c κs = search needs
@@ -35,17 +40,11 @@ found-requires c κs = search needs
 returns-2 : tie.Need-returns-2
 unfolding nextAnswer
 returns-2 c =
-    let known = c .before .before in
-    let tested = known .before in
-    let refused = tested .before .before in
-    border-found _ _ (refused .half-edge-refusal .ensures) (tested .before .if1 .left) (tested .is-border .ensures)
-    (c .found .ensures) _ _ (known .if2 .taken) (c .before .border-next .ensures)
+    let border = c .before .before in
+    asked (border .before) .border-found _ _ (border .if2 .taken) (c .found .ensures) (c .before .border-next .ensures)
 
 next-code-requires : tie.Need-next-code-requires
-next-code-requires c κs =
-    let tested = c .before in
-    let refused = tested .before .before in
-    side-there _ _ (refused .half-edge-refusal .ensures) (tested .before .if1 .left) (tested .is-border .ensures) (c .if2 .left)
+next-code-requires c κs = asked (c .before) .side (c .if2 .left)
 
 give-requires : tie.Need-give-requires
 give-requires c κs = search needs
@@ -53,11 +52,8 @@ give-requires c κs = search needs
 returns-3 : tie.Need-returns-3
 unfolding nextAnswer found
 returns-3 c =
-    let known = c .before .before in
-    let tested = known .before in
-    let refused = tested .before .before in
-    side-found _ _ (refused .half-edge-refusal .ensures) (tested .before .if1 .left) (tested .is-border .ensures)
-    (c .give .ensures) _ _ (known .if2 .left) (ap some (c .before .next-code .ensures))
+    let side = c .before .before in
+    asked (side .before) .side-found _ _ (side .if2 .left) (c .give .ensures) (ap some (c .before .next-code .ensures))
 
 pub next-spec : {M : Type 1} → statement M
 next-spec =
