@@ -1,12 +1,16 @@
 -- The work buffer of the walk, and what the walk leaves in it.
 -- Assumes nothing.
 use mathlib.Core.Path.{_≡_}
+use mathlib.Core.Bool.{Bool}
 use mathlib.Core.List.{List}
 use Prim.Native.Nat.{ℕ, _+_, _*_, _-_, _≤_}
+use lib.Dec.{eqb}
 use lib.ListN.{length, take, drop}
+use Rattle.lists.specs.Tests.{both}
 use Rattle.lists.specs.Search.{at, zeros}
 use Rattle.lists.specs.Parts.{part}
-use Rattle.rules.specs.Recovery.{sideOfBorder, trace, walkTo, walk}
+use Rattle.rules.specs.Elements.{isSide, slot}
+use Rattle.rules.specs.Recovery.{sideOfBorder, trace, walkTo}
 
 pub record Sizes (n m : ℕ) (w : List ℕ) : Type 0 where
   pub vertices : n ≤ 1_000_000
@@ -25,6 +29,10 @@ v2eIn n w = take n w
 
 abbrev pub e2eIn : ℕ → ℕ → List ℕ → List ℕ
 e2eIn n m w = part n (4 * m) w
+
+-- a side whose place is still empty
+abbrev pub isOpen : List ℕ → List ℕ → ℕ → Bool
+isOpen E W s = both (isSide E s) (eqb (at W (slot s)) 0)
 
 -- at each border number the least side with that border
 abbrev pub Linked : ℕ → ℕ → List ℕ → Type 0

@@ -2,34 +2,75 @@
 -- Assumes nothing.
 use mathlib.Core.Path.{_≡_, sym, _∙_}
 use mathlib.Core.Bool.{true}
-use Prim.Native.Nat.{_*_, _<_}
+use mathlib.Core.List.{List}
+use Prim.Native.Nat.{ℕ, _+_, _*_, _<_}
 use native.Mathlib.Omega.{arith}
 use borrow.Author.Needs.{needs}
 use borrow.Author.Tests.{not-true, not-false}
-use Rattle.rules.specs.Elements.{isSide}
-use Rattle.walk.specs.Layout.{e2eIn}
-use Rattle.walk.specs.Sides.{slot-in}
-use Rattle.walk.specs.Traces.{shut-side, shut-place, open-place}
+use Rattle.lists.specs.Search.{at}
+use Rattle.rules.specs.Elements.{isSide, slot}
+use Rattle.walk.specs.Layout.{e2eIn, written}
+use Rattle.walk.specs.Sides.{lent, slot-in}
+use Rattle.walk.specs.Traces.{written-at, shut-side, shut-place, open-place}
 use Rattle.walk.proofs.is_open.Statement.{statement}
 use Rattle.walk.proofs.is_open.Tie as tie
 
-a-side : (c : tie.After-slot-of) → isSide (e2eIn (c .before .before .before .before .args .n) (c .before .before .before .before .args .m) (c .before .before .before .before .args .work .now)) (c .before .before .before .before .args .s) ≡ true
-a-side c = sym (c .before .before .is-side .ensures) ∙ not-false (c .before .before .is-side .result) (c .before .if1 .left)
+abbrev begun : tie.After-is-side → tie.Start
+begun c = c .before .before .before
 
-place : (c : tie.After-slot-of) → c .slot-of .result < 4 * c .before .before .before .before .args .m
+abbrev asked : tie.Start → ℕ
+asked s = s .args .s
+
+abbrev E2e : tie.Start → List ℕ
+E2e s = e2eIn (s .args .n) (s .args .m) (s .args .work .now)
+
+-- the test is one of E2e
+tested : (c : tie.After-is-side) → c .is-side .result ≡ isSide (E2e (begun c)) (asked (begun c))
+tested c = rw lent at (c .is-side .ensures)
+
+a-side : (c : tie.Else1) → isSide (E2e (begun (c .before))) (asked (begun (c .before))) ≡ true
+a-side c = sym (tested (c .before)) ∙ not-false _ (c .if1 .left)
+
+abbrev places : tie.Start → List ℕ
+places s = written (s .args .n) (s .args .m) (s .args .work .now)
+
+abbrev placed : tie.After-slot-of → tie.Start
+placed c = begun (c .before .before)
+
+place : (c : tie.After-slot-of) → c .slot-of .result < 4 * placed c .args .m
 place c =
-    let pre = c .before .before .before .before .pre in
-    let args = c .before .before .before .before .args in
-    rw (c .slot-of .ensures) (slot-in (args .n) (args .m) (args .work .now) (pre) (args .s) (rw (a-side c) tt))
+    let s = placed c in
+    rw (c .slot-of .ensures) (slot-in (s .args .n) (s .args .m) (s .args .work .now) (s .pre) (s .args .s) (rw (a-side (c .before)) tt))
+
+abbrev entry : tie.After-slot-of → ℕ
+entry c = at (placed c .args .work .now) (placed c .args .n + 8 * placed c .args .m + c .slot-of .result)
+
+read : (c : tie.After-slot-of) → entry c ≡ at (places (placed c)) (slot (asked (placed c)))
+read c = let s = placed c in written-at (s .args .n) (s .args .m) (s .args .work .now) (s .args .s) (c .slot-of .ensures)
+
+mul-e : tie.Need-mul-e
+mul-e c = search needs
+
+add-e : tie.Need-add-e
+add-e c = search needs
+
+mul-is-side : tie.Need-mul-is-side
+mul-is-side c = search needs
+
+sub-is-side : tie.Need-sub-is-side
+sub-is-side c = search needs
+
+part-is-side-start : tie.Need-part-is-side-start
+part-is-side-start c = search needs
+
+part-is-side-end : tie.Need-part-is-side-end
+part-is-side-end c = search needs
 
 is-side-requires : tie.Need-is-side-requires
 is-side-requires c κs = search needs
 
 returns : tie.Need-returns
-returns c =
-    let pre = c .before .before .before .pre in
-    let args = c .before .before .before .args in
-    sym (shut-side (args .n) (args .m) (args .work .now) (pre) (args .s) (sym (c .before .is-side .ensures) ∙ not-true (c .before .is-side .result) (c .if1 .taken)))
+returns c = shut-side _ (places (begun (c .before))) _ (sym (tested (c .before)) ∙ not-true _ (c .if1 .taken))
 
 mul-if2 : tie.Need-mul-if2
 mul-if2 c = search needs
@@ -51,20 +92,24 @@ shared-slice-read-if2 c = omega (arith, place (c .before))
 
 returns-2 : tie.Need-returns-2
 returns-2 c =
-    let pre = c .before .before .before .before .before .before .pre in
-    let args = c .before .before .before .before .before .before .args in
-    sym (shut-place (args .n) (args .m) (args .work .now) (pre) (args .s) (c .before .before .slot-of .result) (c .before .before .slot-of .ensures) (c .if2 .taken))
+    let opened = c .before .before in
+    shut-place _ (places (placed opened)) _ (read opened) (c .if2 .taken)
 
 returns-3 : tie.Need-returns-3
 returns-3 c =
-    let pre = c .before .before .before .before .before .before .pre in
-    let args = c .before .before .before .before .before .before .args in
-    sym (open-place (args .n) (args .m) (args .work .now) (pre) (args .s) (c .before .before .slot-of .result) (c .before .before .slot-of .ensures) (a-side (c .before .before)) (c .if2 .left))
+    let opened = c .before .before in
+    open-place _ (places (placed opened)) _ (read opened) (a-side (opened .before)) (c .if2 .left)
 
 pub is-open-spec : {M : Type 1} → statement M
 is-open-spec =
     tie.close
     (tie.spec
+    mul-e
+    add-e
+    mul-is-side
+    sub-is-side
+    part-is-side-start
+    part-is-side-end
     is-side-requires
     returns
     mul-if2

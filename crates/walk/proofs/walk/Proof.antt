@@ -1,62 +1,27 @@
 -- `walk::walk` meets its contract.
 -- Assumes nothing.
-use mathlib.Core.Path.{_≡_, ap, sym, _∙_}
 use mathlib.Core.List.{List, _++_}
-use Prim.Native.Nat.{ℕ, _+_, _*_, _-_, _≤_}
-use native.Mathlib.Omega.{arith}
+use Prim.Native.Nat.{ℕ, _+_, _*_, _-_}
 use borrow.Author.Needs.{needs}
-use lib.ListN.{length, take, drop, replicate, length-replicate, length-take, length-drop}
-use Rattle.lists.specs.Parts.{put-take, put-drop, put-length}
-use Rattle.walk.specs.Layout.{Sizes, tables, written, Walking}
-use Rattle.walk.specs.Walks.{cleared, walked-from}
+use lib.ListN.{length, drop}
+use Rattle.walk.specs.Layout.{tables, written}
+use Rattle.walk.specs.Walks.{Cleared, cleared, walks-start, walked-from}
 use Rattle.walk.proofs.walk.Statement.{statement}
 use Rattle.walk.proofs.walk.Tie as tie
 
-abbrev After : Type 0
-After = tie.After-clear
-
-abbrev the-work : After → List ℕ
-the-work c =
-    let args = c .before .before .before .args in
-    args .work .now
-
-abbrev from : After → ℕ
-from c =
-    let args = c .before .before .before .args in
-    args .n + 8 * args .m
-
-inside : (c : After) → from c ≤ length (the-work c)
-inside c =
-    let pre = c .before .before .before .pre in
-    omega (arith, pre .0 .long)
-
-abbrev zeroed : After → List ℕ
-zeroed c = c .clear .last .0
+abbrev begun : tie.After-clear → tie.Start
+begun c = c .before .before .before
 
 -- the work buffer with its last part cleared
-abbrev now-work : After → List ℕ
-now-work c = take (from c) (the-work c) ++ (zeroed c ++ drop (length (the-work c) - from c) (drop (from c) (the-work c)))
+abbrev buffer : (n m : ℕ) → List ℕ → List ℕ → List ℕ
+buffer n m w ys = tables n m w ++ (ys ++ drop (length w - (n + 8 * m)) (written n m w))
 
-zeroed-is : (c : After) → zeroed c ≡ replicate (4 * c .before .before .before .args .m) 0
-zeroed-is c =
-    let pre = c .before .before .before .pre in
-    let args = c .before .before .before .args in
-    let e : length (take (length (the-work c) - from c) (drop (from c) (the-work c))) ≡ 4 * args .m =
-    simp (length-take, length-drop) (omega (arith, pre .0 .long)) in
-    c .clear .ensures ∙ ap (λ (k : ℕ). replicate k 0) e
+emptied : (c : tie.After-clear) → Cleared (begun c .args .n) (begun c .args .m) (begun c .args .work .now)
+    (buffer (begun c .args .n) (begun c .args .m) (begun c .args .work .now) (c .clear .last .0))
+emptied c = cleared (begun c .pre .0) (begun c .pre .1) (c .clear .ensures)
 
-kept : (c : After) → take (from c) (now-work c) ≡ take (from c) (the-work c)
-kept c = put-take (from c) (the-work c) (zeroed c) (inside c) (length (the-work c) - from c)
-
-clear : (c : After) → drop (from c) (now-work c) ≡ replicate (4 * c .before .before .before .args .m) 0
-clear c = put-drop (from c) (the-work c) (zeroed c) (inside c) ∙ zeroed-is c
-
-long : (c : After) → length (now-work c) ≡ length (the-work c)
-long c =
-    let pre = c .before .before .before .pre in
-    let args = c .before .before .before .args in
-    put-length (from c) (the-work c) (zeroed c) (inside c)
-    (ap length (zeroed-is c) ∙ length-replicate (4 * args .m) 0 ∙ omega (arith, pre .0 .long))
+abbrev lent : tie.After-walk-empty-arg → tie.After-clear
+lent c = c .before .before .before
 
 mul-a : tie.Need-mul-a
 mul-a c = search needs
@@ -80,19 +45,15 @@ clear-requires : tie.Need-clear-requires
 clear-requires c κs = search needs
 
 walk-empty-requires : tie.Need-walk-empty-requires
-walk-empty-requires c κs =
-    let pre = c .before .before .before .before .before .before .pre in
-    let args = c .before .before .before .before .before .before .args in
-    cleared (args .n) (args .m) (the-work (c .before .before .before)) (now-work (c .before .before .before)) (pre .0) (kept (c .before .before .before)) (long (c .before .before .before)) (clear (c .before .before .before)) (pre .1)
+walk-empty-requires c κs = walks-start (emptied (lent c))
 
 same-length : tie.Need-same-length
 same-length c = search needs
 
 returns : tie.Need-returns
 returns c =
-    let pre = c .before .before .before .before .before .before .before .before .before .pre in
-    let args = c .before .before .before .before .before .before .before .before .before .args in
-    walked-from (args .n) (args .m) (the-work (c .before .before .before .before .before .before)) (now-work (c .before .before .before .before .before .before)) (pre .0) (kept (c .before .before .before .before .before .before)) (long (c .before .before .before .before .before .before)) (clear (c .before .before .before .before .before .before)) _ (c .before .before .walk-empty .ensures)
+    let walked = c .before .before in
+    walked-from (emptied (lent (walked .before))) (walked .walk-empty .ensures)
 
 pub walk-spec : {M : Type 1} → statement M
 walk-spec =
