@@ -1,20 +1,22 @@
 // The part of the work buffer that the walk's start reads: for each border number the least side with that border, by an E2e of any content.
 ghost use Prim.Native.Nat.{_+_, _*_, _<_};
-ghost use mathlib.Core.Path.{_≡_};
-ghost use Rattle.walk.specs.Layout.{Sizes, e2eIn};
-ghost use Rattle.links.specs.Links.{LinksFrom, Linking, LinkedBy};
+ghost use Rattle.walk.specs.Layout.{Sizes};
+ghost use Rattle.links.specs.Links.{Linkable, Linking, LinkedBy};
+use halfedge::code_at;
+use halfedge::element_of;
+use halfedge::is_border;
 use halfedge::wide;
 
 // Where entry p of E2e is the code of a border, the side at p is the least so far of that border.
 fn link_place(n: usize, m: usize, work: &mut [u32], p: usize)
-    requires { ⌜ Sizes n m (now work) × (p < 4 * m) × LinksFrom n m (e2eIn n m (now work)) (p + 1) (now work) ⌝ }
+    requires { ⌜ Linkable n m (p + 1) (now work) × (p < 4 * m) ⌝ }
     ensures { λ r. ⌜ Linking n m p (now (work .entry)) (now (work .exit)) ⌝ }
 {
     let c = work[n + p];
-    if c % 8 != 0 {
+    if !is_border(c) {
         return;
     }
-    let b = wide(c / 8);
+    let b = wide(element_of(c));
     if b == 0 {
         return;
     }
@@ -22,12 +24,12 @@ fn link_place(n: usize, m: usize, work: &mut [u32], p: usize)
         return;
     }
     let i = n + 4 * m + b - 1;
-    work[i] = halfedge::code_at(p);
+    work[i] = code_at(p);
 }
 
 // The places from the last to the first, over border numbers with no side yet.
 fn link_places(n: usize, m: usize, work: &mut [u32])
-    requires { ⌜ Sizes n m (now work) × LinksFrom n m (e2eIn n m (now work)) (4 * m) (now work) ⌝ }
+    requires { ⌜ Linkable n m (4 * m) (now work) ⌝ }
     ensures { λ r. ⌜ Linking n m 0 (now (work .entry)) (now (work .exit)) ⌝ }
 {
     let mut p = 4 * m;
