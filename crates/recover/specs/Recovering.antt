@@ -1,22 +1,23 @@
 -- What recovery leaves on its way.
 -- Assumes nothing.
 use mathlib.Core.Path.{_≡_, refl, ap, sym, subst, _∙_}
-use mathlib.Core.Bool.{Bool, true, false, not}
+use mathlib.Core.Bool.{Bool, true, false}
 use mathlib.Core.Logic.{_⊎_, inl, inr}
-use mathlib.Core.List.{List, _++_, append-nil}
-use Prim.Native.Nat.{ℕ, _+_, _*_, _-_, _/_, _≤_, _<_}
+use mathlib.Core.List.{List, _++_}
+use Prim.Native.Nat.{ℕ, _+_, _*_, _-_, _/_, _≤_}
 use native.Mathlib.Omega.{arith}
-use lib.Dec.{T, leb, eqb, T-not, not-T}
+use lib.Dec.{T, leb, eqb, not-T}
 use lib.ListN.{length, take, drop, replicate, length-take, length-drop, length-append}
 use Rattle.lists.specs.Tests.{both, same}
-use Rattle.lists.specs.TestLaws.{Test, pass, fail, test, true-of, false-of, passes, both-pass, means-eq, means-le, zero-or}
+use Rattle.lists.specs.TestLaws.{true-of, false-of, both-pass, means-eq, zero-or}
 use lib.Seq.{take-at, drop-at, take-append-seam, take-all}
 use Rattle.lists.specs.Parts.{part, part-take, put-take, put-drop, put-length}
 use Rattle.rules.specs.Elements.{elements, maxVertex, maxElement}
 use Rattle.rules.specs.Pairing.{sizesFit, unfitCorner, repeatedCorner, rowsFit}
-use Rattle.rules.specs.Tables.{borders, edges, e2e, v2e}
+use Rattle.rules.specs.Tables.{borders, e2e, v2e}
 use Rattle.rules.specs.Recovery.{walkTo, walk}
-use Rattle.rules.specs.Refusals.{Answer, gives, refused, sideCheck, vertexCheck, unusedVertex, crowdedSide, alikeSide, unorderedVertex, listAnswer, accepts, recovers, callSizes, callLengths, lengthChecks, workAfter, after, onto, recoverAnswer, recoverList, recoverWork}
+use Rattle.rules.specs.Refusals.{Answer, gives, refused, sideCheck, vertexCheck, unusedVertex, crowdedSide, alikeSide, unorderedVertex, listAnswer, accepts}
+use Rattle.rules.specs.Refusals.{recovers, callSizes, callLengths, lengthChecks, workAfter, after, onto, recoverAnswer, recoverList, recoverWork}
 use Rattle.theory.specs.Answers.{side-clear, side-refuses, vertex-clear, vertex-refuses, ordered-answer}
 use Rattle.theory.specs.FitRows.{means-sizes}
 use Rattle.theory.specs.Deciding.{means-accepted}
@@ -79,7 +80,9 @@ module _ (n : ℕ) (L : List ℕ) where
       let z : _≡_ {A = ℕ} 0 1 = cc in omega arith))
 
   -- so the comparison decides recovery
-  pub agreement : (V2e E2e V2e′ E2e′ : List ℕ) → T (sizesFit n L) → walk V2e E2e ≡ L → ((k e : ℕ) → listAnswer n L ≡ gives k e → (V2e′ ≡ v2e n L) × (E2e′ ≡ e2e L)) → agrees (listAnswer n L) V2e′ E2e′ V2e E2e ≡ recovers n V2e E2e
+  pub agreement : (V2e E2e V2e′ E2e′ : List ℕ) → T (sizesFit n L) → walk V2e E2e ≡ L
+      → ((k e : ℕ) → listAnswer n L ≡ gives k e → (V2e′ ≡ v2e n L) × (E2e′ ≡ e2e L))
+      → agrees (listAnswer n L) V2e′ E2e′ V2e E2e ≡ recovers n V2e E2e
   unfolding recovers
   agreement V2e E2e V2e′ E2e′ t w h = go (listAnswer n L) refl
     where
@@ -95,9 +98,10 @@ module _ (n : ℕ) (L : List ℕ) where
       go (refused r a b) g = sym (whole ∙ ap (λ (c : Bool). both c (both (same (v2e n L) V2e) (same (e2e L) E2e))) (refusal-unaccepted r a b g))
 
 -- the two tables copied in, one after the other
-pub filled : (n : ℕ) (V2e E2e w w₁ ys : List ℕ) → length V2e ≡ n → n + length E2e ≤ length w → w₁ ≡ onto V2e w → ys ≡ onto E2e (take (length w₁ - n) (drop n w₁)) → Filled n V2e E2e w (take n w₁ ++ (ys ++ drop (length w₁ - n) (drop n w₁)))
+pub filled : {n : ℕ} {V2e E2e w w₁ ys : List ℕ} → length V2e ≡ n → n + length E2e ≤ length w → w₁ ≡ onto V2e w
+    → ys ≡ onto E2e (part n (length w₁ - n) w₁) → Filled n V2e E2e w (take n w₁ ++ (ys ++ drop (length w₁ - n) (drop n w₁)))
 unfolding onto
-filled n V2e E2e w w₁ ys l h e f =
+filled {n} {V2e} {E2e} {w} {w₁} {ys} l h e f =
     let long : length w₁ ≡ length w = ap length e ∙ simp (length-append, length-drop) (omega arith) in
     let room : n ≤ length w₁ = omega arith in
     let many : length ys ≡ length w₁ - n = ap length f ∙ simp (length-append, length-drop, length-take, length-drop) (omega arith) in
@@ -108,12 +112,12 @@ filled n V2e E2e w w₁ ys l h e f =
     }
 
 -- the comparison after counts
-module _ (a : Answer) (k e : ℕ) (is : a ≡ gives k e) (V2e′ E2e′ V2e E2e : List ℕ) where
-  pub differs-v : same V2e′ V2e ≡ false → false ≡ agrees a V2e′ E2e′ V2e E2e
-  differs-v f = sym (ap (λ (x : Answer). agrees x V2e′ E2e′ V2e E2e) is ∙ ap (λ (b : Bool). both b (same E2e′ E2e)) f)
+module _ {a : Answer} {k e : ℕ} (is : a ≡ gives k e) (V2e′ E2e′ V2e E2e : List ℕ) where
+  pub differs-v : {r : Bool} → r ≡ same V2e′ V2e → r ≡ false → false ≡ agrees a V2e′ E2e′ V2e E2e
+  differs-v d f = sym (ap (λ (x : Answer). agrees x V2e′ E2e′ V2e E2e) is ∙ ap (λ (b : Bool). both b (same E2e′ E2e)) (sym d ∙ f))
 
-  pub compares : (r : Bool) → same V2e′ V2e ≡ true → r ≡ same E2e′ E2e → r ≡ agrees a V2e′ E2e′ V2e E2e
-  compares r f g = g ∙ sym (ap (λ (x : Answer). agrees x V2e′ E2e′ V2e E2e) is ∙ ap (λ (b : Bool). both b (same E2e′ E2e)) f)
+  pub compares : {r : Bool} → r ≡ same V2e′ V2e → r ≡ true → {q : Bool} → q ≡ same E2e′ E2e → q ≡ agrees a V2e′ E2e′ V2e E2e
+  compares d f g = g ∙ sym (ap (λ (x : Answer). agrees x V2e′ E2e′ V2e E2e) is ∙ ap (λ (b : Bool). both b (same E2e′ E2e)) (sym d ∙ f))
 
 -- the list that was proposed was tried; what is kept behind the scratch buffer is still there
 pub record Tried (n : ℕ) (V2e E2e : List ℕ) (r : Bool) (w w′ : List ℕ) : Type 0 where
@@ -121,49 +125,78 @@ pub record Tried (n : ℕ) (V2e E2e : List ℕ) (r : Bool) (w w′ : List ℕ) :
   pub rest : drop (n + 12 * elements E2e) w′ ≡ drop (n + 12 * elements E2e) w
   pub long : length w′ ≡ length w
 
-module _ (n : ℕ) (V2e E2e L w s : List ℕ) (sized : Sized n L (take (n + 12 * elements L) w)) (inside : n + 12 * elements L ≤ length w) (as-long : length E2e ≡ length L) (given : walk V2e E2e ≡ L) where
+pub record ToTry (n : ℕ) (V2e E2e L w : List ℕ) : Type 0 where
+  pub sized : Sized n L (take (n + 12 * elements L) w)
+  pub inside : n + 12 * elements L ≤ length w
+  pub as-long : length E2e ≡ length L
+  pub given : walk V2e E2e ≡ L
+
+-- the scratch buffer s that the list's tables are tried in, and what is kept behind it; k is n as an index
+module _ {n k : ℕ} {V2e E2e L w : List ℕ} (p : ToTry n V2e E2e L w) (wide : k ≡ n) {a : Answer} {s : List ℕ}
+    (x : Tabulated n L (listAnswer n L) a (take (k + 12 * elements L - 0) w) s) where
+  abbrev kept : List ℕ
+  kept = drop (k + 12 * elements L - 0) w
+
   abbrev w′ : List ℕ
-  w′ = s ++ drop (n + 12 * elements L - 0) w
+  w′ = s ++ kept
 
-  module _ (a : Answer) (x : Tabulated n L (listAnswer n L) a (take (n + 12 * elements L - 0) w) s) where
-    scratch-long : length s ≡ n + 12 * elements L
-    scratch-long = x .long ∙ simp length-take (omega arith)
+  scratch-long : length s ≡ n + 12 * elements L
+  scratch-long = x .long ∙ simp length-take (omega (arith, p .inside))
 
-    sizes : (n ≤ maxVertex) × ((elements L ≤ maxElement) × (length L ≡ 4 * elements L))
-    sizes = means-sizes n L .says (sized .sizes)
+  sizes : (n ≤ maxVertex) × ((elements L ≤ maxElement) × (length L ≡ 4 * elements L))
+  sizes = means-sizes n L .says (p .sized .sizes)
 
-    pub tried : (r : Bool) → r ≡ agrees a (take n w′) (part n (length E2e) w′) V2e E2e → Tried n V2e E2e r w w′
-    tried r e =
-        let z : n + 12 * elements L - 0 ≡ n + 12 * elements L = omega arith in
-        let same : elements E2e ≡ elements L = omega arith in
+  as-many : elements E2e ≡ elements L
+  as-many = omega (arith, p .as-long)
+
+  tried-long : length w′ ≡ length w
+  tried-long = simp (length-append, length-drop) (omega (arith, scratch-long, p .inside))
+
+  module _ {j : ℕ} (again : j ≡ n) where
+    pub to-compare : j + length E2e ≤ length w′
+    to-compare = omega (arith, tried-long, p .inside, p .as-long, sizes .1 .1)
+
+    pub tried : {r : Bool} → r ≡ agrees a (take j w′) (part j (length E2e) w′) V2e E2e → Tried n V2e E2e r w w′
+    tried e =
+        let z : k + 12 * elements L - 0 ≡ n + 12 * elements L = omega arith in
+        let bound : borders L ≤ 4 * elements L = omega (arith, borders-bound L, sizes) in
         record {
           answer =
-              e
+              rw again at e
               ∙ ap (λ (y : Answer). agrees y (take n w′) (part n (length E2e) w′) V2e E2e) (x .answer)
-              ∙ agreement n L V2e E2e (take n w′) (part n (length E2e) w′) (sized .sizes) given
+              ∙ agreement n L V2e E2e (take n w′) (part n (length E2e) w′) (p .sized .sizes) (p .given)
               (λ k c g.
-              let h = holds-front n L s (drop (n + 12 * elements L - 0) w) scratch-long (omega (arith, borders-bound L, sizes)) (x .holds k c (x .answer ∙ g)) in
-              (h .vertices, ap (λ (i : ℕ). part n i w′) (as-long ∙ sizes .1 .1) ∙ h .opposites));
+              let h = holds-front n L s kept scratch-long bound (x .holds k c (x .answer ∙ g)) in
+              (h .vertices, ap (λ (i : ℕ). part n i w′) (p .as-long ∙ sizes .1 .1) ∙ h .opposites));
           rest =
-              ap (λ (i : ℕ). drop (n + 12 * i) w′) same
-              ∙ drop-at s (drop (n + 12 * elements L - 0) w) (n + 12 * elements L) scratch-long
-              ∙ ap (λ (i : ℕ). drop i w) (z ∙ ap (λ (i : ℕ). n + 12 * i) (sym same));
-          long = simp (length-append, length-drop) (omega (arith, scratch-long));
+              ap (λ (i : ℕ). drop (n + 12 * i) w′) as-many
+              ∙ drop-at s kept (n + 12 * elements L) scratch-long
+              ∙ ap (λ (i : ℕ). drop i w) (z ∙ ap (λ (i : ℕ). n + 12 * i) (sym as-many));
+          long = tried-long;
         }
 
--- the walk over the tables that were filled in
-pub walk-filled : (n m : ℕ) (V2e E2e w w₁ w₂ w₃ : List ℕ) → Sizes n m w → length V2e ≡ n → length E2e ≡ 4 * m → Filled n V2e E2e w w₁ → LinkedBy n m w₁ w₂ → Walking n m n w₂ w₃ → drop (n + 8 * m) w₃ ≡ walk V2e E2e
+-- the list that the walk over the tables gives stands at the end
+pub record Walked (n m : ℕ) (V2e E2e w w′ : List ℕ) : Type 0 where
+  pub given : drop (n + 8 * m) w′ ≡ walk V2e E2e
+  pub long : length w′ ≡ length w
+
+pub walk-filled : {n m : ℕ} {V2e E2e w w₁ w₂ w₃ : List ℕ} → Sizes n m w → length V2e ≡ n → length E2e ≡ 4 * m
+    → Filled n V2e E2e w w₁ → LinkedBy n m w₁ w₂ → Walking n m n w₂ w₃ → Walked n m V2e E2e w w₃
 unfolding walk
-walk-filled n m V2e E2e w w₁ w₂ w₃ z l k x y q =
+walk-filled {n} {m} {V2e} {E2e} {w} {w₁} {w₂} {w₃} z l k x y q =
     let o = n + 4 * m in
     let a : o ≤ length w₁ = omega (arith, x .long, z .long) in
     let b : o ≤ length w₂ = omega (arith, y .long, x .long, z .long) in
     let kept : (i j : ℕ) → i + j ≤ o → part i j w₂ ≡ part i j w₁ =
     λ i j h. sym (part-take i j o w₂ h b) ∙ ap (part i j) (y .front) ∙ part-take i j o w₁ h a in
-    q .new
-    ∙ ap (λ (X : List ℕ). walkTo X (part n (4 * m) w₂) n) (kept 0 n (omega arith) ∙ x .vertices)
-    ∙ ap (λ (X : List ℕ). walkTo V2e X n) (kept n (4 * m) (omega arith) ∙ ap (λ (i : ℕ). part n i w₁) (sym k) ∙ x .opposites)
-    ∙ ap (walkTo V2e E2e) (sym l)
+    record {
+      given =
+          q .new
+          ∙ ap (λ (X : List ℕ). walkTo X (part n (4 * m) w₂) n) (kept 0 n (omega arith) ∙ x .vertices)
+          ∙ ap (λ (X : List ℕ). walkTo V2e X n) (kept n (4 * m) (omega arith) ∙ ap (λ (i : ℕ). part n i w₁) (sym k) ∙ x .opposites)
+          ∙ ap (walkTo V2e E2e) (sym l);
+      long = q .long ∙ y .long ∙ x .long;
+    }
 
 pub record Roomy (n m : ℕ) (V2e E2e list w : List ℕ) : Type 0 where
   pub vertices : n ≤ 1_000_000
@@ -180,44 +213,48 @@ pub record Proposed (n m : ℕ) (V2e E2e list w list′ w′ : List ℕ) : Type 
   pub long : length w′ ≡ length w
   pub list-long : length list′ ≡ 4 * m
 
-module _ (n m : ℕ) (V2e E2e list w : List ℕ) (r : Roomy n m V2e E2e list w) (s : List ℕ) (walked : drop (n + 8 * m) s ≡ walk V2e E2e) (as-long : length s ≡ length (take (n + 12 * m - 0) w)) where
-  scratch : length s ≡ n + 12 * m
-  scratch = as-long ∙ simp length-take (omega (arith, r .room))
+-- the scratch buffer s that the walk was made in
+module _ {n m : ℕ} {V2e E2e list w s : List ℕ} (r : Roomy n m V2e E2e list w) (walked : Walked n m V2e E2e (take (n + 12 * m - 0) w) s) where
+  abbrev end : ℕ
+  end = n + 12 * m
 
-  -- the work buffer after the walk, and after the list is kept
+  scratch : length s ≡ end
+  scratch = walked .long ∙ simp length-take (omega (arith, r .room))
+
+  -- the work buffer after the walk
   abbrev w₁ : List ℕ
-  w₁ = s ++ drop (n + 12 * m - 0) w
+  w₁ = s ++ drop (end - 0) w
 
-  long₁ : length (s ++ drop (n + 12 * m - 0) w) ≡ length w
+  long₁ : length w₁ ≡ length w
   long₁ = simp (length-append, length-drop) (omega (arith, scratch, r .room))
 
-  module _ (ys : List ℕ) (saved : ys ≡ onto list (take (length (s ++ drop (n + 12 * m - 0) w) - (n + 12 * m)) (drop (n + 12 * m) (s ++ drop (n + 12 * m - 0) w)))) where
+  inside : end ≤ length w₁
+  inside = omega (arith, long₁, r .room)
+
+  walk-long : length (walk V2e E2e) ≡ 4 * m
+  walk-long = sym (ap length (walked .given)) ∙ simp length-drop (omega (arith, scratch))
+
+  module _ {ys : List ℕ} (saved : ys ≡ onto list (part end (length w₁ - end) w₁)) where
+    -- and after the list is kept
     abbrev w₂ : List ℕ
-    w₂ = take (n + 12 * m) w₁ ++ (ys ++ drop (length w₁ - (n + 12 * m)) (drop (n + 12 * m) w₁))
+    w₂ = take end w₁ ++ (ys ++ drop (length w₁ - end) (drop end w₁))
 
-    inside : n + 12 * m ≤ length (s ++ drop (n + 12 * m - 0) w)
-    inside = omega (arith, long₁, r .room)
-
-    many : length ys ≡ length (s ++ drop (n + 12 * m - 0) w) - (n + 12 * m)
+    many : length ys ≡ length w₁ - end
     unfolding onto
     many = ap length saved ∙ simp (length-append, length-drop, length-take, length-drop) (omega (arith, scratch, r .list-long, r .room))
 
-    walk-long : length (walk V2e E2e) ≡ 4 * m
-    walk-long = sym (ap length walked) ∙ simp length-drop (omega (arith, scratch))
-
-    pub proposed : (list′ : List ℕ) → list′ ≡ onto (take (n + 12 * m - (n + 8 * m)) (drop (n + 8 * m) w₂)) list → Proposed n m V2e E2e list w list′ w₂
+    pub proposed : {list′ : List ℕ} → list′ ≡ onto (part (n + 8 * m) (end - (n + 8 * m)) w₂) list → Proposed n m V2e E2e list w list′ w₂
     unfolding onto
-    proposed list′ e =
+    proposed {list′} e =
         let o = n + 8 * m in
-        let end = n + 12 * m in
         let k : end - o ≡ 4 * m = omega arith in
         let long₂ : length w₂ ≡ length w = put-length end w₁ ys inside many ∙ long₁ in
         let front : take end w₂ ≡ s = put-take end w₁ ys inside (length w₁ - end) ∙ take-at s (drop (end - 0) w) end scratch in
-        let read : take (end - o) (drop o w₂) ≡ walk V2e E2e =
+        let read : part o (end - o) w₂ ≡ walk V2e E2e =
         ap (λ (i : ℕ). part o i w₂) k
         ∙ sym (part-take o (4 * m) end w₂ (omega arith) (omega (arith, long₂, r .room)))
         ∙ ap (part o (4 * m)) front
-        ∙ ap (take (4 * m)) walked
+        ∙ ap (take (4 * m)) (walked .given)
         ∙ take-all (4 * m) (walk V2e E2e) (omega (arith, walk-long)) in
         let got : list′ ≡ walk V2e E2e = e ∙ ap (λ (X : List ℕ). onto X list) read ∙ onto-full (walk V2e E2e) list (walk-long ∙ sym (r .list-long)) in
         record {
@@ -232,71 +269,90 @@ pub record Recovered (n : ℕ) (V2e E2e : List ℕ) (a : Answer) (list list′ :
   pub answer : a ≡ elim (recovers n V2e E2e) [ true ↦ gives 0 0 | false ↦ refused 10 0 0 ]
   pub left : list′ ≡ after a (walk V2e E2e) list
 
-pub recovered-list : (n : ℕ) (V2e E2e list list′ : List ℕ) → true ≡ recovers n V2e E2e → walk V2e E2e ≡ list′ → Recovered n V2e E2e (gives 0 0) list list′
-unfolding after
-recovered-list n V2e E2e list list′ e w =
-    record { answer = ap (λ (b : Bool). elim b [ true ↦ gives 0 0 | false ↦ refused 10 0 0 ]) e; left = sym w }
-
-pub recovered-none : (n : ℕ) (V2e E2e list list′ : List ℕ) → false ≡ recovers n V2e E2e → list′ ≡ list → Recovered n V2e E2e (refused 10 0 0) list list′
-unfolding after
-recovered-none n V2e E2e list list′ e w =
-    record { answer = ap (λ (b : Bool). elim b [ true ↦ gives 0 0 | false ↦ refused 10 0 0 ]) e; left = w }
-
 -- sizes go by the length alone
 pub sizes-same : (n : ℕ) (X Y : List ℕ) → length X ≡ length Y → T (sizesFit n X) → T (sizesFit n Y)
 unfolding sizesFit
 sizes-same n X Y e t =
     subst (λ (k : ℕ). T (both (leb n maxVertex) (both (leb (k / 4) maxElement) (eqb k (4 * (k / 4)))))) e t
 
--- what checks 1 and 2 give for the way
-module _ (n : ℕ) (V2e E2e list work : List ℕ) (sizes : callSizes n E2e list ≡ true) (lengths : callLengths n E2e list V2e work ≡ true) where
+-- checks 1 and 2 found nothing
+pub record Passed (n : ℕ) (V2e E2e list work : List ℕ) : Type 0 where
+  pub sizes : callSizes n E2e list ≡ true
+  pub lengths : callLengths n E2e list V2e work ≡ true
+
+module _ {n : ℕ} {V2e E2e list work : List ℕ} (q : Passed n V2e E2e list work) where
+  pub sized : T (sizesFit n E2e)
+  sized = sizes-known n E2e list (q .sizes) .0
+
   pub roomy : Roomy n (elements E2e) V2e E2e list work
   roomy =
-      let z = means-sizes n E2e .says (sizes-known n E2e list sizes .0) in
-      let l = lengths-known n E2e list V2e work lengths in
+      let z = means-sizes n E2e .says sized in
+      let l = lengths-known n E2e list V2e work (q .lengths) in
       record { vertices = z .0; elements = z .1 .0; v2e-long = l .0; e2e-long = z .1 .1; list-long = l .1; room = l .2 }
 
-  module _ (list₁ work₁ : List ℕ) (p : Proposed n (elements E2e) V2e E2e list work list₁ work₁) where
-    pub as-many : elements list₁ ≡ elements E2e
-    as-many = omega (arith, p .list-long)
-
-    pub to-try : Sized n list₁ (take (n + 12 * elements list₁) work₁) × (n + 12 * elements list₁ ≤ length work₁) × (length E2e ≡ length list₁) × (walk V2e E2e ≡ list₁)
+  module _ {list₁ work₁ : List ℕ} (p : Proposed n (elements E2e) V2e E2e list work list₁ work₁) where
+    pub to-try : ToTry n V2e E2e list₁ work₁
     to-try =
-        let z = means-sizes n E2e .says (sizes-known n E2e list sizes .0) in
-        let inside : n + 12 * elements list₁ ≤ length work₁ = omega (arith, as-many, p .long, roomy .room) in
-        let e : length E2e ≡ length list₁ = z .1 .1 ∙ sym (p .list-long) in (
-          record { sizes = sizes-same n E2e list₁ e (sizes-known n E2e list sizes .0); long = (simp length-take (omega arith)) },
-          inside,
-          e,
-          p .given,
-        )
+        let as-many : elements list₁ ≡ elements E2e = omega (arith, p .list-long) in
+        let inside : n + 12 * elements list₁ ≤ length work₁ = omega (arith, p .long, roomy .room) in
+        let e : length E2e ≡ length list₁ = roomy .e2e-long ∙ sym (p .list-long) in
+        record {
+          sized = record { sizes = sizes-same n E2e list₁ e sized; long = (simp length-take (omega arith)) };
+          inside = inside;
+          as-long = e;
+          given = p .given;
+        }
 
-    -- the list that was there is put back
-    pub put-back : (work₂ list₂ : List ℕ) (b : Bool) → Tried n V2e E2e b work₁ work₂ → list₂ ≡ onto (take (n + 12 * elements E2e + 4 * elements E2e - (n + 12 * elements E2e)) (drop (n + 12 * elements E2e) work₂)) list₁ → list₂ ≡ list
-    put-back work₂ list₂ b t e =
-        let k : n + 12 * elements E2e + 4 * elements E2e - (n + 12 * elements E2e) ≡ 4 * elements E2e = omega arith in
-        let read : take (n + 12 * elements E2e + 4 * elements E2e - (n + 12 * elements E2e)) (drop (n + 12 * elements E2e) work₂) ≡ list =
-        ap (λ (X : List ℕ). take (n + 12 * elements E2e + 4 * elements E2e - (n + 12 * elements E2e)) X) (t .rest)
-        ∙ ap (λ (i : ℕ). take i (drop (n + 12 * elements E2e) work₁)) k
-        ∙ p .kept in
-        e ∙ ap (λ (X : List ℕ). onto X list₁) read ∙ onto-full list list₁ (roomy .list-long ∙ sym (p .list-long))
+    module _ {b : Bool} {work₂ : List ℕ} (t : Tried n V2e E2e b work₁ work₂) where
+      abbrev kept-at : ℕ
+      kept-at = n + 12 * elements E2e
 
--- the whole call: refused by checks 1 or 2, or as check 10 says
-module _ (n : ℕ) (V2e E2e list work : List ℕ) where
-  pub unsized : callSizes n E2e list ≡ false → (refused 1 0 0 ≡ recoverAnswer n V2e E2e list work) × ((list ≡ recoverList n V2e E2e list work) × (work ≡ recoverWork n V2e E2e list work))
+      still-long : length work₂ ≡ length work
+      still-long = t .long ∙ p .long
+
+      pub kept-inside : kept-at + 4 * elements E2e ≤ length work₂
+      kept-inside = omega (arith, still-long, roomy .room)
+
+      pub recovered-list : b ≡ true → {a : Answer} → a ≡ gives 0 0 → Recovered n V2e E2e a list list₁ × (length work₂ ≡ length work)
+      unfolding after
+      recovered-list e g = (rw g (record { answer = rw (← t .answer, e); left = sym (p .given) }), still-long)
+
+      -- the list that was there is put back
+      pub recovered-none : b ≡ false → {a : Answer} → a ≡ refused 10 0 0
+          → {list₂ : List ℕ} → list₂ ≡ onto (part kept-at (kept-at + 4 * elements E2e - kept-at) work₂) list₁
+          → Recovered n V2e E2e a list list₂ × (length work₂ ≡ length work)
+      unfolding after
+      recovered-none e g f =
+          let k : kept-at + 4 * elements E2e - kept-at ≡ 4 * elements E2e = omega arith in
+          let read : part kept-at (kept-at + 4 * elements E2e - kept-at) work₂ ≡ list =
+          ap (take (kept-at + 4 * elements E2e - kept-at)) (t .rest) ∙ ap (λ (i : ℕ). part kept-at i work₁) k ∙ p .kept in
+          let back = f ∙ ap (λ (X : List ℕ). onto X list₁) read ∙ onto-full list list₁ (roomy .list-long ∙ sym (p .list-long)) in
+          (rw g (record { answer = rw (← t .answer, e); left = back }), still-long)
+
+-- what the whole call answers and leaves
+abbrev pub Whole : ℕ → List ℕ → List ℕ → List ℕ → List ℕ → Answer → List ℕ → List ℕ → Type 0
+Whole n V2e E2e list work a list′ work′ =
+    (a ≡ recoverAnswer n V2e E2e list work) × ((list′ ≡ recoverList n V2e E2e list work) × (work′ ≡ recoverWork n V2e E2e list work))
+
+-- refused by checks 1 or 2, or as check 10 says
+module _ (n : ℕ) (V2e E2e list work : List ℕ) {a : Answer} where
+  pub unsized : callSizes n E2e list ≡ false → a ≡ refused 1 0 0 → Whole n V2e E2e list work a list work
   unfolding recoverAnswer recoverList recoverWork lengthChecks workAfter after
-  unsized e =
-      let a : recoverAnswer n V2e E2e list work ≡ refused 1 0 0 = rw (e, lengthChecks) in
-      (sym a, (sym (ap (λ (x : Answer). after x (walk V2e E2e) list) a), sym (rw (e, workAfter))))
+  unsized e g =
+      let x : recoverAnswer n V2e E2e list work ≡ refused 1 0 0 = rw (e, lengthChecks) in
+      (g ∙ sym x, (sym (ap (λ (y : Answer). after y (walk V2e E2e) list) x), sym (rw (e, workAfter))))
 
-  pub unlengthened : callSizes n E2e list ≡ true → callLengths n E2e list V2e work ≡ false → (refused 2 0 0 ≡ recoverAnswer n V2e E2e list work) × ((list ≡ recoverList n V2e E2e list work) × (work ≡ recoverWork n V2e E2e list work))
+  pub unlengthened : callSizes n E2e list ≡ true → callLengths n E2e list V2e work ≡ false → a ≡ refused 2 0 0 → Whole n V2e E2e list work a list work
   unfolding recoverAnswer recoverList recoverWork lengthChecks workAfter after
-  unlengthened e f =
-      let a : recoverAnswer n V2e E2e list work ≡ refused 2 0 0 = rw (e, f, lengthChecks) in
-      (sym a, (sym (ap (λ (x : Answer). after x (walk V2e E2e) list) a), sym (rw (e, f, workAfter))))
+  unlengthened e f g =
+      let x : recoverAnswer n V2e E2e list work ≡ refused 2 0 0 = rw (e, f, lengthChecks) in
+      (g ∙ sym x, (sym (ap (λ (y : Answer). after y (walk V2e E2e) list) x), sym (rw (e, f, workAfter))))
 
-  pub whole : (a : Answer) (list′ work′ : List ℕ) → callSizes n E2e list ≡ true → callLengths n E2e list V2e work ≡ true → Recovered n V2e E2e a list list′ → work′ ≡ replicate (length work) 0 → (a ≡ recoverAnswer n V2e E2e list work) × ((list′ ≡ recoverList n V2e E2e list work) × (work′ ≡ recoverWork n V2e E2e list work))
+  pub whole : {list′ work′ : List ℕ} → Passed n V2e E2e list work → Recovered n V2e E2e a list list′ → work′ ≡ replicate (length work) 0
+      → Whole n V2e E2e list work a list′ work′
   unfolding recoverAnswer recoverList recoverWork lengthChecks workAfter
-  whole a list′ work′ e f x z =
+  whole q x z =
+      let e = q .sizes in
+      let f = q .lengths in
       let g : a ≡ recoverAnswer n V2e E2e list work = x .answer ∙ sym (rw (e, f, lengthChecks)) in
       (g, (x .left ∙ ap (λ (y : Answer). after y (walk V2e E2e) list) g, z ∙ sym (rw (e, f, workAfter))))

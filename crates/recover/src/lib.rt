@@ -1,16 +1,13 @@
 // Recovery: V2e and E2e back to the element list.
 ghost use mathlib.Core.Path.{_≡_};
-ghost use mathlib.Core.Bool.{true};
 ghost use Prim.Native.Nat.{_+_, _*_, _≤_};
-ghost use lib.ListN.{length, take, drop};
+ghost use lib.ListN.{length, take};
 ghost use Rattle.lists.specs.Parts.{part};
-ghost use Rattle.rules.specs.Elements.{elements};
 ghost use Rattle.rules.specs.Recovery.{walk};
 ghost use Rattle.answer.specs.Numbers.{numbers};
-ghost use Rattle.rules.specs.Refusals.{callSizes, callLengths, recoverAnswer, recoverList, recoverWork};
+ghost use Rattle.rules.specs.Refusals.{recoverAnswer, recoverList, recoverWork};
 ghost use Rattle.walk.specs.Layout.{Sizes};
-ghost use Rattle.tabulate.specs.Results.{Sized};
-ghost use Rattle.recover.specs.Recovering.{Filled, agrees, Roomy, Proposed, Tried, Recovered};
+ghost use Rattle.recover.specs.Recovering.{Filled, Walked, agrees, Roomy, Proposed, ToTry, Tried, Passed, Recovered};
 use answer::Answer;
 use halfedge::wide;
 
@@ -26,7 +23,7 @@ fn fill(n: usize, v2e: &[u32], e2e: &[u32], work: &mut [u32])
 // The list that the walk over the tables gives, at the end of the scratch buffer.
 fn walk_tables(n: usize, m: usize, v2e: &[u32], e2e: &[u32], work: &mut [u32])
     requires { ⌜ Sizes n m (now work) × (length (now v2e) ≡ n) × (length (now e2e) ≡ 4 * m) ⌝ }
-    ensures { λ r. ⌜ (drop (n + 8 * m) (now (work .exit)) ≡ walk (now (v2e .entry)) (now (e2e .entry))) × (length (now (work .exit)) ≡ length (now (work .entry))) ⌝ }
+    ensures { λ r. ⌜ Walked n m (now (v2e .entry)) (now (e2e .entry)) (now (work .entry)) (now (work .exit)) ⌝ }
 {
     fill(n, v2e, e2e, work);
     links::link(n, m, work);
@@ -66,7 +63,7 @@ fn propose(n: usize, m: usize, v2e: &[u32], e2e: &[u32], list: &mut [u32], work:
 
 // The list that was proposed is accepted and has the given tables.
 fn has_tables(n: u32, v2e: &[u32], e2e: &[u32], list: &[u32], work: &mut [u32]) -> bool
-    requires { ⌜ Sized n (now list) (take (n + 12 * elements (now list)) (now work)) × (n + 12 * elements (now list) ≤ length (now work)) × (length (now e2e) ≡ length (now list)) × (walk (now v2e) (now e2e) ≡ now list) ⌝ }
+    requires { ⌜ ToTry n (now v2e) (now e2e) (now list) (now work) ⌝ }
     ensures { λ r. ⌜ Tried n (now (v2e .entry)) (now (e2e .entry)) r (now (work .entry)) (now (work .exit)) ⌝ }
 {
     let m = list.len() / 4;
@@ -77,26 +74,19 @@ fn has_tables(n: u32, v2e: &[u32], e2e: &[u32], list: &[u32], work: &mut [u32]) 
 
 // Check 10, where the lengths are fit. The work buffer isn't cleared yet.
 fn recover_fit(n: u32, v2e: &[u32], e2e: &[u32], list: &mut [u32], work: &mut [u32]) -> Answer
-    requires { ⌜ (callSizes n (now e2e) (now list) ≡ true) × (callLengths n (now e2e) (now list) (now v2e) (now work) ≡ true) ⌝ }
+    requires { ⌜ Passed n (now v2e) (now e2e) (now list) (now work) ⌝ }
     ensures { λ r. ⌜ Recovered n (now (v2e .entry)) (now (e2e .entry)) (numbers r) (now (list .entry)) (now (list .exit)) ⌝ }
     ensures { λ r. ⌜ length (now (work .exit)) ≡ length (now (work .entry)) ⌝ }
 {
     let m = e2e.len() / 4;
     propose(wide(n), m, v2e, e2e, list, work);
     if has_tables(n, v2e, e2e, list, work) {
-        return Answer::Gives {
-            first: 0,
-            second: 0,
-        };
+        return answer::give(0);
     }
     let a = wide(n) + 12 * m;
     let e = a + 4 * m;
     buffers::copy(&work[a..e], list);
-    Answer::Refused {
-        number: 10,
-        first: 0,
-        second: 0,
-    }
+    answer::refuse(10)
 }
 
 // The accepted list that has exactly these tables; or 10 where none has, which leaves the element list as it was. The work buffer is all
@@ -107,18 +97,10 @@ pub fn recover(n: u32, v2e: &[u32], e2e: &[u32], list: &mut [u32], work: &mut [u
     ensures { λ r. ⌜ now (work .exit) ≡ recoverWork n (now (v2e .entry)) (now (e2e .entry)) (now (list .entry)) (now (work .entry)) ⌝ }
 {
     if !lengths::sizes_fit(n, e2e.len(), list.len()) {
-        return Answer::Refused {
-            number: 1,
-            first: 0,
-            second: 0,
-        };
+        return answer::refuse(1);
     }
     if !lengths::lengths_fit(n, e2e.len(), list.len(), v2e.len(), work.len()) {
-        return Answer::Refused {
-            number: 2,
-            first: 0,
-            second: 0,
-        };
+        return answer::refuse(2);
     }
     let a = recover_fit(n, v2e, e2e, list, work);
     buffers::clear(work);

@@ -1,10 +1,16 @@
 -- `recover::fill` meets its contract.
 -- Assumes nothing.
-use mathlib.Core.Path.{_≡_}
-use borrow.Author.Needs.{needs}
 use Rattle.recover.specs.Recovering.{filled}
+use borrow.Author.Needs.{needs}
 use Rattle.recover.proofs.fill.Statement.{statement}
 use Rattle.recover.proofs.fill.Tie as tie
+
+-- the two copies
+abbrev first : tie.After-copy2 → tie.After-copy
+first c = c .before .before .before .before
+
+abbrev begun : tie.After-copy → tie.Start
+begun c = c .before .before .before .before .before
 
 copy-requires : tie.Need-copy-requires
 copy-requires c κs = search needs
@@ -29,10 +35,9 @@ same-length c = search needs
 
 returns : tie.Need-returns
 returns c =
-    let pre = c .before .before .before .before .before .before .before .before .before .before .before .pre in
-    let args = c .before .before .before .before .before .before .before .before .before .before .before .args in
-    let copy = c .before .before .before .before .before .before .copy in
-    filled (args .n) (args .v2e .now) (args .e2e .now) (args .work .now) (copy .last .1 .0) (c .before .before .copy2 .last .1 .0) (pre .0) (pre .1) (copy .ensures) (c .before .before .copy2 .ensures)
+    let copied = c .before .before in
+    let s = begun (first copied) in
+    filled (s .pre .0) (s .pre .1) (first copied .copy .ensures) (copied .copy2 .ensures)
 
 pub fill-spec : {M : Type 1} → statement M
 fill-spec =

@@ -1,24 +1,30 @@
 -- `recover::is_theirs` meets its contract.
 -- Assumes nothing.
-use mathlib.Core.Path.{_≡_, ap, sym, _∙_}
-use mathlib.Core.Bool.{Bool}
-use mathlib.Core.List.{List}
-use Prim.Native.Nat.{ℕ, _+_, _-_, _≤_}
+use mathlib.Core.Path.{_≡_, ap, _∙_}
+use Prim.Native.Nat.{ℕ, _+_, _-_}
 use native.Mathlib.Omega.{arith}
-use borrow.Author.Needs.{needs}
 use borrow.Author.Tests.{not-true, not-false}
-use lib.ListN.{length, take, drop}
+use lib.ListN.{length, take}
 use Rattle.lists.specs.Tests.{same}
+use Rattle.lists.specs.Parts.{part}
 use Rattle.answer.specs.Numbers.{numbers}
 use Rattle.recover.specs.Recovering.{differs-v, compares}
+use borrow.Author.Needs.{needs}
 use Rattle.recover.proofs.is_theirs.Statement.{statement}
 use Rattle.recover.proofs.is_theirs.Tie as tie
 
-vertices : (c : tie.After-is-same) → c .is-same .result ≡ same (take (c .before .before .before .before .before .before .before .args .n) (c .before .before .before .before .before .before .before .args .work .now)) (c .before .before .before .before .before .before .before .args .v2e .now)
+-- t is an answer
+abbrev told : tie.After-is-same → tie.After-enum-told
+told c = c .before .before
+
+abbrev begun : tie.After-is-same → tie.Start
+begun c = told c .before .before .before .before .before
+
+vertices : (c : tie.After-is-same) → c .is-same .result ≡ same (take (begun c .args .n) (begun c .args .work .now)) (begun c .args .v2e .now)
 vertices c =
-    let args = c .before .before .before .before .before .before .before .args in
-    let z : args .n - 0 ≡ args .n = omega arith in
-    c .is-same .ensures ∙ ap (λ (k : ℕ). same (take k (args .work .now)) (args .v2e .now)) z
+    let s = begun c .args in
+    let z : s .n - 0 ≡ s .n = omega arith in
+    c .is-same .ensures ∙ ap (λ (k : ℕ). same (take k (s .work .now)) (s .v2e .now)) z
 
 enum-told : tie.Need-enum-told
 enum-told c = search needs
@@ -45,10 +51,7 @@ is-same-requires : tie.Need-is-same-requires
 is-same-requires c κs = search needs
 
 returns-2 : tie.Need-returns-2
-returns-2 c =
-    let args = c .before .before .before .before .before .before .before .before .args in
-    let enum-told = c .before .before .before .enum-told in
-    differs-v (numbers (args .t)) _ _ (ap numbers (enum-told .given .1)) _ _ _ _ (sym (vertices (c .before)) ∙ not-true (c .before .is-same .result) (c .if1 .taken))
+returns-2 c = differs-v (ap numbers (told (c .before) .enum-told .given .1)) _ _ _ _ (vertices (c .before)) (not-true _ (c .if1 .taken))
 
 mul-is-same : tie.Need-mul-is-same
 mul-is-same c = search needs
@@ -67,13 +70,11 @@ is-same-requires-2 c κs = search needs
 
 returns-3 : tie.Need-returns-3
 returns-3 c =
-    let args = c .before .before .before .before .before .before .before .before .before .before .args in
-    let enum-told = c .before .before .before .before .before .enum-told in
-    let is-same = c .before .before .before .is-same in
-    let s = args in
+    let first = c .before .before in
+    let s = begun (first .before) .args in
     let z : s .n + length (s .e2e .now) - s .n ≡ length (s .e2e .now) = omega arith in
-    compares (numbers (s .t)) _ _ (ap numbers (enum-told .given .1)) _ _ _ _ (c .is-same2 .result) (sym (vertices (c .before .before .before)) ∙ not-false (is-same .result) (c .before .before .if1 .left))
-    (c .is-same2 .ensures ∙ ap (λ (k : ℕ). same (take k (drop (s .n) (s .work .now))) (s .e2e .now)) z)
+    compares (ap numbers (told (first .before) .enum-told .given .1)) _ _ _ _ (vertices (first .before)) (not-false _ (first .if1 .left))
+    (c .is-same2 .ensures ∙ ap (λ (k : ℕ). same (part (s .n) k (s .work .now)) (s .e2e .now)) z)
 
 pub is-theirs-spec : {M : Type 1} → statement M
 is-theirs-spec =

@@ -1,9 +1,20 @@
 -- `recover::propose` meets its contract.
 -- Assumes nothing.
-use borrow.Author.Needs.{needs}
 use Rattle.recover.specs.Recovering.{proposed}
+use borrow.Author.Needs.{needs}
 use Rattle.recover.proofs.propose.Statement.{statement}
 use Rattle.recover.proofs.propose.Tie as tie
+
+abbrev begun : tie.After-walk-tables → tie.Start
+begun c = c .before .before .before .before .before .before
+
+-- the list kept
+abbrev walked : tie.After-copy → tie.After-walk-tables
+walked c = c .before .before .before .before .before
+
+-- the walk's list put into its place
+abbrev kept : tie.After-copy2 → tie.After-copy
+kept c = c .before .before .before .before .before .before
 
 mul-o : tie.Need-mul-o
 mul-o c = search needs
@@ -67,13 +78,9 @@ same-length-2 c = search needs
 
 returns : tie.Need-returns
 returns c =
-    let pre = c .before .before .before .before .before .before .before .before .before .before .before .before .before .before .before .before .before .before .before .pre in
-    let args = c .before .before .before .before .before .before .before .before .before .before .before .before .before .before .before .before .before .before .before .args in
-    let walk-tables = c .before .before .before .before .before .before .before .before .before .before .before .before .before .walk-tables in
-    let copy = c .before .before .before .before .before .before .before .before .copy in
-    let s = args in
-    proposed (s .n) (s .m) (s .v2e .now) (s .e2e .now) (s .list .now) (s .work .now) (pre) (walk-tables .last .1 .1 .1 .1 .0) (walk-tables .ensures .0) (walk-tables .ensures .1)
-    (copy .last .1 .0) (copy .ensures) (c .before .before .copy2 .last .1 .0) (c .before .before .copy2 .ensures)
+    let given = c .before .before in
+    let k = kept given in
+    let w = walked k in proposed (begun w .pre) (w .walk-tables .ensures) (k .copy .ensures) (given .copy2 .ensures)
 
 pub propose-spec : {M : Type 1} → statement M
 propose-spec =

@@ -2,54 +2,68 @@
 -- Assumes nothing.
 use mathlib.Core.Path.{_≡_, ap, sym, _∙_}
 use mathlib.Core.Bool.{true}
-use mathlib.Core.List.{List}
-use Prim.Native.Nat.{ℕ, _/_, _≤_}
-use borrow.Author.Needs.{needs}
+use Prim.Native.Nat.{ℕ}
 use borrow.Author.Tests.{not-true, not-false}
-use lib.ListN.{length, replicate}
+use lib.ListN.{replicate}
 use Rattle.rules.specs.Pairing.{sizesFit}
 use Rattle.rules.specs.Refusals.{callSizes, callLengths}
 use Rattle.theory.specs.FitRows.{means-sizes}
-use Rattle.answer.specs.Numbers.{numbers}
 use Rattle.build.specs.Building.{sizes-known}
-use Rattle.recover.specs.Recovering.{unsized, unlengthened, whole}
+use Rattle.recover.specs.Recovering.{Passed, unsized, unlengthened, whole}
+use borrow.Author.Needs.{needs}
 use Rattle.recover.proofs.recover.Statement.{statement}
 use Rattle.recover.proofs.recover.Tie as tie
 
-sizes : (c : tie.After-sizes-fit) → c .sizes-fit .result ≡ callSizes (c .before .before .before .before .before .args .n) (c .before .before .before .before .before .args .e2e .now) (c .before .before .before .before .before .args .list .now)
+abbrev begun : tie.After-sizes-fit → tie.Start
+begun c = c .before .before .before .before .before
+
+sizes : (c : tie.After-sizes-fit) → let s = begun c .args in c .sizes-fit .result ≡ callSizes (s .n) (s .e2e .now) (s .list .now)
 unfolding callSizes sizesFit
 sizes c = c .sizes-fit .ensures
 
-sized : (c : tie.Else1) → callSizes (c .before .before .before .before .before .before .args .n) (c .before .before .before .before .before .before .args .e2e .now) (c .before .before .before .before .before .before .args .list .now) ≡ true
-sized c = sym (sizes (c .before)) ∙ not-false (c .before .sizes-fit .result) (c .if1 .left)
+sized : (c : tie.Else1) → let s = begun (c .before) .args in callSizes (s .n) (s .e2e .now) (s .list .now) ≡ true
+sized c = sym (sizes (c .before)) ∙ not-false _ (c .if1 .left)
 
-lengths : (c : tie.After-lengths-fit) → c .lengths-fit .result ≡ callLengths (c .before .before .before .before .before .before .before .args .n) (c .before .before .before .before .before .before .before .args .e2e .now) (c .before .before .before .before .before .before .before .args .list .now) (c .before .before .before .before .before .before .before .args .v2e .now) (c .before .before .before .before .before .before .before .args .work .now)
+-- past check 1
+abbrev begun₂ : tie.After-lengths-fit → tie.Start
+begun₂ c = begun (c .before .before)
+
+lengths : (c : tie.After-lengths-fit) → let s = begun₂ c .args in c .lengths-fit .result ≡ callLengths (s .n) (s .e2e .now) (s .list .now) (s .v2e .now) (s .work .now)
 unfolding callLengths
 lengths c = c .lengths-fit .ensures
 
-lengthened : (c : tie.Else2) → callLengths (c .before .before .before .before .before .before .before .before .args .n) (c .before .before .before .before .before .before .before .before .args .e2e .now) (c .before .before .before .before .before .before .before .before .args .list .now) (c .before .before .before .before .before .before .before .before .args .v2e .now) (c .before .before .before .before .before .before .before .before .args .work .now) ≡ true
-lengthened c = sym (lengths (c .before)) ∙ not-false (c .before .lengths-fit .result) (c .if2 .left)
+passed : (c : tie.Else2) → let s = begun₂ (c .before) .args in Passed (s .n) (s .v2e .now) (s .e2e .now) (s .list .now) (s .work .now)
+passed c = record { sizes = sized (c .before .before); lengths = sym (lengths (c .before)) ∙ not-false _ (c .if2 .left) }
+
+-- past checks 1 and 2
+abbrev fit : tie.After-recover-fit → tie.Else2
+fit c = c .before .before .before
+
+abbrev recovered : tie.After-clear → tie.After-recover-fit
+recovered c = c .before .before .before .before .before .before
 
 sizes-fit-requires : tie.Need-sizes-fit-requires
 sizes-fit-requires c κs = search needs
 
+refuse-requires : tie.Need-refuse-requires
+refuse-requires c κs = search needs
+
 returns : tie.Need-returns
-returns c =
-    let args = c .before .before .before .before .before .before .args in
-    unsized (args .n) (args .v2e .now) (args .e2e .now) (args .list .now) (args .work .now) (sym (sizes (c .before)) ∙ not-true (c .before .sizes-fit .result) (c .if1 .taken))
+returns c = unsized _ _ _ _ _ (sym (sizes (c .before .before)) ∙ not-true _ (c .before .if1 .taken)) (c .refuse .ensures)
 
 lengths-fit-requires : tie.Need-lengths-fit-requires
-lengths-fit-requires c κs =
-    let args = c .before .before .before .before .before .before .args in
-    means-sizes (args .n) (args .e2e .now) .says (sizes-known (args .n) (args .e2e .now) (args .list .now) (sized c) .0) .1 .0
+lengths-fit-requires c κs = let s = begun (c .before) .args in means-sizes (s .n) (s .e2e .now) .says (sizes-known (s .n) (s .e2e .now) (s .list .now) (sized c) .0) .1 .0
+
+refuse-requires-2 : tie.Need-refuse-requires-2
+refuse-requires-2 c κs = search needs
 
 returns-2 : tie.Need-returns-2
 returns-2 c =
-    let args = c .before .before .before .before .before .before .before .before .args in
-    unlengthened (args .n) (args .v2e .now) (args .e2e .now) (args .list .now) (args .work .now) (sized (c .before .before)) (sym (lengths (c .before)) ∙ not-true (c .before .lengths-fit .result) (c .if2 .taken))
+    let tested = c .before .before in
+    unlengthened _ _ _ _ _ (sized (tested .before)) (sym (lengths tested) ∙ not-true _ (c .before .if2 .taken)) (c .refuse2 .ensures)
 
 recover-fit-requires : tie.Need-recover-fit-requires
-recover-fit-requires c κs = (sized (c .before .before .before .before), lengthened (c .before .before))
+recover-fit-requires c κs = passed (c .before .before)
 
 clear-requires : tie.Need-clear-requires
 clear-requires c κs = search needs
@@ -62,17 +76,19 @@ same-length-2 c = search needs
 
 returns-3 : tie.Need-returns-3
 returns-3 c =
-    let args = c .before .before .before .before .before .before .before .before .before .before .before .before .before .before .before .before .before .before .before .args in
-    let recover-fit = c .before .before .before .before .before .before .before .before .recover-fit in
-    whole (args .n) (args .v2e .now) (args .e2e .now) (args .list .now) (args .work .now) (numbers (recover-fit .result)) _ _ (sized (c .before .before .before .before .before .before .before .before .before .before .before .before .before)) (lengthened (c .before .before .before .before .before .before .before .before .before .before .before)) (recover-fit .ensures .0) (c .before .before .clear .ensures ∙ ap (λ (k : ℕ). replicate k 0) (recover-fit .ensures .1))
+    let cleared = c .before .before in
+    let r = recovered cleared in
+    whole _ _ _ _ _ (passed (fit r)) (r .recover-fit .ensures .0) (cleared .clear .ensures ∙ ap (λ (k : ℕ). replicate k 0) (r .recover-fit .ensures .1))
 
 pub recover-spec : {M : Type 1} → statement M
 recover-spec =
     tie.close
     (tie.spec
     sizes-fit-requires
+    refuse-requires
     returns
     lengths-fit-requires
+    refuse-requires-2
     returns-2
     recover-fit-requires
     clear-requires

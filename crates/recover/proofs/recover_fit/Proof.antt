@@ -1,36 +1,53 @@
 -- `recover::recover_fit` meets its contract.
 -- Assumes nothing.
-use mathlib.Core.Path.{_≡_, ap, sym, _∙_}
 use mathlib.Core.List.{List}
-use Prim.Native.Nat.{ℕ, _+_, _*_, _-_, _≤_}
+use Prim.Native.Nat.{ℕ, _+_, _*_, _≤_}
 use native.Mathlib.Omega.{arith}
-use borrow.Author.Needs.{needs}
 use lib.ListN.{length}
 use Rattle.rules.specs.Elements.{elements}
-use Rattle.recover.specs.Recovering.{Roomy, Proposed, roomy, to-try, put-back, recovered-list, recovered-none}
+use Rattle.recover.specs.Recovering.{Proposed, roomy, to-try, kept-inside, recovered-list, recovered-none}
+use borrow.Author.Needs.{needs}
 use Rattle.recover.proofs.recover_fit.Statement.{statement}
 use Rattle.recover.proofs.recover_fit.Tie as tie
 
-proposed : (c : tie.After-propose) → Proposed (c .before .before .before .before .before .before .before .before .args .n) (elements (c .before .before .before .before .before .before .before .before .args .e2e .now)) (c .before .before .before .before .before .before .before .before .args .v2e .now) (c .before .before .before .before .before .before .before .before .args .e2e .now) (c .before .before .before .before .before .before .before .before .args .list .now) (c .before .before .before .before .before .before .before .before .args .work .now) (c .propose .last .1 .1 .1 .1 .0) (c .propose .last .1 .1 .1 .1 .1 .0)
-proposed c =
-    let wide = c .before .before .before .wide in
-    rw (wide .ensures) at (c .propose .ensures)
+abbrev widened : tie.After-propose → tie.After-wide
+widened c = c .before .before .before
+
+abbrev begun : tie.After-wide → tie.Start
+begun c = c .before .before .before .before .before
+
+-- the list and the work buffer with the walk's list proposed
+abbrev list₁ : tie.After-propose → List ℕ
+list₁ c = c .propose .last .1 .1 .1 .1 .0
+
+abbrev work₁ : tie.After-propose → List ℕ
+work₁ c = c .propose .last .1 .1 .1 .1 .1 .0
+
+proposed : (c : tie.After-propose)
+    → let s = begun (widened c) .args in Proposed (s .n) (elements (s .e2e .now)) (s .v2e .now) (s .e2e .now) (s .list .now) (s .work .now) (list₁ c) (work₁ c)
+proposed c = rw (widened c .wide .ensures) at (c .propose .ensures)
+
+abbrev given : tie.After-has-tables-arg2 → tie.After-propose
+given c = c .before .before .before .before .before .before
+
+-- past the trial
+abbrev tried : tie.After-slice-known5 → tie.After-has-tables
+tried c = c .before .before
+
+abbrev refused : tie.After-wide2 → tie.After-has-tables
+refused c = tried (c .before .before)
 
 wide-requires : tie.Need-wide-requires
 wide-requires c κs = search needs
 
 propose-requires : tie.Need-propose-requires
-propose-requires c κs =
-    let pre = c .before .before .before .before .before .before .before .pre in
-    let args = c .before .before .before .before .before .before .before .args in
-    rw (c .before .before .wide .ensures) (roomy (args .n) (args .v2e .now) (args .e2e .now) (args .list .now) (args .work .now) (pre .0) (pre .1))
+propose-requires c κs = rw (c .before .before .wide .ensures) (roomy (begun (c .before .before) .pre))
 
 has-tables-requires : tie.Need-has-tables-requires
-has-tables-requires c κs =
-    let pre = c .before .before .before .before .before .before .before .before .before .before .before .before .before .before .pre in
-    let args = c .before .before .before .before .before .before .before .before .before .before .before .before .before .before .args in
-    let propose = c .before .before .before .before .before .before .propose in
-    to-try (args .n) (args .v2e .now) (args .e2e .now) (args .list .now) (args .work .now) (pre .0) (pre .1) (propose .last .1 .1 .1 .1 .0) (propose .last .1 .1 .1 .1 .1 .0) (proposed (c .before .before .before .before .before .before))
+has-tables-requires c κs = to-try (begun (widened (given c)) .pre) (proposed (given c))
+
+give-requires : tie.Need-give-requires
+give-requires c κs = search needs
 
 same-length : tie.Need-same-length
 same-length c = search needs
@@ -40,10 +57,9 @@ same-length-2 c = search needs
 
 returns : tie.Need-returns
 returns c =
-    let args = c .before .before .before .before .before .before .before .before .before .before .before .before .before .before .before .before .before .before .args in
-    let propose = c .before .before .before .before .before .before .before .before .before .before .propose in
-    let has-tables = c .before .before .before .has-tables in
-    (recovered-list (args .n) (args .v2e .now) (args .e2e .now) (args .list .now) (propose .last .1 .1 .1 .1 .0) (sym (c .if1 .taken) ∙ has-tables .ensures .answer) (proposed (c .before .before .before .before .before .before .before .before .before .before) .given), has-tables .ensures .long ∙ proposed (c .before .before .before .before .before .before .before .before .before .before) .long)
+    let t = tried (c .before .before) in
+    let g = given (t .before) in
+    recovered-list (begun (widened g) .pre) (proposed g) (t .has-tables .ensures) (c .before .if1 .taken) (c .give .ensures)
 
 wide-requires-2 : tie.Need-wide-requires-2
 wide-requires-2 c κs = search needs
@@ -62,9 +78,8 @@ add-e c = search needs
 
 mul-copy : tie.Need-mul-copy
 mul-copy c =
-    let pre = c .before .before .before .before .before .before .before .before .before .before .before .before .before .before .before .before .before .before .before .pre in
-    let args = c .before .before .before .before .before .before .before .before .before .before .before .before .before .before .before .before .before .before .before .args in
-    omega (arith, roomy (args .n) (args .v2e .now) (args .e2e .now) (args .list .now) (args .work .now) (pre .0) (pre .1), c .wide2 .ensures)
+    let g = given (refused c .before) in
+    omega (arith, roomy (begun (widened g) .pre), c .wide2 .ensures)
 
 sub-copy : tie.Need-sub-copy
 sub-copy c = search needs
@@ -74,13 +89,19 @@ part-copy-start c = search needs
 
 part-copy-end : tie.Need-part-copy-end
 part-copy-end c =
-    let pre = c .before .before .before .before .before .before .before .before .before .before .before .before .before .before .before .before .before .before .before .before .pre in
-    let args = c .before .before .before .before .before .before .before .before .before .before .before .before .before .before .before .before .before .before .before .before .args in
-    let has-tables = c .before .before .before .before .before .has-tables in
-    let h : c .before .wide2 .result + 12 * elements (args .e2e .now) + 4 * elements (args .e2e .now) ≤ length (has-tables .last .1 .1 .1 .1 .0) = omega (arith, roomy (args .n) (args .v2e .now) (args .e2e .now) (args .list .now) (args .work .now) (pre .0) (pre .1), c .before .wide2 .ensures, has-tables .ensures .long, proposed (c .before .before .before .before .before .before .before .before .before .before .before .before) .long) in search needs
+    let w = c .before in
+    let t = refused w in
+    let g = given (t .before) in
+    let s = begun (widened g) in
+    let h : w .wide2 .result + 12 * elements (s .args .e2e .now) + 4 * elements (s .args .e2e .now) ≤ length (t .has-tables .last .1 .1 .1 .1 .0) =
+    rw (w .wide2 .ensures) (kept-inside (s .pre) (proposed g) (t .has-tables .ensures)) in
+    search needs
 
 copy-requires : tie.Need-copy-requires
 copy-requires c κs = search needs
+
+refuse-requires : tie.Need-refuse-requires
+refuse-requires c κs = search needs
 
 same-length-3 : tie.Need-same-length-3
 same-length-3 c = search needs
@@ -90,13 +111,12 @@ same-length-4 c = search needs
 
 returns-2 : tie.Need-returns-2
 returns-2 c =
-    let pre = c .before .before .before .before .before .before .before .before .before .before .before .before .before .before .before .before .before .before .before .before .before .before .before .before .before .pre in
-    let args = c .before .before .before .before .before .before .before .before .before .before .before .before .before .before .before .before .before .before .before .before .before .before .before .before .before .args in
-    let propose = c .before .before .before .before .before .before .before .before .before .before .before .before .before .before .before .before .before .propose in
-    let has-tables = c .before .before .before .before .before .before .before .before .before .before .has-tables in
-    let if1 = c .before .before .before .before .before .before .before .if1 in
-    let wide2 = c .before .before .before .before .before .before .wide2 in
-    (recovered-none (args .n) (args .v2e .now) (args .e2e .now) (args .list .now) _ (sym (if1 .left) ∙ has-tables .ensures .answer) (put-back (args .n) (args .v2e .now) (args .e2e .now) (args .list .now) (args .work .now) (pre .0) (pre .1) (propose .last .1 .1 .1 .1 .0) (propose .last .1 .1 .1 .1 .1 .0) (proposed (c .before .before .before .before .before .before .before .before .before .before .before .before .before .before .before .before .before)) (has-tables .last .1 .1 .1 .1 .0) _ (has-tables .result) (has-tables .ensures) (rw (wide2 .ensures) at (c .before .before .copy .ensures))), has-tables .ensures .long ∙ proposed (c .before .before .before .before .before .before .before .before .before .before .before .before .before .before .before .before .before) .long)
+    let copied = c .before .before .before in
+    let w = copied .before .before .before .before in
+    let t = refused w in
+    let g = given (t .before) in
+    recovered-none (begun (widened g) .pre) (proposed g) (t .has-tables .ensures) (w .before .if1 .left) (c .refuse .ensures)
+    (rw (w .wide2 .ensures) at (copied .copy .ensures))
 
 pub recover-fit-spec : {M : Type 1} → statement M
 recover-fit-spec =
@@ -105,6 +125,7 @@ recover-fit-spec =
     wide-requires
     propose-requires
     has-tables-requires
+    give-requires
     same-length
     same-length-2
     returns
@@ -118,6 +139,7 @@ recover-fit-spec =
     part-copy-start
     part-copy-end
     copy-requires
+    refuse-requires
     same-length-3
     same-length-4
     returns-2)
