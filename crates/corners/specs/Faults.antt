@@ -5,7 +5,7 @@ use mathlib.Core.Bool.{Bool, true, false, not}
 use mathlib.Core.List.{List}
 use Prim.Native.Nat.{ℕ, _+_, _-_}
 use lib.Dec.{eqb, ltb}
-use Rattle.lists.specs.Tests.{both, either}
+use Rattle.lists.specs.Tests.{either}
 use Rattle.lists.specs.Search.{at}
 use Rattle.rules.specs.Elements.{sidesBy, sideAt, firstVertex}
 use Rattle.rules.specs.Pairing.{unfitCorner, repeatedCorner}

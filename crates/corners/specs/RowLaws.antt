@@ -1,17 +1,16 @@
 -- The first fault of a row, by the tests of its corners one after another.
 -- Assumes nothing.
-use mathlib.Core.Path.{_≡_, refl, ap, sym, subst, _∙_}
+use mathlib.Core.Path.{_≡_, refl, sym, subst}
 use mathlib.Core.Bool.{Bool, true, false, not}
 use mathlib.Core.Logic.{_⊎_, inl, inr}
 use mathlib.Core.List.{List}
 use Prim.Native.Nat.{ℕ, suc, _-_, _≤_, _<_}
 use native.Mathlib.Omega.{arith}
-use lib.Dec.{T, eqb, ltb, not-T}
-use Rattle.lists.specs.Tests.{both, either}
-use Rattle.lists.specs.TestLaws.{Means, means-either, means-eq, means-lt, means-not}
+use lib.Dec.{T, eqb, not-T}
+use Rattle.lists.specs.TestLaws.{Means, means-either, means-eq, means-lt}
 use Rattle.lists.specs.Search.{at}
 use Rattle.lists.specs.SearchLaws.{lt-or-eq}
-use Rattle.rules.specs.Elements.{sidesBy, firstVertex}
+use Rattle.rules.specs.Elements.{sidesBy}
 use Rattle.theory.specs.Sides.{SidesBy, three, four, sides-by}
 use Rattle.theory.specs.Least.{FirstVertex, nobody, somebody, means-some-vertex}
 use Rattle.corners.specs.Faults.{noVertex, repeats, UnfitIn, RepeatedIn}

@@ -1,29 +1,28 @@
 -- The first fault of a list, found row by row.
 -- Assumes nothing.
-use mathlib.Core.Path.{_≡_, refl, ap, sym, subst, _∙_}
+use mathlib.Core.Path.{_≡_, refl, ap, sym, _∙_}
 use mathlib.Core.Bool.{Bool, true, false, not}
 use mathlib.Core.Logic.{_⊎_, inl, inr}
 use mathlib.Core.List.{List}
-use Prim.Native.Nat.{ℕ, suc, _+_, _*_, _-_, _/_, _%_, _≤_, _<_}
+use Prim.Native.Nat.{ℕ, _+_, _*_, _-_, _/_, _%_, _≤_, _<_}
 use native.Mathlib.Omega.{arith}
-use lib.Dec.{T, eqb, ltb, T-not, not-T}
+use lib.Dec.{T, eqb, T-not, not-T}
 use lib.ListN.{length, take, drop}
-use Rattle.lists.specs.TestLaws.{Means, means-eq, means-not, true-of, false-of}
+use Rattle.lists.specs.TestLaws.{means-eq, means-not, true-of, false-of}
 use Rattle.lists.specs.Search.{at}
 use Rattle.lists.specs.SearchLaws.{le-or-lt}
-use Rattle.rules.specs.Elements.{elements, corner, element, sidesBy, sides, Side, slot, origin, sideAt, firstSide}
+use Rattle.rules.specs.Elements.{corner, sidesBy, sides, Side, slot, origin, sideAt}
 use Rattle.rules.specs.Pairing.{unfitCorner, repeatedCorner}
-use Rattle.theory.specs.Sides.{SidesBy, three, four, sides-by, SideFacts, side-facts, side-of, side-positive, sideAt-slot, slot-sideAt, slot-below, slot-less}
-use Rattle.theory.specs.Least.{First, FirstVertex, first-side, first-is}
+use Rattle.theory.specs.Sides.{SidesBy, three, four, sides-by, side-facts, side-of, sideAt-slot, slot-sideAt, slot-below, slot-less}
+use Rattle.theory.specs.Least.{First, FirstVertex, first-is}
 use Rattle.theory.specs.FitRows.{unfit, earlier, repeated, means-unfit, means-earlier, means-repeated}
 use Rattle.halfedge.specs.Rows.{rowOf, part-at}
-use Rattle.corners.specs.Faults.{noVertex, repeats, UnfitIn, RepeatedIn, Repeating, kept, none, new, faultOf}
-use Rattle.corners.specs.RowLaws.{means-repeats, means-no-vertex}
-use Rattle.corners.specs.declared.Fault.{Fault}
+use Rattle.corners.specs.Faults.{noVertex, repeats, UnfitIn, Repeating, kept, none, new, faultOf}
+use Rattle.corners.specs.RowLaws.{means-repeats}
 use Rattle.corners.specs.declared.Fault.the-variants.{Unfit, Repeated, Nothing}
 
-pub first-le-four : (fourth : ℕ) (t : ℕ → Bool) (r : ℕ) → FirstVertex (sidesBy fourth) t r → r ≤ 4
-first-le-four fourth t r x = go x (sides-by fourth)
+pub first-le-four : (fourth : ℕ) {t : ℕ → Bool} {r : ℕ} → FirstVertex (sidesBy fourth) t r → r ≤ 4
+first-le-four fourth {t} {r} x = go x (sides-by fourth)
   where
     go : {k : ℕ} → FirstVertex k t r → SidesBy fourth k → r ≤ 4
     go (FirstVertex.nobody e f) y = omega arith
@@ -101,7 +100,7 @@ module _ (L : List ℕ) (a e : ℕ) (aligned : a ≡ 4 * (a / 4)) (end : e ≡ a
         go : (s : ℕ) → Side L s → (a ≤ slot s) ⊎ (slot s < a) → slot s < a + i - 1 → T (not (t s))
         go s c (inr k) h = clear s c k
         go s c (inl k) h =
-            let m = first-le-four (at (rowAt L a e) 3) u i (FirstVertex.somebody from to w f) in
+            let m = first-le-four (at (rowAt L a e) 3) {t = u} (FirstVertex.somebody from to w f) in
             let (l, q) = row-number s c k (omega arith) in
             let j = slot s - a + 1 in
             not-T (t s) (λ y. T-not (u j) (f j (omega arith) (omega arith)) (back j (omega arith) l (rw q y)))
@@ -129,7 +128,7 @@ scan-start n L =
       repeats = nobody refl (λ s b h. absurd (omega arith));
     }
 
-module _ (n : ℕ) (L : List ℕ) (a r e : ℕ) (k : Scanned n L a r) (end : e ≡ a + 4) (inside : e ≤ length L) where
+module _ {n : ℕ} {L : List ℕ} {a r e : ℕ} (k : Scanned n L a r) (end : e ≡ a + 4) (inside : e ≤ length L) where
   at-most-four : (i : ℕ) → i ≤ sidesBy (at (rowAt L a e) 3) → i ≤ 4
   at-most-four i h = go (sides-by (at (rowAt L a e) 3)) h
     where
@@ -145,14 +144,16 @@ module _ (n : ℕ) (L : List ℕ) (a r e : ℕ) (k : Scanned n L a r) (end : e �
   unfit-same i from to = ap (noVertex n) (corner-of i from (at-most-four i to))
 
   -- an unfit corner of the row is the list's first
-  pub scan-unfit : (i : ℕ) → (i ≡ 0 → ⊥) → UnfitIn n (rowAt L a e) i → faultOf n L ≡ Unfit (sideAt (a + i - 1))
+  pub scan-unfit : {i j x : ℕ} → UnfitIn n (rowAt L a e) i → (i ≡ 0 → ⊥) → j ≡ i → x ≡ sideAt (a + j - 1) → Unfit x ≡ faultOf n L
   unfolding faultOf unfitCorner unfit
-  scan-unfit i d x =
+  scan-unfit {i} {j} {x} y d same code =
+      let is : x ≡ sideAt (a + i - 1) = code ∙ ap (λ (j : ℕ). sideAt (a + j - 1)) same in
       let f = row-found L a e (k .aligned) end inside (unfit n L) (λ j. noVertex n (at (rowAt L a e) (j - 1)))
-      (λ j from to t. rw (← unfit-same j from to) t) (λ j from to t. rw (unfit-same j from to) t) (k .fit) i d x in
+      (λ j from to t. rw (← unfit-same j from to) t) (λ j from to t. rw (unfit-same j from to) t) (k .fit) i d y in
       let g : unfitCorner n L ≡ sideAt (a + i - 1) = first-is L (unfit n L) (sideAt (a + i - 1)) f in
-      let z : eqb (unfitCorner n L) 0 ≡ false = false-of (eqb (unfitCorner n L) 0) (means-not (means-eq (unfitCorner n L) 0) .shows (λ w. sideAt-positive (a + i - 1) (sym g ∙ w))) in
-      rw (z, faultOf) (ap Unfit g)
+      let positive : unfitCorner n L ≡ 0 → ⊥ = λ w. sideAt-positive (a + i - 1) (sym g ∙ w) in
+      let z : eqb (unfitCorner n L) 0 ≡ false = false-of (eqb (unfitCorner n L) 0) (means-not (means-eq (unfitCorner n L) 0) .shows positive) in
+      rw (z, faultOf) (ap Unfit (is ∙ sym g))
 
   module _ (x : UnfitIn n (rowAt L a e) 0) where
     -- a row without an unfit corner adds none
@@ -207,8 +208,8 @@ module _ (n : ℕ) (L : List ℕ) (a r e : ℕ) (k : Scanned n L a r) (end : e �
         means-repeats (rowAt L a e) i .shows
         (j, (omega arith), less, means-eq _ _ .shows (corner-of j (omega arith) (at-most-four j c) ∙ ap (origin L) v ∙ o ∙ sym (corner-of i from m)))
 
-    pub scan-row : (r′ : ℕ) → Repeating a (rowAt L a e) r r′ → Scanned n L e r′
-    scan-row r′ y = record { aligned = (let h = k .aligned in omega arith); inside = inside; fit = fit-on; repeats = go y (k .repeats) }
+    pub scan-row : {r′ : ℕ} → Repeating a (rowAt L a e) r r′ → Scanned n L e r′
+    scan-row {r′} y = record { aligned = (let h = k .aligned in omega arith); inside = inside; fit = fit-on; repeats = go y (k .repeats) }
       where
         go : Repeating a (rowAt L a e) r r′ → FirstBelow L (repeated n L) a r → FirstBelow L (repeated n L) e r′
         go (kept d e) (nobody z f) = absurd (d z)
@@ -219,7 +220,7 @@ module _ (n : ℕ) (L : List ℕ) (a r e : ℕ) (k : Scanned n L a r) (end : e �
         go (new i q d w e) (nobody z f) =
             somebody (rw e (row-found L a _ (k .aligned) end inside (repeated n L) (repeats (rowAt L a _)) there back f i d w)) (λ g. sideAt-positive (a + i - 1) (sym e ∙ g))
 
-module _ (n : ℕ) (L : List ℕ) (a r : ℕ) (k : Scanned n L a r) (all : length L ≤ a) where
+module _ {n : ℕ} {L : List ℕ} {a r : ℕ} (k : Scanned n L a r) (all : length L ≤ a) where
   -- after the last row no corner is unfit
   no-unfit : eqb (unfitCorner n L) 0 ≡ true
   unfolding unfitCorner unfit
@@ -236,13 +237,14 @@ module _ (n : ℕ) (L : List ℕ) (a r : ℕ) (k : Scanned n L a r) (all : lengt
       go (nobody e f) = first-is L (repeated n L) r (First.nobody e (λ s b. f s b (omega (arith, slot-below L s b))))
       go (somebody f d) = first-is L (repeated n L) r f
 
-  pub scan-repeated : (r ≡ 0 → ⊥) → faultOf n L ≡ Repeated r
+  pub scan-repeated : (r ≡ 0 → ⊥) → Repeated r ≡ faultOf n L
   unfolding faultOf
   scan-repeated d =
-      let z : eqb (repeatedCorner L) 0 ≡ false = false-of (eqb (repeatedCorner L) 0) (means-not (means-eq (repeatedCorner L) 0) .shows (λ w. d (sym repeated-is ∙ w))) in
-      rw (no-unfit, faultOf) (rw z (ap Repeated repeated-is))
+      let z : eqb (repeatedCorner L) 0 ≡ false =
+      false-of (eqb (repeatedCorner L) 0) (means-not (means-eq (repeatedCorner L) 0) .shows (λ w. d (sym repeated-is ∙ w))) in
+      rw (no-unfit, faultOf) (rw z (ap Repeated (sym repeated-is)))
 
-  pub scan-nothing : r ≡ 0 → faultOf n L ≡ Nothing
+  pub scan-nothing : r ≡ 0 → Nothing ≡ faultOf n L
   unfolding faultOf
   scan-nothing e =
       let z : eqb (repeatedCorner L) 0 ≡ true = true-of (eqb (repeatedCorner L) 0) (means-eq (repeatedCorner L) 0 .shows (repeated-is ∙ e)) in

@@ -71,7 +71,7 @@ fn repeated_in(row: [u32; 4]) -> u32
 
 // The first repeated corner: the one found before, or else that of the row at a.
 fn first_repeated(found: u32, a: usize, row: [u32; 4]) -> u32
-    requires { ⌜ a + 4 ≤ 4_000_000 ⌝ }
+    requires { ⌜ a + 4 ≤ 4 * maxElement ⌝ }
     ensures { λ r. ⌜ Repeating a row found r ⌝ }
 {
     if found != 0 {

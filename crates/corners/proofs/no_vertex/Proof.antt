@@ -1,8 +1,6 @@
 -- `corners::no_vertex` meets its contract.
 -- Assumes nothing.
-use lib.Dec.{eqb}
 use borrow.Author.Tests.{eq-eqb, ne-eqb}
-use Rattle.corners.specs.Faults.{noVertex}
 use Rattle.corners.proofs.no_vertex.Statement.{statement}
 use Rattle.corners.proofs.no_vertex.Tie as tie
 

@@ -4,28 +4,25 @@ use mathlib.Core.Path.{_≡_}
 use mathlib.Core.List.{List}
 use Prim.Native.Nat.{ℕ, _-_, _≤_}
 use lib.Dec.{lit≤}
-use borrow.Author.Needs.{needs}
 use Rattle.lists.specs.Search.{at}
 use Rattle.corners.specs.Faults.{RepeatedIn}
 use Rattle.corners.specs.RowLaws.{repeats-two, repeats-three, repeats-none-of-three, repeats-four, repeats-none-of-four}
+use borrow.Author.Needs.{needs}
 use Rattle.corners.proofs.repeated_in.Statement.{statement}
 use Rattle.corners.proofs.repeated_in.Tie as tie
 
-abbrev row : tie.Else4 → List ℕ
-row c =
-    let args = c .before .before .before .before .args in
-    args .t1
+abbrev row : tie.Else2 → List ℕ
+row c = c .before .before .args .t1
 
 -- past the first four tests
-four : (c : tie.Else4) (j : ℕ) → 1 ≤ j → j ≤ 3 → at (row c) 3 ≡ at (row c) (j - 1) → RepeatedIn (row c) 4
-four c =
-    let if1 = c .before .before .before .if1 in
-    repeats-four (row c) (if1 .left) (c .before .before .if2 .left) (c .before .if3 .left) (c .if4 .left)
+abbrev third : tie.Else4 → tie.Else2
+third c = c .before .before
 
-none : (c : tie.Else4) → (at (row c) 3 ≡ at (row c) 0 → ⊥) → (at (row c) 3 ≡ at (row c) 1 → ⊥) → (at (row c) 3 ≡ at (row c) 2 → ⊥) → RepeatedIn (row c) 0
-none c =
-    let if1 = c .before .before .before .if1 in
-    repeats-none-of-four (row c) (if1 .left) (c .before .before .if2 .left) (c .before .if3 .left) (c .if4 .left)
+four : (c : tie.Else4) (j : ℕ) → 1 ≤ j → j ≤ 3 → at (row (third c)) 3 ≡ at (row (third c)) (j - 1) → RepeatedIn (row (third c)) 4
+four c = let e = third c in repeats-four (row e) (e .before .if1 .left) (e .if2 .left) (c .before .if3 .left) (c .if4 .left)
+
+abbrev passed : tie.Else6 → tie.Else4
+passed c = c .before .before
 
 array-read-if1 : tie.Need-array-read-if1
 array-read-if1 c = search needs
@@ -52,18 +49,15 @@ array-read-if3-2 : tie.Need-array-read-if3-2
 array-read-if3-2 c = search needs
 
 returns-3 : tie.Need-returns-3
-returns-3 c =
-    let args = c .before .before .before .args in
-    repeats-three (args .t1) (c .before .before .if1 .left) 2 (lit≤ tt) (lit≤ tt) (c .if3 .taken)
+returns-3 c = repeats-three (row (c .before)) (c .before .before .if1 .left) 2 (lit≤ tt) (lit≤ tt) (c .if3 .taken)
 
 array-read-if4 : tie.Need-array-read-if4
 array-read-if4 c = search needs
 
 returns-4 : tie.Need-returns-4
 returns-4 c =
-    let args = c .before .before .before .before .args in
-    let if1 = c .before .before .before .if1 in
-    repeats-none-of-three (args .t1) (if1 .left) (c .before .before .if2 .left) (c .before .if3 .left) (c .if4 .taken)
+    let e = c .before .before in
+    repeats-none-of-three (row e) (e .before .if1 .left) (e .if2 .left) (c .before .if3 .left) (c .if4 .taken)
 
 array-read-if5 : tie.Need-array-read-if5
 array-read-if5 c = search needs
@@ -90,10 +84,14 @@ array-read-if7-2 : tie.Need-array-read-if7-2
 array-read-if7-2 c = search needs
 
 returns-7 : tie.Need-returns-7
-returns-7 c = four (c .before .before .before) 3 (lit≤ tt) (lit≤ tt) (c .if7 .taken)
+returns-7 c = four (passed (c .before)) 3 (lit≤ tt) (lit≤ tt) (c .if7 .taken)
 
 returns-8 : tie.Need-returns-8
-returns-8 c = none (c .before .before .before) (c .before .before .if5 .left) (c .before .if6 .left) (c .if7 .left)
+returns-8 c =
+    let f = passed (c .before) in
+    let e = third f in
+    repeats-none-of-four (row e) (e .before .if1 .left) (e .if2 .left) (f .before .if3 .left) (f .if4 .left)
+    (c .before .before .if5 .left) (c .before .if6 .left) (c .if7 .left)
 
 pub repeated-in-spec : {M : Type 1} → statement M
 repeated-in-spec =
