@@ -1,8 +1,7 @@
 // Check 8, after the walk: the least vertex with a side that the walk did not write.
 ghost use mathlib.Core.Path.{_≡_};
-ghost use Prim.Native.Nat.{_+_, _*_, _≤_, _<_};
+ghost use Prim.Native.Nat.{_+_, _≤_, _<_};
 ghost use lib.ListN.{length, drop};
-ghost use Rattle.lists.specs.Search.{at};
 ghost use Rattle.rules.specs.Elements.{firstVertex};
 ghost use Rattle.rules.specs.Refusals.{missed};
 ghost use Rattle.theory.specs.FitRows.{Fit};

@@ -1,25 +1,12 @@
 -- `unordered::missed_in_row` meets its contract: four places, one after another.
 -- Assumes nothing.
-use mathlib.Core.Path.{_≡_, refl, ap, subst, _∙_}
-use mathlib.Core.List.{List}
-use Prim.Native.Nat.{ℕ, _+_, _<_}
-use native.Mathlib.Omega.{arith}
+use Rattle.unordered.specs.Missed.{least-row}
 use borrow.Author.Needs.{needs}
-use lib.ListN.{drop}
-use Rattle.lists.specs.Search.{at}
-use Rattle.halfedge.specs.Rows.{part-at}
-use Rattle.unordered.specs.Missed.{LeastBelow, least-read}
 use Rattle.unordered.proofs.missed_in_row.Statement.{statement}
 use Rattle.unordered.proofs.missed_in_row.Tie as tie
 
-abbrev row : tie.After-row → List ℕ
-row c = c .row .result
-
--- the row's entries are the list's
-entry : (c : tie.After-row) (j : ℕ) → j < 4 → at (row c) j ≡ at (c .before .before .before .before .args .list .now) (c .before .before .before .before .args .a + j)
-entry c j h =
-    let args = c .before .before .before .before .args in
-    ap (λ (l : List ℕ). at l j) (c .row .ensures) ∙ part-at (args .list .now) (args .a) (args .a + 4) j refl h
+abbrev begun : tie.After-row → tie.Start
+begun c = c .before .before .before .before
 
 add-e : tie.Need-add-e
 add-e c = search needs
@@ -110,19 +97,13 @@ lesser-missed-requires-4 c κs = search needs
 
 returns : tie.Need-returns
 returns c =
-    let pre = c .before .before .before .before .before .before .before .before .before .before .before .before .pre in
-    let args = c .before .before .before .before .before .before .before .before .before .before .before .before .args in
-    let lesser-missed = c .before .before .before .before .before .before .lesser-missed in
-    let lesser-missed2 = c .before .before .before .before .lesser-missed2 in
-    let to : (p q r : ℕ) → p ≡ q → LeastBelow (args .list .now) (drop (args .o) (args .work .now)) p r → LeastBelow (args .list .now) (drop (args .o) (args .work .now)) q r =
-    λ p q r e k. subst (λ (i : ℕ). LeastBelow (args .list .now) (drop (args .o) (args .work .now)) i r) e k in
-    let a = args .a in
-    let k₀ = to a (a + 0) (args .best) (omega arith) (pre .2) in
-    let k₁ = least-read (args .o) (args .list .now) (args .work .now) (pre .0) (args .a) 0 (args .best) (at (row (c .before .before .before .before .before .before .before .before)) 0) (at (args .work .now) (args .o + args .a)) (lesser-missed .result) (omega (arith, pre .1)) (entry (c .before .before .before .before .before .before .before .before) 0 (omega arith)) (let e : args .o + args .a ≡ args .o + (args .a + 0) = omega arith in ap (at (args .work .now)) e) (k₀) (lesser-missed .ensures) in
-    let k₂ = least-read (args .o) (args .list .now) (args .work .now) (pre .0) (args .a) 1 (lesser-missed .result) (at (row (c .before .before .before .before .before .before .before .before)) 1) (at (args .work .now) (args .o + args .a + 1)) (lesser-missed2 .result) (omega (arith, pre .1)) (entry (c .before .before .before .before .before .before .before .before) 1 (omega arith)) (let e : args .o + args .a + 1 ≡ args .o + (args .a + 1) = omega arith in ap (at (args .work .now)) e) (to (a + 0 + 1) (a + 1) (lesser-missed .result) (omega arith) k₁) (lesser-missed2 .ensures) in
-    let k₃ = least-read (args .o) (args .list .now) (args .work .now) (pre .0) (args .a) 2 (lesser-missed2 .result) (at (row (c .before .before .before .before .before .before .before .before)) 2) (at (args .work .now) (args .o + args .a + 2)) (c .before .before .lesser-missed3 .result) (omega (arith, pre .1)) (entry (c .before .before .before .before .before .before .before .before) 2 (omega arith)) (let e : args .o + args .a + 2 ≡ args .o + (args .a + 2) = omega arith in ap (at (args .work .now)) e) (to (a + 1 + 1) (a + 2) (lesser-missed2 .result) (omega arith) k₂) (c .before .before .lesser-missed3 .ensures) in
-    let k₄ = least-read (args .o) (args .list .now) (args .work .now) (pre .0) (args .a) 3 (c .before .before .lesser-missed3 .result) (at (row (c .before .before .before .before .before .before .before .before)) 3) (at (args .work .now) (args .o + args .a + 3)) (c .lesser-missed4 .result) (omega (arith, pre .1)) (entry (c .before .before .before .before .before .before .before .before) 3 (omega arith)) (let e : args .o + args .a + 3 ≡ args .o + (args .a + 3) = omega arith in ap (at (args .work .now)) e) (to (a + 2 + 1) (a + 3) (c .before .before .lesser-missed3 .result) (omega arith) k₃) (c .lesser-missed4 .ensures) in
-    to (a + 3 + 1) (a + 4) (c .lesser-missed4 .result) (omega arith) k₄
+    let third = c .before .before in
+    let second = third .before .before in
+    let first = second .before .before in
+    let read = first .before .before in
+    let h = begun read .pre in
+    least-row (h .0) _ (h .1) (read .row .ensures) (h .2) (first .lesser-missed .ensures) (second .lesser-missed2 .ensures)
+    (third .lesser-missed3 .ensures) (c .lesser-missed4 .ensures)
 
 pub missed-in-row-spec : {M : Type 1} → statement M
 missed-in-row-spec =
