@@ -60,7 +60,9 @@ module _ (x z : ℕ) (s : List ℕ) (last : z ≡ 48 + x % 10) (d : Decimal (x /
         some = rw long (omega arith);
         all = λ i k. elim (lt-or-eq i (length s) (rw long at k))
             [ inl h ↦ rw (List·getD-append s (z ∷ []) 0 i h) (d .all i h) | inr e ↦ rw (getD-at s z [] 0 i (sym e)) (omega arith) ];
-        writes = λ t p f. rw long (value-next t p (f (length s) (rw long (omega arith)) ∙ getD-at s z [] 0 (length s) refl) (d .writes t p (λ i h. f i (rw long (omega arith)) ∙ List·getD-append s (z ∷ []) 0 i h)));
+        writes = λ t p f. rw long
+            (value-next t p (f (length s) (rw long (omega arith)) ∙ getD-at s z [] 0 (length s) refl)
+            (d .writes t p (λ i h. f i (rw long (omega arith)) ∙ List·getD-append s (z ∷ []) 0 i h)));
       }
 
 digits-decimal : (k x : ℕ) → x < k → Decimal x (digits x)

@@ -21,8 +21,14 @@ Inv-loop text count i₀ at₀ i at = (i ≤ count) × (at ≤ 9 * i) × (at ≡
 abbrev μ-loop : tie.MeasureT-loop
 μ-loop text count i₀ at₀ i at = count - i
 
-good : (c : tie.After-is-field Inv-loop μ-loop) → c .is-field .result ≡ goodField (c .before .before .before .before .before .args .text .now) (c .before .before .before .loop .i)
-good c = let h = c .before .before .before in good-at _ (h .loop .i) (h .loop .inv .2) (c .before .mark .ensures) (c .is-field .ensures)
+abbrev text : tie.At-loop Inv-loop μ-loop → List ℕ
+text c = c .before .before .args .text .now
+
+abbrev looped : tie.After-is-field Inv-loop μ-loop → tie.At-loop Inv-loop μ-loop
+looped c = c .before .before .before
+
+good : (c : tie.After-is-field Inv-loop μ-loop) → c .is-field .result ≡ goodField (text (looped c)) (looped c .loop .i)
+good c = let h = looped c in good-at _ (h .loop .i) (h .loop .inv .2) (c .before .mark .ensures) (c .is-field .ensures)
 
 loop-holds : tie.Need-loop-holds Inv-loop μ-loop
 unfolding place
@@ -36,8 +42,9 @@ is-field-requires c κs = search needs
 
 returns : tie.Need-returns Inv-loop μ-loop
 unfolding firstBadField
-returns c = let h = c .before .before .before .before in
-    ((found-here (bad (h .before .before .args .text .now)) (h .loop .inv .3) _ (omega arith) (ap not (sym (good (c .before))) ∙ c .if1 .taken), h .loop .inv .2), search needs)
+returns c =
+    let h = looped (c .before) in
+    ((found-here (bad (text h)) (h .loop .inv .3) _ (omega arith) (ap not (sym (good (c .before))) ∙ c .if1 .taken), h .loop .inv .2), search needs)
 
 next-requires : tie.Need-next-requires Inv-loop μ-loop
 next-requires c κs = search needs
@@ -49,14 +56,18 @@ loop-less : tie.Need-loop-less Inv-loop μ-loop
 loop-less c = search needs
 
 loop-again : tie.Need-loop-again Inv-loop μ-loop
-loop-again c = let h = c .before .before .before .before .before in
-    (search needs, search needs, place-next _ (h .loop .i) (h .loop .inv .2) (c .next .ensures .0), none-more (bad (h .before .before .args .text .now)) (h .loop .inv .3) (ap not (sym (good (c .before .before))) ∙ c .before .if1 .left))
+loop-again c =
+    let f = c .before .before in
+    let h = looped f in (
+      search needs,
+      search needs,
+      place-next _ (h .loop .i) (h .loop .inv .2) (c .next .ensures .0),
+      none-more (bad (text h)) (h .loop .inv .3) (ap not (sym (good f)) ∙ c .before .if1 .left),
+    )
 
 returns-2 : tie.Need-returns-2 Inv-loop μ-loop
 unfolding firstBadField
-returns-2 c =
-    let args = c .before .before .before .args in
-    ((found-none (bad (args .text .now)) (c .before .loop .inv .3) _ (omega arith), c .before .loop .inv .2), search needs)
+returns-2 c = ((found-none (bad (text (c .before))) (c .before .loop .inv .3) _ (omega arith), c .before .loop .inv .2), search needs)
 
 pub go-over-spec : {M : Type 1} → statement M
 go-over-spec =

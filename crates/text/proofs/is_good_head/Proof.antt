@@ -19,8 +19,8 @@ the-n-requires c κs = search needs
 returns-2 : tie.Need-returns-2
 unfolding goodHead
 returns-2 c =
-    let go-over = c .before .before .before .before .go-over in
-    simp (← go-over .ensures .0 .0, eq-eqb _ _ (c .before .before .if1 .left), ← c .before .the-n .ensures, lt-leb _ _ (c .if2 .taken))
+    let a = c .before .before in
+    simp (← a .before .before .go-over .ensures .0 .0, eq-eqb _ _ (a .if1 .left), ← c .before .the-n .ensures, lt-leb _ _ (c .if2 .taken))
 
 the-m-requires : tie.Need-the-m-requires
 the-m-requires c κs = search needs

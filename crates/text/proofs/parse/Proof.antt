@@ -14,7 +14,10 @@ use native.Mathlib.Omega.{arith}
 use Rattle.text.proofs.parse.Statement.{statement}
 use Rattle.text.proofs.parse.Tie as tie
 
-form : (c : tie.Else1) → firstBad (c .before .before .before .before .args .text .now) ≡ 0
+abbrev text : tie.Else1 → List ℕ
+text c = c .before .before .before .before .args .text .now
+
+form : (c : tie.Else1) → firstBad (text c) ≡ 0
 form c = sym (c .before .first-bad .ensures) ∙ c .if1 .left
 
 -- the list after `read_list` is the rule's
@@ -56,10 +59,10 @@ same-length c = search needs
 
 returns-3 : tie.Need-returns-3
 returns-3 c =
-    let read-list = c .before .before .before .read-list in
-    let a = c .before .before .before .before .before .before in
+    let filled = c .before .before .before in
+    let a = filled .before .before .before in
     let m = a .the-m .ensures in
-    ((cc m) ∙ sym (parsed-mesh _ _ (form (a .before)) (omega arith)), rows _ _ _ _ m (read-list .ensures))
+    ((cc m) ∙ sym (parsed-mesh _ _ (form (a .before)) (omega arith)), rows _ _ _ _ m (filled .read-list .ensures))
 
 pub parse-spec : {M : Type 1} → statement M
 parse-spec =

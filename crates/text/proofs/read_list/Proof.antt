@@ -19,6 +19,9 @@ Inv-loop text list₀ count at₀ i₀ list at i = (i ≤ count) × (at ≤ 9 * 
 abbrev μ-loop : tie.MeasureT-loop
 μ-loop text list₀ count at₀ i₀ list at i = count - i
 
+abbrev begun : tie.At-loop Inv-loop μ-loop → tie.Start Inv-loop μ-loop
+begun c = c .before .before .before .before .before
+
 next-requires : tie.Need-next-requires Inv-loop μ-loop
 next-requires c κs = search needs
 
@@ -48,8 +51,9 @@ loop-less : tie.Need-loop-less Inv-loop μ-loop
 loop-less c = search needs
 
 loop-again : tie.Need-loop-again Inv-loop μ-loop
-loop-again c = let h = c .before .before .before in
-    let t = h .before .before .before .before .before .args .text .now in
+loop-again c =
+    let h = c .before .before .before in
+    let t = begun h .args .text .now in
     let i = h .loop .i in
     let e : i + 2 + 1 ≡ i + 1 + 2 = omega arith in (
       search needs,
@@ -64,8 +68,7 @@ same-length c = search needs
 
 returns : tie.Need-returns Inv-loop μ-loop
 returns c =
-    let args = c .before .before .before .before .before .before .args in
-    let q : c .before .loop .i ≡ args .count = omega arith in rw q at (c .before .loop .inv .4)
+    let q : c .before .loop .i ≡ begun (c .before) .args .count = omega arith in rw q at (c .before .loop .inv .4)
 
 pub read-list-spec : {M : Type 1} → statement M
 read-list-spec =

@@ -22,6 +22,12 @@ Inv-loop text p i₀ i = (i ≤ 8) × None (other text p) i
 abbrev μ-loop : tie.MeasureT-loop
 μ-loop text p i₀ i = 8 - i
 
+abbrev begun : tie.At-loop Inv-loop μ-loop → tie.Start Inv-loop μ-loop
+begun c = c .before .before
+
+abbrev looped : tie.After-is-digit-at Inv-loop μ-loop → tie.At-loop Inv-loop μ-loop
+looped c = c .before .before
+
 abbrev seek : tie.Start Inv-loop μ-loop → ℕ → Bool
 seek s = other (s .args .text .now) (s .args .p)
 
@@ -36,8 +42,9 @@ is-digit-at-requires c κs = search needs
 
 returns : tie.Need-returns Inv-loop μ-loop
 unfolding run
-returns c = let h = c .before .before .before in
-    (found-here (seek (h .before .before)) (h .loop .inv .1) 8 (omega arith) (ap not (sym (c .before .is-digit-at .ensures)) ∙ c .if1 .taken), search needs)
+returns c =
+    let h = looped (c .before) in
+    (found-here (seek (begun h)) (h .loop .inv .1) 8 (omega arith) (ap not (sym (c .before .is-digit-at .ensures)) ∙ c .if1 .taken), search needs)
 
 add-i : tie.Need-add-i Inv-loop μ-loop
 add-i c = search needs
@@ -46,12 +53,13 @@ loop-less : tie.Need-loop-less Inv-loop μ-loop
 loop-less c = search needs
 
 loop-again : tie.Need-loop-again Inv-loop μ-loop
-loop-again c = let h = c .before .before .before in
-    (search needs, none-more (seek (h .before .before)) (h .loop .inv .1) (ap not (sym (c .before .is-digit-at .ensures)) ∙ c .if1 .left))
+loop-again c =
+    let h = looped (c .before) in
+    (search needs, none-more (seek (begun h)) (h .loop .inv .1) (ap not (sym (c .before .is-digit-at .ensures)) ∙ c .if1 .left))
 
 returns-2 : tie.Need-returns-2 Inv-loop μ-loop
 unfolding run
-returns-2 c = (found-none (seek (c .before .before .before)) (c .before .loop .inv .1) 8 (omega arith), search needs)
+returns-2 c = (found-none (seek (begun (c .before))) (c .before .loop .inv .1) 8 (omega arith), search needs)
 
 pub run-spec : {M : Type 1} → statement M
 run-spec =

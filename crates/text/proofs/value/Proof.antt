@@ -15,11 +15,13 @@ Inv-loop text p k x₀ i₀ x i = (i ≤ k) × (x ≡ value text p i) × (x ≤ 
 abbrev μ-loop : tie.MeasureT-loop
 μ-loop text p k x₀ i₀ x i = k - i
 
+abbrev looped : tie.After-digit-of Inv-loop μ-loop → tie.At-loop Inv-loop μ-loop
+looped c = c .before .before .before
+
 -- one digit more still fits
-bound : (c : tie.After-digit-of Inv-loop μ-loop) → 10 * c .before .before .before .loop .x + c .digit-of .result ≤ 2_299_999_977
+bound : (c : tie.After-digit-of Inv-loop μ-loop) → 10 * looped c .loop .x + c .digit-of .result ≤ 2_299_999_977
 bound c =
-    let loop = c .before .before .before .loop in
-    let l = loop in
+    let l = looped c .loop in
     omega (arith, more (l .i) (l .inv .2) (c .digit-of .ensures .1), most-of-eight (l .i + 1) (omega arith))
 
 loop-holds : tie.Need-loop-holds Inv-loop μ-loop
@@ -49,14 +51,16 @@ loop-less c = search needs
 
 loop-again : tie.Need-loop-again Inv-loop μ-loop
 loop-again c =
-    let loop = c .before .before .before .loop in
-    let l = loop in
-    (search needs, value-more _ _ (l .i) (l .inv .1) (c .before .byte .ensures) (c .digit-of .ensures .0), more (l .i) (l .inv .2) (c .digit-of .ensures .1))
+    let l = looped c .loop in (
+      search needs,
+      value-more _ _ (l .i) (l .inv .1) (c .before .byte .ensures) (c .digit-of .ensures .0),
+      more (l .i) (l .inv .2) (c .digit-of .ensures .1),
+    )
 
 returns : tie.Need-returns Inv-loop μ-loop
 returns c =
-    let args = c .before .before .before .args in
-    let q : c .before .loop .i ≡ args .k = omega arith in rw q at (c .before .loop .inv .1)
+    let l = c .before in
+    let q : l .loop .i ≡ l .before .before .args .k = omega arith in rw q at (l .loop .inv .1)
 
 pub value-spec : {M : Type 1} → statement M
 value-spec =
