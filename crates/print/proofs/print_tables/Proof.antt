@@ -12,6 +12,9 @@ use native.Mathlib.Omega.{arith}
 use Rattle.print.proofs.print_tables.Statement.{statement}
 use Rattle.print.proofs.print_tables.Tie as tie
 
+abbrev begun : tie.After-shared-slice-known3 → tie.Start
+begun c = c .before .before .before .before
+
 abbrev numbers : tie.Start → ℕ
 numbers s = length (s .args .v2e .now) + length (s .args .b2e .now) + 5 * elements (s .args .e2e .now) + 1
 
@@ -31,7 +34,8 @@ add-if1-3 : tie.Need-add-if1-3
 add-if1-3 c = search needs
 
 returns : tie.Need-returns
-returns c = let s = c .before .before .before .before .before in
+returns c =
+    let s = begun (c .before) in
     let w = nothing-shown (s .args .out .now) (lines s) 0 (no-room (length (s .args .out .now)) 0 (numbers s) (omega arith)) in
     (w, (omega arith, refl))
 
@@ -48,17 +52,22 @@ same-length : tie.Need-same-length
 same-length c = search needs
 
 returns-2 : tie.Need-returns-2
-returns-2 c = let z = c .before .before in
-    let r = z .before .before .before .before in
-    let l = r .before .before .before .before in
-    let s = l .before .before .before .before .before .before .before in
+returns-2 c =
+    let ended = c .before .before in
+    let rowed = ended .before .before .before .before in
+    let first = rowed .before .before .before .before in
+    let tested = first .before .before in
+    let s = begun (tested .before) in
     let a = s .args in
     let rows = joined (rowLine (a .e2e .now)) (elements (a .e2e .now)) in
     let last = lineOf 66 (a .b2e .now) in
-    let h = l .before .before .if1 .left in
+    let h = tested .if1 .left in
     let room = has-room (length (a .out .now)) 0 (numbers s) (omega arith) in
-    let fits : z .put-line2 .result ≤ length (a .out .now) = omega (arith, l .put-line .ensures .1, r .put-rows .ensures .1, z .put-line2 .ensures .1) in
-    let w = written-next (a .out .now) (lineOf 86 (a .v2e .now)) (rows ++ last) 0 (l .put-line .ensures .0) (written-next _ rows last _ (r .put-rows .ensures .0) (z .put-line2 .ensures .0)) in
+    let v = first .put-line .ensures in
+    let e = rowed .put-rows .ensures in
+    let b = ended .put-line2 .ensures in
+    let fits : ended .put-line2 .result ≤ length (a .out .now) = omega (arith, v .1, e .1, b .1) in
+    let w = written-next (a .out .now) (lineOf 86 (a .v2e .now)) (rows ++ last) 0 (v .0) (written-next _ rows last _ (e .0) (b .0)) in
     (rw room w, counts (a .out .now) (lines s) fits w)
 
 pub print-tables-spec : {M : Type 1} → statement M

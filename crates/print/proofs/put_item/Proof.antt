@@ -11,8 +11,12 @@ use native.Mathlib.Omega.{arith}
 use Rattle.print.proofs.put_item.Statement.{statement}
 use Rattle.print.proofs.put_item.Tie as tie
 
+-- the comma is put
+abbrev put : tie.After-shared-slice-known2 → tie.After-put-byte
+put c = c .before .before .before .before
+
 abbrev start : tie.After-shared-slice-known2 → tie.Start
-start c = c .before .before .before .before .before .before .before .before
+start c = put c .before .before .before .before
 
 ten : (c : tie.After-shared-slice-known2) → length (digits (at (start c .args .numbers .now) (start c .args .i))) ≤ 10
 ten c = ten-digits (at (start c .args .numbers .now) (start c .args .i)) (c .shared-slice-known2 .given (start c .args .i) .fits)
@@ -27,16 +31,18 @@ shared-slice-read-put-number : tie.Need-shared-slice-read-put-number
 shared-slice-read-put-number c = search needs
 
 put-number-requires : tie.Need-put-number-requires
-put-number-requires c κs = let b = c .before .before .before .before in
-    omega (arith, b .put-byte .ensures .0, b .put-byte .kept .0, ten c)
+put-number-requires c κs = let b = put c .put-byte in omega (arith, b .ensures .0, b .kept .0, ten c)
 
 same-length : tie.Need-same-length
 same-length c = search needs
 
 returns : tie.Need-returns
-returns c = let n = c .before .before in
-    let b = n .before .before .before .before .before in
-    (written-next (start (n .before) .args .out .now) (44 ∷ []) (digits _) _ (b .put-byte .ensures) (n .put-number .ensures), omega (arith, b .put-byte .ensures .0, n .put-number .ensures .0, ten (n .before)))
+returns c =
+    let n = c .before .before in
+    let b = put (n .before) .put-byte .ensures in (
+      written-next (start (n .before) .args .out .now) (44 ∷ []) (digits _) _ b (n .put-number .ensures),
+      omega (arith, b .0, n .put-number .ensures .0, ten (n .before)),
+    )
 
 pub put-item-spec : {M : Type 1} → statement M
 put-item-spec =

@@ -16,6 +16,9 @@ Inv-loop out₀ at numbers p₀ i₀ out p i = (i ≤ length numbers) × (p ≤ 
 abbrev μ-loop : tie.MeasureT-loop
 μ-loop out₀ at numbers p₀ i₀ out p i = length numbers - i
 
+abbrev begun : tie.At-loop Inv-loop μ-loop → tie.Start Inv-loop μ-loop
+begun c = c .before .before .before
+
 loop-holds : tie.Need-loop-holds Inv-loop μ-loop
 unfolding joined
 loop-holds c = (search needs, search needs, refl, (omega arith, refl))
@@ -30,18 +33,22 @@ loop-less : tie.Need-loop-less Inv-loop μ-loop
 loop-less c = search needs
 
 loop-again : tie.Need-loop-again Inv-loop μ-loop
-loop-again c = let n = c .before .before in
-    let h = n .before .before .before in
-    (search needs, omega (arith, n .put-item .ensures .1), n .put-item .kept .0 ∙ h .loop .inv .2, joined-next (item (h .before .before .before .args .numbers .now)) (h .loop .i) _ _ (h .loop .inv .3) (n .put-item .ensures .0))
+loop-again c =
+    let n = c .before .before in
+    let h = n .before .before .before in (
+      search needs,
+      omega (arith, n .put-item .ensures .1),
+      n .put-item .kept .0 ∙ h .loop .inv .2,
+      joined-next (item (begun h .args .numbers .now)) (h .loop .i) _ _ (h .loop .inv .3) (n .put-item .ensures .0),
+    )
 
 same-length : tie.Need-same-length Inv-loop μ-loop
 same-length c = search needs
 
 returns : tie.Need-returns Inv-loop μ-loop
 returns c =
-    let args = c .before .before .before .before .args in
-    let i : c .before .loop .i ≡ length (args .numbers .now) = omega arith in
-    (rw i at (c .before .loop .inv .3), omega arith)
+    let h = c .before in
+    let all : h .loop .i ≡ length (begun h .args .numbers .now) = omega arith in (rw all at (h .loop .inv .3), omega arith)
 
 pub put-items-spec : {M : Type 1} → statement M
 put-items-spec =

@@ -22,13 +22,15 @@ same-length c = search needs
 
 returns : tie.Need-returns
 returns c =
-    let e = c .before .before in
-    let n = e .before .before .before .before in
-    let b = n .before .before .before .before in
-    let a = b .before .before .before .before .args in
+    let ended = c .before .before in
+    let listed = ended .before .before .before .before in
+    let lettered = listed .before .before .before .before in
+    let a = lettered .before .before .before .before .args in
     let xs = items (a .numbers .now) in
-    let w = written-next (a .out .now) (a .letter ∷ []) xs _ (b .put-byte .ensures) (n .put-items .ensures .0) in
-    (written-next (a .out .now) (a .letter ∷ xs) (10 ∷ []) _ w (e .put-byte2 .ensures), omega (arith, b .put-byte .ensures .0, n .put-items .ensures .1, e .put-byte2 .ensures .0))
+    let w = written-next (a .out .now) (a .letter ∷ []) xs _ (lettered .put-byte .ensures) (listed .put-items .ensures .0) in (
+      written-next (a .out .now) (a .letter ∷ xs) (10 ∷ []) _ w (ended .put-byte2 .ensures),
+      omega (arith, lettered .put-byte .ensures .0, listed .put-items .ensures .1, ended .put-byte2 .ensures .0),
+    )
 
 pub put-line-spec : {M : Type 1} → statement M
 put-line-spec =

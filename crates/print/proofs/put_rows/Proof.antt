@@ -17,6 +17,9 @@ Inv-loop out₀ at e2e p₀ k₀ out p k = (k ≤ elements e2e) × (p ≤ at + 5
 abbrev μ-loop : tie.MeasureT-loop
 μ-loop out₀ at e2e p₀ k₀ out p k = elements e2e - k
 
+abbrev begun : tie.At-loop Inv-loop μ-loop → tie.Start Inv-loop μ-loop
+begun c = c .before .before .before
+
 loop-holds : tie.Need-loop-holds Inv-loop μ-loop
 unfolding joined
 loop-holds c = (search needs, search needs, refl, (omega arith, refl))
@@ -31,18 +34,22 @@ loop-less : tie.Need-loop-less Inv-loop μ-loop
 loop-less c = search needs
 
 loop-again : tie.Need-loop-again Inv-loop μ-loop
-loop-again c = let n = c .before .before in
-    let h = n .before .before .before in
-    (search needs, omega (arith, n .put-row .ensures .1), n .put-row .kept .0 ∙ h .loop .inv .2, joined-next (rowLine (h .before .before .before .args .e2e .now)) (h .loop .k) _ _ (h .loop .inv .3) (n .put-row .ensures .0))
+loop-again c =
+    let n = c .before .before in
+    let h = n .before .before .before in (
+      search needs,
+      omega (arith, n .put-row .ensures .1),
+      n .put-row .kept .0 ∙ h .loop .inv .2,
+      joined-next (rowLine (begun h .args .e2e .now)) (h .loop .k) _ _ (h .loop .inv .3) (n .put-row .ensures .0),
+    )
 
 same-length : tie.Need-same-length Inv-loop μ-loop
 same-length c = search needs
 
 returns : tie.Need-returns Inv-loop μ-loop
 returns c =
-    let args = c .before .before .before .before .args in
-    let k : c .before .loop .k ≡ elements (args .e2e .now) = omega arith in
-    (rw k at (c .before .loop .inv .3), omega arith)
+    let h = c .before in
+    let all : h .loop .k ≡ elements (begun h .args .e2e .now) = omega arith in (rw all at (h .loop .inv .3), omega arith)
 
 pub put-rows-spec : {M : Type 1} → statement M
 put-rows-spec =
