@@ -1,13 +1,13 @@
 -- Buffers of fit lengths, and the lines by cases.
 -- Assumes nothing.
-use mathlib.Core.Bool.{true, false}
+use mathlib.Core.Bool.{true}
 use mathlib.Core.List.{List, _++_}
 use mathlib.Core.Path.{_≡_, refl, ap, sym, subst, _∙_}
 use Prim.Native.Nat.{ℕ, _+_, _*_, _/_, _≤_}
 use native.Mathlib.Omega.{arith}
 use borrow.Author.Tests.{eq-eqb, ne-eqb}
 use mathlib.Core.Logic.{_⊎_, inl, inr}
-use lib.Dec.{eqb, leb}
+use lib.Dec.{eqb}
 use lib.ListN.{length, take, drop, length-append, length-drop}
 use lib.Seq.{take-at, take-all, length-take-le}
 use Rattle.lists.specs.TestLaws.{true-of, both-pass, means-both, means-eq, means-le, decide}
@@ -41,7 +41,7 @@ pub record Fits (n : ℕ) (L : List ℕ) (w : Buffers) : Type 0 where
   pub border : length L ≤ length (w .border)
   pub work : n + 16 * elements L ≤ length (w .work)
 
-module _ (n : ℕ) (L : List ℕ) (w : Buffers) (fit : Fits n L w) where
+module _ {n : ℕ} {L : List ℕ} {w : Buffers} (fit : Fits n L w) where
   sized : callSizes n L (w .opposites) ≡ true
   unfolding callSizes
   sized =
@@ -76,13 +76,13 @@ module _ (n : ℕ) (L : List ℕ) (w : Buffers) (fit : Fits n L w) where
       let e : buildAnswer n L w ≡ roomCheck (length (w .border)) (listAnswer n L) = rw (sized, lengthened, lengthChecks) in e ∙ roomy
 
   -- a refusal is shown as it is
-  pub refusal-shown : (size r a b : ℕ) → 22_022 ≤ size → refused r a b ≡ buildAnswer n L w → shownRefusal size r a b ≡ meshLines n L
+  pub refusal-shown : {size r a b : ℕ} → 22_022 ≤ size → refused r a b ≡ buildAnswer n L w → shownRefusal size r a b ≡ meshLines n L
   unfolding meshLines answerLines
-  refusal-shown size r a b h e =
+  refusal-shown {size} {r} {a} {b} h e =
       ap (λ x. shownIf x (refusalLine r a b)) (has-room size 0 3 (omega arith)) ∙ ap (answerLines n L) (e ∙ fit-answer)
 
   -- after counts the tables are in their buffers
-  module _ (k e : ℕ) (V2e E2e B2e work : List ℕ) (given : gives k e ≡ buildAnswer n L w) (left : lent V2e E2e B2e work ≡ buildLeaves n L w) where
+  module _ {k e : ℕ} {V2e E2e B2e work : List ℕ} (given : gives k e ≡ buildAnswer n L w) (left : lent V2e E2e B2e work ≡ buildLeaves n L w) where
     count : k ≡ borders L
     count = counts-are n L k e (sym fit-answer ∙ sym given)
 
@@ -108,13 +108,13 @@ module _ (n : ℕ) (L : List ℕ) (w : Buffers) (fit : Fits n L w) where
     unfolding meshLines answerLines
     lines = rw (vertices-are, opposites-are, cut) (ap (answerLines n L) (given ∙ fit-answer))
 
-    pub tables-shown : (size : ℕ) → 22_022 ≤ size → shownTables size V2e E2e (take k B2e) ≡ meshLines n L
-    tables-shown size h =
+    pub tables-shown : {size : ℕ} → 22_022 ≤ size → shownTables size V2e E2e (take k B2e) ≡ meshLines n L
+    tables-shown {size} h =
         let v : length V2e ≡ n = ap length vertices-are ∙ length-v2e L n in
         let o : length E2e ≡ 4 * elements L = ap length opposites-are ∙ length-e2e L in
         let b : length (take k B2e) ≡ borders L = ap length cut ∙ length-b2e L in
         ap (λ x. shownIf x (tableLines V2e E2e (take k B2e)))
-        (has-room size 0 (length V2e + length (take k B2e) + 5 * elements E2e + 1) (omega (arith, v, o, b, borders-bound L, fit .few, fit .small, fit .fours)))
+        (has-room size 0 (length V2e + length (take k B2e) + 5 * elements E2e + 1) (omega (arith, borders-bound L, fit .few, fit .small, fit .fours)))
         ∙ lines
 
 -- the lines of a text by cases
@@ -131,48 +131,52 @@ module _ (t : List ℕ) where
   unfolding theList
   length-list = length-tab (4 * theM t) (theNumber t)
 
--- what is known of a mesh that was read into the list L
-pub record Read (t L : List ℕ) (n m : ℕ) : Type 0 where
+-- a mesh that was read into the list L: its rows are the first e entries, and v is n as an index
+pub record Read (t L : List ℕ) (n v e : ℕ) : Type 0 where
   pub form : firstBad t ≡ 0
   pub few : n ≤ 200
-  pub small : m ≤ 200
   pub vertices : n ≡ theN t
-  pub rows : take (4 * m) L ≡ theList t
+  pub wide : v ≡ n
+  pub small : e ≤ 800
+  pub fours : e ≡ 4 * (e / 4)
+  pub rows : take e L ≡ theList t
+  pub many : length (theList t) ≡ e
   pub long : length L ≡ 800
-  pub fours : length (theList t) ≡ 4 * m
 
 -- with room for 800 entries a text in form gives a mesh, and any other its first bad line
-module _ (t L : List ℕ) (p : Parsed) (room : length L ≡ 800) (said : p ≡ parsed t (length L)) where
+module _ (t L : List ℕ) {p : Parsed} (room : length L ≡ 800) (said : p ≡ parsed t (length L)) where
   form-or-bad : ((firstBad t ≡ 0) × (p ≡ Mesh (theN t) (theM t))) ⊎ ((firstBad t ≡ 0 → ⊥) × (p ≡ Bad (firstBad t)))
   form-or-bad = elim (decide (means-eq (firstBad t) 0)) [
     | inl e ↦ inl (e, said ∙ parsed-form t (length L) (omega arith) e)
     | inr d ↦ inr (d, said ∙ parsed-bad t (length L) d)
   ]
 
-  pub read-mesh : (L′ : List ℕ) (n m : ℕ) → p ≡ Mesh n m → L′ ≡ listAfter p t L → Read t L′ n m
+  pub read-mesh : {n m v e : ℕ} {L′ : List ℕ} → p ≡ Mesh n m → L′ ≡ listAfter p t L → v ≡ n → e ≡ 4 * m → Read t L′ n v e
   unfolding listAfter
-  read-mesh L′ n m e f = go form-or-bad
+  read-mesh {n} {m} {v} {e} {L′} is f wide rows = go form-or-bad
     where
-      go : ((firstBad t ≡ 0) × (p ≡ Mesh (theN t) (theM t))) ⊎ ((firstBad t ≡ 0 → ⊥) × (p ≡ Bad (firstBad t))) → Read t L′ n m
+      go : ((firstBad t ≡ 0) × (p ≡ Mesh (theN t) (theM t))) ⊎ ((firstBad t ≡ 0 → ⊥) × (p ≡ Bad (firstBad t))) → Read t L′ n v e
       go (inr (d, g)) = let z : _≡_ {A = ℕ} 0 1 = cc in absurd (omega arith)
       go (inl (z, g)) =
           let h = head-bounds t (form-head t z) in
           let a : n ≡ theN t = cc in
           let b : m ≡ theM t = cc in
-          let l : length (theList t) ≡ 4 * m = length-list t ∙ ap (λ (i : ℕ). 4 * i) (sym b) in
-          let r : L′ ≡ theList t ++ drop (4 * m) L = f ∙ ap (λ (q : Parsed). listAfter q t L) e in
+          let l : length (theList t) ≡ e = length-list t ∙ ap (λ (i : ℕ). 4 * i) (sym b) ∙ sym rows in
+          let r : L′ ≡ theList t ++ drop e L = f ∙ ap (λ (q : Parsed). listAfter q t L) is ∙ ap (λ (i : ℕ). theList t ++ drop i L) (sym rows) in
           record {
             form = z;
-            few = omega (arith, h, a);
-            small = omega (arith, h, b);
+            few = omega (arith, h);
             vertices = a;
-            rows = ap (take (4 * m)) r ∙ take-at (theList t) (drop (4 * m) L) (4 * m) l;
-            long = rw (r, length-append, length-drop) (omega (arith, l, h, b));
-            fours = l;
+            wide = wide;
+            small = omega (arith, h);
+            fours = omega arith;
+            rows = ap (take e) r ∙ take-at (theList t) (drop e L) e l;
+            many = l;
+            long = rw (r, length-append, length-drop) (omega (arith, h));
           }
 
-  pub bad-shown : (size line : ℕ) → 22_022 ≤ size → p ≡ Bad line → shownRefusal size 14 line 0 ≡ listing t
-  bad-shown size line h e = go form-or-bad
+  pub bad-shown : {size line : ℕ} → 22_022 ≤ size → p ≡ Bad line → shownRefusal size 14 line 0 ≡ listing t
+  bad-shown {size} {line} h e = go form-or-bad
     where
       go : ((firstBad t ≡ 0) × (p ≡ Mesh (theN t) (theM t))) ⊎ ((firstBad t ≡ 0 → ⊥) × (p ≡ Bad (firstBad t))) → shownRefusal size 14 line 0 ≡ listing t
       go (inl (z, g)) = let z : _≡_ {A = ℕ} 0 1 = cc in absurd (omega arith)
@@ -190,27 +194,22 @@ module _ (t L : List ℕ) (p : Parsed) (room : length L ≡ 800) (said : p ≡ p
       go (inr (d, g)) = let z : _≡_ {A = ℕ} 0 1 = cc in omega arith
 
 -- the mesh that was read, with parts v and e long of buffers for the largest mesh
-module _ (t L : List ℕ) (n m v e : ℕ) (known : Read t L n m) (vs : v ≡ n) (es : e ≡ 4 * m) where
-  rows-are : take e L ≡ theList t
-  rows-are = ap (λ (i : ℕ). take i L) es ∙ known .rows
-
+module _ {t L : List ℕ} {n v e : ℕ} (k : Read t L n v e) where
   pub mesh-is : meshLines n (take e L) ≡ listing t
-  mesh-is = ap (meshLines n) rows-are ∙ ap (λ (i : ℕ). meshLines i (theList t)) (known .vertices) ∙ sym (listing-form t (known .form))
+  mesh-is = ap (meshLines n) (k .rows) ∙ ap (λ (i : ℕ). meshLines i (theList t)) (k .vertices) ∙ sym (listing-form t (k .form))
 
-  pub inside : (v ≤ 200) × (e ≤ 800)
-  inside = (omega (arith, known .few), omega (arith, known .small))
-
-  pub fits : (V2e E2e B2e work : List ℕ) → length V2e ≡ 200 → length E2e ≡ 800 → length B2e ≡ 800 → length work ≡ 3_400 → Fits n (take e L) (lent (take v V2e) (take e E2e) B2e work)
+  pub fits : (V2e E2e B2e work : List ℕ) → length V2e ≡ 200 → length E2e ≡ 800 → length B2e ≡ 800 → length work ≡ 3_400
+      → Fits n (take e L) (lent (take v V2e) (take e E2e) B2e work)
   fits V2e E2e B2e work a b c d =
-      let l : length (take e L) ≡ 4 * m = ap length rows-are ∙ known .fours in
+      let l : length (take e L) ≡ e = ap length (k .rows) ∙ k .many in
       record {
-        few = known .few;
-        small = omega (arith, l, known .small);
-        fours = omega (arith, l);
-        vertices = length-take-le v V2e (omega (arith, inside)) ∙ vs;
-        opposites = length-take-le e E2e (omega (arith, inside)) ∙ es ∙ sym l;
-        border = omega (arith, l, known .small);
-        work = omega (arith, l, known .small, known .few);
+        few = k .few;
+        small = omega (arith, k .small);
+        fours = omega (arith, k .fours);
+        vertices = length-take-le v V2e (omega (arith, k .few, k .wide)) ∙ k .wide;
+        opposites = length-take-le e E2e (omega (arith, k .small)) ∙ sym l;
+        border = omega (arith, k .small);
+        work = omega (arith, k .small, k .few);
       }
 
 -- what is written is what was to be

@@ -1,41 +1,44 @@
 -- `listed::list_in` meets its contract.
 -- Assumes nothing.
 use borrow.Author.Needs.{needs}
-use mathlib.Core.Path.{_≡_, ap, sym, _∙_}
+use mathlib.Core.Path.{ap, sym}
+use mathlib.Core.List.{List}
 use Prim.Native.Nat.{ℕ, _*_}
 use native.Mathlib.Omega.{arith}
-use lib.ListN.{length}
 use lib.Seq.{length-take-le}
-use Rattle.listed.specs.Fit.{Read, read-mesh, bad-shown, never-short, mesh-is, inside, fits, written-as}
+use Rattle.listed.specs.Fit.{Read, read-mesh, bad-shown, never-short, mesh-is, fits, written-as}
 use Rattle.listed.proofs.list_in.Statement.{statement}
 use Rattle.listed.proofs.list_in.Tie as tie
 
--- the start, from the call of parse, and that call from after n and m are widened
 abbrev start : tie.After-parse → tie.Start
 start c = c .before .before .before .before .before .before .before .before .before
 
+-- the text is a mesh, with n and m
+abbrev meshed : tie.After-wide2 → tie.After-p
+meshed c = c .before .before .before
+
 abbrev parsing : tie.After-wide2 → tie.After-parse
-parsing c = c .before .before .before .before .before .before .before
+parsing c = meshed c .before .before .before .before
 
-abbrev n : tie.After-wide2 → ℕ
-n c =
-    let p = c .before .before .before .p in
-    p .given .0 .0
+abbrev begun : tie.After-wide2 → tie.Start
+begun c = start (parsing c)
 
-abbrev m : tie.After-wide2 → ℕ
-m c =
-    let p = c .before .before .before .p in
-    p .given .0 .1 .0
+abbrev list : tie.After-wide2 → List ℕ
+list c = parsing c .parse .last .1 .0
 
-known : (c : tie.After-wide2) → Read (start (parsing c) .args .text .now) (parsing c .parse .last .1 .0) (n c) (m c)
-known c =
-    let p = c .before .before .before .p in
-    let a = parsing c in
-    let s = start a in
-    read-mesh (s .args .text .now) (s .args .list .now) (a .parse .result) (s .pre .0 .0) (a .parse .ensures .0) (a .parse .last .1 .0) (n c) (m c) (p .given .1) (a .parse .ensures .1)
+read : (c : tie.After-wide2) → Read (begun c .args .text .now) (list c) (meshed c .p .given .0 .0) (c .before .wide .result) (4 * c .wide2 .result)
+read c =
+    let a = parsing c .parse .ensures in
+    let s = begun c in
+    read-mesh (s .args .text .now) (s .args .list .now) (s .pre .0 .0) (a .0) (meshed c .p .given .1) (a .1) (c .before .wide .ensures)
+    (ap (λ (i : ℕ). 4 * i) (c .wide2 .ensures))
 
-rows : (c : tie.After-wide2) → 4 * c .wide2 .result ≡ 4 * m c
-rows c = ap (λ (i : ℕ). 4 * i) (c .wide2 .ensures)
+-- its parts lent, and its lines written
+abbrev widened : tie.After-list-mesh-arg6 → tie.After-wide2
+widened c = c .before .before .before .before .before .before
+
+abbrev listed : tie.After-slice-known12 → tie.After-list-mesh
+listed c = c .before .before .before .before .before .before .before .before .before .before
 
 parse-requires : tie.Need-parse-requires
 parse-requires c κs = search needs
@@ -53,53 +56,35 @@ mul-e : tie.Need-mul-e
 mul-e c = search needs
 
 slice-reshare-prefix-list-mesh : tie.Need-slice-reshare-prefix-list-mesh
-slice-reshare-prefix-list-mesh c =
-    let w = c in
-    let s = start (parsing w) in
-    let h = inside (start (parsing w) .args .text .now) (parsing w .parse .last .1 .0) (n w) (m w) (w .before .wide .result) (4 * w .wide2 .result) (known w) (w .before .wide .ensures) (rows w) in
-    omega (arith, h, known w .long)
+slice-reshare-prefix-list-mesh c = let h = read c in omega arith
 
 slice-aggregate-list-mesh : tie.Need-slice-aggregate-list-mesh
 slice-aggregate-list-mesh c =
     let w = c .before in
-    let s = start (parsing w) in
-    let h = inside (start (parsing w) .args .text .now) (parsing w .parse .last .1 .0) (n w) (m w) (w .before .wide .result) (4 * w .wide2 .result) (known w) (w .before .wide .ensures) (rows w) in
-    sym (length-take-le (4 * w .wide2 .result) (parsing w .parse .last .1 .0) (omega (arith, h, known w .long)))
+    let h = read w in sym (length-take-le (4 * w .wide2 .result) (list w) (omega arith))
 
 slice-relend-prefix-list-mesh : tie.Need-slice-relend-prefix-list-mesh
-slice-relend-prefix-list-mesh c =
-    let w = c .before in
-    let s = start (parsing w) in
-    let h = inside (start (parsing w) .args .text .now) (parsing w .parse .last .1 .0) (n w) (m w) (w .before .wide .result) (4 * w .wide2 .result) (known w) (w .before .wide .ensures) (rows w) in
-    omega (arith, h, s .pre)
+slice-relend-prefix-list-mesh c = let h = read (c .before) in omega (arith, begun (c .before) .pre)
 
 slice-aggregate-list-mesh-2 : tie.Need-slice-aggregate-list-mesh-2
 slice-aggregate-list-mesh-2 c =
     let w = c .before .before in
-    let s = start (parsing w) in
-    let h = inside (start (parsing w) .args .text .now) (parsing w .parse .last .1 .0) (n w) (m w) (w .before .wide .result) (4 * w .wide2 .result) (known w) (w .before .wide .ensures) (rows w) in
-    sym (length-take-le (w .before .wide .result) (s .args .v2e .now) (omega (arith, h, s .pre)))
+    let h = read w in sym (length-take-le (w .before .wide .result) (begun w .args .v2e .now) (omega (arith, begun w .pre)))
 
 slice-relend-prefix-list-mesh-2 : tie.Need-slice-relend-prefix-list-mesh-2
-slice-relend-prefix-list-mesh-2 c =
-    let w = c .before .before in
-    let s = start (parsing w) in
-    let h = inside (start (parsing w) .args .text .now) (parsing w .parse .last .1 .0) (n w) (m w) (w .before .wide .result) (4 * w .wide2 .result) (known w) (w .before .wide .ensures) (rows w) in
-    omega (arith, h, s .pre)
+slice-relend-prefix-list-mesh-2 c = let h = read (c .before .before) in omega (arith, begun (c .before .before) .pre)
 
 slice-aggregate-list-mesh-3 : tie.Need-slice-aggregate-list-mesh-3
 slice-aggregate-list-mesh-3 c =
     let w = c .before .before .before in
-    let s = start (parsing w) in
-    let h = inside (start (parsing w) .args .text .now) (parsing w .parse .last .1 .0) (n w) (m w) (w .before .wide .result) (4 * w .wide2 .result) (known w) (w .before .wide .ensures) (rows w) in
-    sym (length-take-le (4 * w .wide2 .result) (s .args .e2e .now) (omega (arith, h, s .pre)))
+    let h = read w in sym (length-take-le (4 * w .wide2 .result) (begun w .args .e2e .now) (omega (arith, begun w .pre)))
 
 list-mesh-requires : tie.Need-list-mesh-requires
 list-mesh-requires c κs =
-    let w = c .before .before .before .before .before .before in
-    let s = start (parsing w) in
+    let w = widened c in
+    let s = begun w in
     let (_, v, e, b, k) = s .pre .0 in
-    (fits (start (parsing w) .args .text .now) (parsing w .parse .last .1 .0) (n w) (m w) (w .before .wide .result) (4 * w .wide2 .result) (known w) (w .before .wide .ensures) (rows w) (s .args .v2e .now) (s .args .e2e .now) (s .args .b2e .now) (s .args .work .now) v e b k, s .pre .1)
+    (fits (read w) (s .args .v2e .now) (s .args .e2e .now) (s .args .b2e .now) (s .args .work .now) v e b k, s .pre .1)
 
 enum-known-p-2 : tie.Need-enum-known-p-2
 enum-known-p-2 c = search needs
@@ -130,9 +115,8 @@ same-length-6 c = search needs
 
 returns : tie.Need-returns
 returns c =
-    let z = c .before .before .before .before .before .before .before .before .before .before in
-    let w = z .before .before .before .before .before .before .before in
-    (written-as (start (parsing w) .args .out .now) (mesh-is (start (parsing w) .args .text .now) (parsing w .parse .last .1 .0) (n w) (m w) (w .before .wide .result) (4 * w .wide2 .result) (known w) (w .before .wide .ensures) (rows w)) (z .list-mesh .ensures .0), z .list-mesh .ensures .1)
+    let z = listed c in
+    let w = widened (z .before) in (written-as (begun w .args .out .now) (mesh-is (read w)) (z .list-mesh .ensures .0), z .list-mesh .ensures .1)
 
 same-length-7 : tie.Need-same-length-7
 same-length-7 c = search needs
@@ -143,11 +127,10 @@ same-length-8 c = search needs
 returns-2 : tie.Need-returns-2
 returns-2 c =
     let z = c .before .before in
-    let q = z .before .before .before in
-    let a = q .before .before .before .before in
+    let bad = z .before .before .before in
+    let a = bad .before .before .before .before in
     let s = start a in
-    let e =
-    bad-shown (s .args .text .now) (s .args .list .now) (a .parse .result) (s .pre .0 .0) (a .parse .ensures .0) (length (s .args .out .now)) (q .p2 .given .0 .0) (s .pre .1) (q .p2 .given .1) in
+    let e = bad-shown (s .args .text .now) (s .args .list .now) (s .pre .0 .0) (a .parse .ensures .0) (s .pre .1) (bad .p2 .given .1) in
     (written-as (s .args .out .now) e (z .print-refusal .ensures .0), z .print-refusal .ensures .1)
 
 same-length-9 : tie.Need-same-length-9
@@ -157,7 +140,7 @@ returns-3 : tie.Need-returns-3
 returns-3 c =
     let a = c .before .before .before .before in
     let s = start a in
-    absurd (never-short (s .args .text .now) (s .args .list .now) (a .parse .result) (s .pre .0 .0) (a .parse .ensures .0) (c .enum-told .given .1))
+    absurd (never-short (s .args .text .now) (s .args .list .now) (s .pre .0 .0) (a .parse .ensures .0) (c .enum-told .given .1))
 
 pub list-in-spec : {M : Type 1} → statement M
 list-in-spec =

@@ -3,38 +3,46 @@
 use borrow.Author.Needs.{needs}
 use mathlib.Core.Path.{_≡_, ap, sym, _∙_}
 use Prim.Native.Nat.{ℕ}
-use lib.ListN.{length}
 use lib.Seq.{length-take-le}
-use Rattle.rules.specs.Refusals.{Buffers, gives, refused, buildAnswer}
+use Rattle.rules.specs.Refusals.{Answer, Buffers, gives, refused, buildAnswer}
 use Rattle.answer.specs.Numbers.{numbers}
 use Rattle.build.specs.Building.{lent}
 use Rattle.listed.specs.Fit.{border-long, tables-shown, refusal-shown, written-as}
 use Rattle.listed.proofs.list_mesh.Statement.{statement}
 use Rattle.listed.proofs.list_mesh.Tie as tie
 
--- the start, from the call of build, and that call from after the count is widened
 abbrev start : tie.After-build → tie.Start
 start c = c .before .before .before .before .before .before .before .before .before .before .before
 
 abbrev lent-to : tie.Start → Buffers
 lent-to s = lent (s .args .v2e .now) (s .args .e2e .now) (s .args .b2e .now) (s .args .work .now)
 
-abbrev built : tie.After-wide → tie.After-build
-built c = c .before .before .before .before .before .before .before .before .before .before .before .before
+-- the match of what it answered
+abbrev built : tie.After-slice-known9 → tie.After-build
+built c = c .before .before .before .before .before .before .before .before
 
-abbrev second : tie.After-wide → ℕ
-second c = c .before .before .a .given .0 .1 .0
+abbrev counted : tie.After-wide → tie.After-a
+counted c = c .before .before
 
-given : (c : tie.After-wide) → gives (c .wide .result) (second c) ≡ buildAnswer (start (built c) .args .n) (start (built c) .args .list .now) (lent-to (start (built c)))
-given c = ap (λ (i : ℕ). gives i (second c)) (c .wide .ensures) ∙ sym (ap numbers (c .before .before .a .given .1)) ∙ built c .build .ensures .0
+abbrev tabled : tie.After-wide → tie.After-build
+tabled c = built (counted c .before .before)
 
-abbrev refusing : tie.After-a2 → tie.Start
-refusing c = start (c .before .before .before .before .before .before .before .before .before .before)
+abbrev answer : tie.After-build → Answer
+answer c = let s = start c in buildAnswer (s .args .n) (s .args .list .now) (lent-to s)
 
-no-tables : (c : tie.After-a2) → refused (c .a2 .given .0 .0) (c .a2 .given .0 .1 .0) (c .a2 .given .0 .1 .1 .0) ≡ buildAnswer (refusing c .args .n) (refusing c .args .list .now) (lent-to (refusing c))
-no-tables c =
-    let build = c .before .before .before .before .before .before .before .before .before .before .build in
-    sym (ap numbers (c .a2 .given .1)) ∙ build .ensures .0
+given : (c : tie.After-wide) → gives (c .wide .result) (counted c .a .given .0 .1 .0) ≡ answer (tabled c)
+given c =
+    let a = counted c .a .given in
+    ap (λ (i : ℕ). gives i (a .0 .1 .0)) (c .wide .ensures) ∙ sym (ap numbers (a .1)) ∙ tabled c .build .ensures .0
+
+abbrev refusing : tie.After-a2 → tie.After-build
+refusing c = built (c .before .before)
+
+no-tables : (c : tie.After-a2) → let g = c .a2 .given .0 in refused (g .0) (g .1 .0) (g .1 .1 .0) ≡ answer (refusing c)
+no-tables c = sym (ap numbers (c .a2 .given .1)) ∙ refusing c .build .ensures .0
+
+abbrev lent-tables : tie.After-print-tables-arg4 → tie.After-wide
+lent-tables c = c .before .before .before .before
 
 build-requires : tie.Need-build-requires
 build-requires c κs = search needs
@@ -48,12 +56,12 @@ wide-requires c κs = search needs
 slice-reshare-prefix-print-tables : tie.Need-slice-reshare-prefix-print-tables
 slice-reshare-prefix-print-tables c =
     let w = c .before .before .before in
-    border-long (start (built w) .args .n) (start (built w) .args .list .now) (lent-to (start (built w))) (start (built w) .pre .0) (w .wide .result) (second w) _ _ _ _ (given w) (built w .build .ensures .1)
+    border-long (start (tabled w) .pre .0) (given w) (tabled w .build .ensures .1)
 
 slice-aggregate-print-tables : tie.Need-slice-aggregate-print-tables
 slice-aggregate-print-tables c =
-    let w = c .before .before .before .before in
-    sym (length-take-le (w .wide .result) _ (border-long (start (built w) .args .n) (start (built w) .args .list .now) (lent-to (start (built w))) (start (built w) .pre .0) (w .wide .result) (second w) _ _ _ _ (given w) (built w .build .ensures .1)))
+    let w = lent-tables c in
+    sym (length-take-le (w .wide .result) _ (border-long (start (tabled w) .pre .0) (given w) (tabled w .build .ensures .1)))
 
 print-tables-requires : tie.Need-print-tables-requires
 print-tables-requires c κs = search needs
@@ -82,9 +90,9 @@ same-length-5 c = search needs
 returns : tie.Need-returns
 returns c =
     let z = c .before .before in
-    let w = z .before .before .before .before .before in
-    let s = start (built w) in
-    let e = tables-shown (start (built w) .args .n) (start (built w) .args .list .now) (lent-to (start (built w))) (start (built w) .pre .0) (w .wide .result) (second w) _ _ _ _ (given w) (built w .build .ensures .1) (length (s .args .out .now)) (s .pre .1) in
+    let w = lent-tables (z .before) in
+    let s = start (tabled w) in
+    let e = tables-shown (s .pre .0) (given w) (tabled w .build .ensures .1) (s .pre .1) in
     (written-as (s .args .out .now) e (z .print-tables .ensures .0), z .print-tables .ensures .1)
 
 same-length-6 : tie.Need-same-length-6
@@ -106,9 +114,8 @@ returns-2 : tie.Need-returns-2
 returns-2 c =
     let z = c .before .before in
     let a = z .before .before .before in
-    let s = refusing a in
-    let g = a .a2 .given .0 in
-    let e = refusal-shown (s .args .n) (s .args .list .now) (lent-to s) (s .pre .0) (length (s .args .out .now)) (g .0) (g .1 .0) (g .1 .1 .0) (s .pre .1) (no-tables a) in
+    let s = start (refusing a) in
+    let e = refusal-shown (s .pre .0) (s .pre .1) (no-tables a) in
     (written-as (s .args .out .now) e (z .print-refusal .ensures .0), z .print-refusal .ensures .1)
 
 pub list-mesh-spec : {M : Type 1} → statement M

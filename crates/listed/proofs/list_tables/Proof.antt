@@ -10,9 +10,12 @@ use Rattle.listed.specs.Listing.{listing}
 use Rattle.listed.proofs.list_tables.Statement.{statement}
 use Rattle.listed.proofs.list_tables.Tie as tie
 
+abbrev begun : tie.After-slice-known → tie.Start
+begun c = c .before .before
+
 returns : tie.Need-returns
 returns c =
-    let s = c .before .before .before in
+    let s = begun (c .before) in
     (nothing-shown (s .args .out .now) (listing (s .args .text .now)) 0 (lt-leb 22_022 (length (s .args .out .now)) (c .if1 .taken)), (omega arith, refl))
 
 slice-aggregate-list-in : tie.Need-slice-aggregate-list-in
@@ -38,10 +41,10 @@ same-length c = search needs
 
 returns-2 : tie.Need-returns-2
 returns-2 c =
-    let z = c .before .before .before .before .before .before .before in
-    let o = z .before .before .before .before .before .before .before in
-    let s = o .before .before .before in
-    (rw (le-leb 22_022 (length (s .args .out .now)) (omega (arith, o .if1 .left))) (z .list-in .ensures .0), z .list-in .ensures .1)
+    let listed = c .before .before .before .before .before .before .before in
+    let tested = listed .before .before .before .before .before .before .before in
+    let s = begun (tested .before) in
+    (rw (le-leb 22_022 (length (s .args .out .now)) (omega (arith, tested .if1 .left))) (listed .list-in .ensures .0), listed .list-in .ensures .1)
 
 pub list-tables-spec : {M : Type 1} → statement M
 list-tables-spec =
