@@ -5,13 +5,6 @@ use borrow.Author.Needs.{needs}
 use Rattle.recover.proofs.fill.Statement.{statement}
 use Rattle.recover.proofs.fill.Tie as tie
 
--- the two copies
-abbrev first : tie.After-copy2 → tie.After-copy
-first c = c .before .before .before .before
-
-abbrev begun : tie.After-copy → tie.Start
-begun c = c .before .before .before .before .before
-
 copy-requires : tie.Need-copy-requires
 copy-requires c κs = search needs
 
@@ -36,8 +29,9 @@ same-length c = search needs
 returns : tie.Need-returns
 returns c =
     let copied = c .before .before in
-    let s = begun (first copied) in
-    filled (s .pre .0) (s .pre .1) (first copied .copy .ensures) (copied .copy2 .ensures)
+    let first = copied .before .before .before .before in
+    let s = first .before .before .before .before .before in
+    filled (s .pre .0) (s .pre .1) (first .copy .ensures) (copied .copy2 .ensures)
 
 pub fill-spec : {M : Type 1} → statement M
 fill-spec =

@@ -5,17 +5,6 @@ use borrow.Author.Needs.{needs}
 use Rattle.recover.proofs.propose.Statement.{statement}
 use Rattle.recover.proofs.propose.Tie as tie
 
-abbrev begun : tie.After-walk-tables → tie.Start
-begun c = c .before .before .before .before .before .before
-
--- the list kept
-abbrev walked : tie.After-copy → tie.After-walk-tables
-walked c = c .before .before .before .before .before
-
--- the walk's list put into its place
-abbrev kept : tie.After-copy2 → tie.After-copy
-kept c = c .before .before .before .before .before .before
-
 mul-o : tie.Need-mul-o
 mul-o c = search needs
 
@@ -79,8 +68,10 @@ same-length-2 c = search needs
 returns : tie.Need-returns
 returns c =
     let given = c .before .before in
-    let k = kept given in
-    let w = walked k in proposed (begun w .pre) (w .walk-tables .ensures) (k .copy .ensures) (given .copy2 .ensures)
+    let kept = given .before .before .before .before .before .before in
+    let walked = kept .before .before .before .before .before in
+    let s = walked .before .before .before .before .before .before in
+    proposed (s .pre) (walked .walk-tables .ensures) (kept .copy .ensures) (given .copy2 .ensures)
 
 pub propose-spec : {M : Type 1} → statement M
 propose-spec =

@@ -5,15 +5,6 @@ use borrow.Author.Needs.{needs}
 use Rattle.recover.proofs.walk_tables.Statement.{statement}
 use Rattle.recover.proofs.walk_tables.Tie as tie
 
-abbrev begun : tie.After-fill → tie.Start
-begun c = c .before .before .before .before .before
-
-abbrev filled : tie.After-link → tie.After-fill
-filled c = c .before .before .before .before
-
-abbrev linked : tie.After-walk → tie.After-link
-linked c = c .before .before .before .before
-
 fill-requires : tie.Need-fill-requires
 fill-requires c κs = search needs
 
@@ -29,9 +20,10 @@ same-length c = search needs
 returns : tie.Need-returns
 returns c =
     let walked = c .before .before in
-    let l = linked walked in
-    let f = filled l in
-    let h = begun f .pre in walk-filled (h .0) (h .1) (h .2) (f .fill .ensures) (l .link .ensures) (walked .walk .ensures)
+    let linked = walked .before .before .before .before in
+    let filled = linked .before .before .before .before in
+    let h = filled .before .before .before .before .before .pre in
+    walk-filled (h .0) (h .1) (h .2) (filled .fill .ensures) (linked .link .ensures) (walked .walk .ensures)
 
 pub walk-tables-spec : {M : Type 1} → statement M
 walk-tables-spec =
