@@ -1,14 +1,14 @@
 -- Each run is what the call's own contract says: `Post` of a function holds its `ensures` of the arguments a, the result r and what its `&mut`
 -- arguments hold at exit, s.
 -- Assumes nothing.
-use mathlib.Core.Path.{_≡_}
+use mathlib.Core.Path.{_≡_, ap, _∙_}
 use Prim.Native.Nat.{ℕ}
 use contract.Lifetimes.{Lfts}
 use borrow.Fn.Kinds.{Dens, resT, endedOf}
 use denote.Triple.Clauses.{AtExit}
 use Rattle.rules.specs.Refusals.{Buffers}
 use Rattle.rules.specs.Queries.{Mesh, oppositeAnswer, nextAnswer, previousAnswer, elementAnswer, originAnswer, destinationAnswer, acrossAnswer}
-use Rattle.rules.specs.Queries.{halfEdgeBorderAnswer, vertexBorderAnswer}
+use Rattle.rules.specs.Queries.{halfEdgeBorderAnswer, vertexBorderAnswer, Walked}
 use Rattle.answer.specs.Numbers.{numbers}
 use Rattle.build.specs.Building.{lent}
 use Rattle.reads.specs.Meshes.{mesh}
@@ -30,7 +30,12 @@ use Rattle.query.proofs.destination.Reads as destination-reads
 use Rattle.query.proofs.across.Reads as across-reads
 use Rattle.query.proofs.halfedge_is_border.Reads as halfedge-is-border-reads
 use Rattle.query.proofs.vertex_is_border.Reads as vertex-is-border-reads
-use Rattle.runs.specs.Runs.{BuildRun, RecoverRun, RingRun, NeighboursRun, BorderLoopRun}
+use Rattle.walker.specs.declared.Call.{Call}
+use Rattle.walker.specs.declared.Call.the-variants.{Start, Step}
+use Rattle.walker.specs.Walkers.{recordOf, movedOf, calledBy}
+use Rattle.walker.proofs.call_at.Kinds as call-at-kinds
+use Rattle.walker.proofs.call_at.Reads as call-at-reads
+use Rattle.runs.specs.Runs.{StartRun, StepRun, BuildRun, RecoverRun, RingRun, NeighboursRun, BorderLoopRun}
 
 -- build(n, list, v2e, e2e, b2e, work)
 module _ (κs : Lfts 5) (a : Dens κs build-kinds.ps) (r : resT build-kinds.r κs .Denot) (s : AtExit (endedOf 5 build-kinds.ps build-kinds.r) κs) where
@@ -101,3 +106,24 @@ module _ (κs : Lfts 5) (a : Dens κs ring-kinds.ps) (r : resT ring-kinds.r κs 
   pub border-loop-run : border-loop-reads.Post κs a r s
       → BorderLoopRun listed (a .1 .1 .1 .1 .1 .0) (a .1 .1 .1 .1 .1 .1 .0 .now) (numbers r) (s .1 .1 .1 .1 .1 .1 .0 .now)
   border-loop-run p = record { answer = p .0; leaves = p .1 }
+
+-- a walker's call by value (record, n, list, v2e, e2e, b2e, call): walker::move_on over `&mut` and the exports go through it
+module _ (κs : Lfts 4) (a : Dens κs call-at-kinds.ps) (r : resT call-at-kinds.r κs .Denot) (s : AtExit (endedOf 4 call-at-kinds.ps call-at-kinds.r) κs) where
+  abbrev walked : Mesh
+  walked = mesh (a .1 .0) (a .1 .1 .0 .now) (a .1 .1 .1 .0 .now) (a .1 .1 .1 .1 .0 .now) (a .1 .1 .1 .1 .1 .0 .now)
+
+  abbrev call : Call
+  call = a .1 .1 .1 .1 .1 .1 .0
+
+  -- what is left, by the call
+  left : (c : Call) → call ≡ c → call-at-reads.Post κs a r s → movedOf r ≡ calledBy c walked (recordOf (a .0))
+  left c e p = p ∙ ap (λ (x : Call). calledBy x walked (recordOf (a .0))) e
+
+  pub start-run : (v : ℕ) → call ≡ Start v → call-at-reads.Post κs a r s
+      → StartRun walked v (recordOf (a .0)) (numbers (r .answer)) (recordOf (r .walker))
+  start-run v e p =
+      let q = left (Start v) e p in record { answer = ap (λ (x : Walked). x .answer) q; leaves = ap (λ (x : Walked). x .walker) q }
+
+  pub step-run : call ≡ Step → call-at-reads.Post κs a r s → StepRun walked (recordOf (a .0)) (numbers (r .answer)) (recordOf (r .walker))
+  step-run e p =
+      let q = left Step e p in record { answer = ap (λ (x : Walked). x .answer) q; leaves = ap (λ (x : Walked). x .walker) q }

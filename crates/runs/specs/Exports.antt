@@ -7,7 +7,7 @@ use borrow.Fn.Kinds.{Dens, resT, endedOf}
 use denote.Triple.Clauses.{AtExit}
 use Rattle.rules.specs.Refusals.{Buffers, buildAnswer, recoverAnswer}
 use Rattle.rules.specs.Queries.{Mesh, oppositeAnswer, nextAnswer, previousAnswer, elementAnswer, originAnswer, destinationAnswer, acrossAnswer}
-use Rattle.rules.specs.Queries.{halfEdgeBorderAnswer, vertexBorderAnswer, ringAnswer, neighboursAnswer, borderLoopAnswer}
+use Rattle.rules.specs.Queries.{halfEdgeBorderAnswer, vertexBorderAnswer, ringAnswer, neighboursAnswer, borderLoopAnswer, walkerStart, walkerStep}
 use Rattle.answer.specs.Numbers.{unpacked}
 use Rattle.build.specs.Building.{lent}
 use Rattle.reads.specs.Meshes.{mesh}
@@ -29,9 +29,14 @@ use Rattle.borzhanu.proofs.borzhanu_ring.Kinds as ring-kinds
 use Rattle.borzhanu.proofs.borzhanu_ring.Reads as ring-reads
 use Rattle.borzhanu.proofs.borzhanu_neighbours.Reads as neighbours-reads
 use Rattle.borzhanu.proofs.borzhanu_border_loop.Reads as border-loop-reads
+use Rattle.borzhanu.proofs.borzhanu_walker_start.Kinds as start-kinds
+use Rattle.borzhanu.proofs.borzhanu_walker_start.Reads as start-reads
+use Rattle.borzhanu.proofs.borzhanu_walker_step.Kinds as step-kinds
+use Rattle.borzhanu.proofs.borzhanu_walker_step.Reads as step-reads
+use Rattle.borzhanu.specs.Walkers.{walkerIn}
 use Rattle.answer.specs.Packing.{told}
 use Rattle.runs.specs.Bounds.{build-fits, recover-fits, opposite-fits, next-fits, previous-fits, element-fits, origin-fits, destination-fits}
-use Rattle.runs.specs.Bounds.{across-fits, half-edge-border-fits, vertex-border-fits, ring-fits, neighbours-fits, border-loop-fits}
+use Rattle.runs.specs.Bounds.{across-fits, half-edge-border-fits, vertex-border-fits, ring-fits, neighbours-fits, border-loop-fits, start-fits, step-fits}
 
 module _ (κs : Lfts 5) (a : Dens κs build-kinds.ps) (r : resT build-kinds.r κs .Denot) (s : AtExit (endedOf 5 build-kinds.ps build-kinds.r) κs) where
   abbrev buffers : Buffers
@@ -91,3 +96,16 @@ module _ (κs : Lfts 5) (a : Dens κs ring-kinds.ps) (r : resT ring-kinds.r κs 
 
   pub border-loop-told : border-loop-reads.Post κs a r s → unpacked r ≡ borderLoopAnswer listed (a .1 .1 .1 .1 .1 .0) (a .1 .1 .1 .1 .1 .1 .0 .now)
   border-loop-told p = told _ (border-loop-fits listed _ _) r (p .0)
+
+-- borzhanu_walker_start(n, elements, v2e, e2e, b2e, v, walker) and borzhanu_walker_step(n, elements, v2e, e2e, b2e, walker)
+module _ (κs : Lfts 5) (a : Dens κs start-kinds.ps) (r : resT start-kinds.r κs .Denot) (s : AtExit (endedOf 5 start-kinds.ps start-kinds.r) κs) where
+  pub start-told : start-reads.Post κs a r s
+      → unpacked r ≡ walkerStart (mesh (a .0) (a .1 .0 .now) (a .1 .1 .0 .now) (a .1 .1 .1 .0 .now) (a .1 .1 .1 .1 .0 .now))
+      (a .1 .1 .1 .1 .1 .0) (walkerIn (a .1 .1 .1 .1 .1 .1 .0 .now)) .answer
+  start-told p = told _ (start-fits _ _ _) r (p .0)
+
+module _ (κs : Lfts 5) (a : Dens κs step-kinds.ps) (r : resT step-kinds.r κs .Denot) (s : AtExit (endedOf 5 step-kinds.ps step-kinds.r) κs) where
+  pub step-told : step-reads.Post κs a r s
+      → unpacked r ≡ walkerStep (mesh (a .0) (a .1 .0 .now) (a .1 .1 .0 .now) (a .1 .1 .1 .0 .now) (a .1 .1 .1 .1 .0 .now))
+      (walkerIn (a .1 .1 .1 .1 .1 .0 .now)) .answer
+  step-told p = told _ (step-fits _ _) r (p .0)
