@@ -1,7 +1,9 @@
-// Whole buffers: cleared, copied, compared.
+// Buffers: cleared, copied, compared.
 ghost use mathlib.Core.Path.{_≡_};
-ghost use Prim.Native.Nat.{_≤_};
+ghost use Prim.Native.Nat.{ℕ, _≤_, _<_};
 ghost use lib.ListN.{length, replicate};
+ghost use Rattle.lists.specs.Search.{at};
+ghost use Rattle.lists.specs.Stores.{Kept};
 ghost use Rattle.lists.specs.Tests.{same};
 ghost use Rattle.rules.specs.Refusals.{onto};
 
@@ -13,6 +15,15 @@ pub fn clear(out: &mut [u32])
         out[i] = 0;
         i += 1;
     }
+}
+
+// The first n entries; the rest of `out` stays.
+pub fn clear_first(n: usize, out: &mut [u32])
+    requires { ⌜ n ≤ length (now out) ⌝ }
+    ensures { λ r. ⌜ Kept n (now (out .entry)) (now (out .exit)) ⌝ }
+    ensures { λ r. ⌜ ((i : ℕ) → i < n → at (now (out .exit)) i ≡ 0) ⌝ }
+{
+    clear(&mut out[0..n]);
 }
 
 // From the start of `out` on; the rest of `out` stays.

@@ -33,7 +33,11 @@ loop-less : tie.Need-loop-less Inv-loop μ-loop
 loop-less c = omega arith
 
 loop-again : tie.Need-loop-again Inv-loop μ-loop
-loop-again c = let i = c .before .loop .i in let k = c .before .loop .inv in (omega arith, ap (λ (l : List ℕ). set l i 0) (k .1) ∙ fill-more i 0 (c .before .before .args .out .now) (omega arith), simp length-set (k .2))
+loop-again c =
+    let turn = c .before in
+    let (h, filled, long) = turn .loop .inv in
+    let i = turn .loop .i in
+    (omega arith, ap (λ (l : List ℕ). set l i 0) filled ∙ fill-more i 0 (turn .before .args .out .now) (omega arith), simp length-set long)
 
 same-length : tie.Need-same-length Inv-loop μ-loop
 same-length c = search needs

@@ -31,9 +31,7 @@ mul-out-2 : tie.Need-mul-out-2 Inv-loop μ-loop
 mul-out-2 c = search needs
 
 slice-write-out : tie.Need-slice-write-out Inv-loop μ-loop
-slice-write-out c =
-    let pre = c .before .before .before .pre in
-    omega (arith, pre)
+slice-write-out c = omega arith
 
 add-i : tie.Need-add-i Inv-loop μ-loop
 add-i c = search needs
@@ -43,16 +41,22 @@ loop-less c = omega arith
 
 loop-again : tie.Need-loop-again Inv-loop μ-loop
 loop-again c =
-    let pre = c .before .before .before .pre in
-    let args = c .before .before .before .args in
-    let i = c .before .before .loop .i in let k = c .before .before .loop .inv in let s = args in (omega arith, ap (λ (l : List ℕ). set l i (at (s .from .now) i)) (k .1) ∙ copy-more (s .from .now) (s .out .now) i (omega arith) (omega (arith, pre)), simp length-set (k .2))
+    let turn = c .before .before in
+    let (h, copied, long) = turn .loop .inv in
+    let i = turn .loop .i in
+    let from = turn .before .args .from .now in
+    let out = turn .before .args .out .now in
+    (omega arith, ap (λ (l : List ℕ). set l i (at from i)) copied ∙ copy-more from out i (omega arith) (omega arith), simp length-set long)
 
 same-length : tie.Need-same-length Inv-loop μ-loop
 same-length c = search needs
 
 returns : tie.Need-returns Inv-loop μ-loop
 unfolding onto
-returns c = c .before .loop .inv .1 ∙ copy-all (c .before .before .args .from .now) (c .before .before .args .out .now) (c .before .loop .i) (omega arith)
+returns c =
+    let turn = c .before in
+    let begun = turn .before in
+    turn .loop .inv .1 ∙ copy-all (begun .args .from .now) (begun .args .out .now) (turn .loop .i) (omega arith)
 
 pub copy-spec : {M : Type 1} → statement M
 copy-spec =

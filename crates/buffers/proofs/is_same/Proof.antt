@@ -28,6 +28,10 @@ Inv-loop a b i₀ i = (i ≤ length a) × ((k : ℕ) → k < i → at a k ≡ at
 abbrev μ-loop : tie.MeasureT-loop
 μ-loop a b i₀ i = length a - i
 
+-- the turn of the loop in which both entries were read
+abbrev turn : tie.After-shared-slice-known2 Inv-loop μ-loop → tie.At-loop Inv-loop μ-loop
+turn c = c .before .before .before
+
 returns : tie.Need-returns Inv-loop μ-loop
 returns c = differ (c .before .args .a .now) (c .before .args .b .now) (λ e. c .if1 .taken (ap length e))
 
@@ -48,8 +52,8 @@ shared-slice-read-if2-2 c = search needs
 
 returns-2 : tie.Need-returns-2 Inv-loop μ-loop
 returns-2 c =
-    let args = c .before .before .before .before .before .before .args in
-    let loop = c .before .before .before .before .loop in
+    let loop = turn (c .before) .loop in
+    let args = turn (c .before) .before .before .args in
     differ (args .a .now) (args .b .now) (λ e. c .if2 .taken (ap (λ (l : List ℕ). at l (loop .i)) e))
 
 add-i : tie.Need-add-i Inv-loop μ-loop
@@ -59,14 +63,13 @@ loop-less : tie.Need-loop-less Inv-loop μ-loop
 loop-less c = omega arith
 
 loop-again : tie.Need-loop-again Inv-loop μ-loop
-loop-again c =
-    let loop = c .before .before .before .before .loop in
-    (omega arith, below-more _ _ (loop .inv .1) (c .if2 .left))
+loop-again c = (omega arith, below-more _ _ (turn (c .before) .loop .inv .1) (c .if2 .left))
 
 returns-3 : tie.Need-returns-3 Inv-loop μ-loop
 returns-3 c =
-    let args = c .before .before .before .args in
-    agree (args .a .now) (args .b .now) (c .before .before .if1 .left) (λ k h. c .before .loop .inv .1 k (omega arith))
+    let tested = c .before .before in
+    let args = tested .before .args in
+    agree (args .a .now) (args .b .now) (tested .if1 .left) (λ k h. c .before .loop .inv .1 k (omega arith))
 
 pub is-same-spec : {M : Type 1} → statement M
 is-same-spec =
