@@ -1,7 +1,6 @@
 -- `halfedge::corner` meets its contract. Each way out goes by the range test.
 -- Assumes nothing.
 use borrow.Author.Needs.{needs}
-use mathlib.Core.Path.{_≡_}
 use native.Mathlib.Omega.{arith}
 use Prim.Native.Nat.{_≤_}
 use Rattle.halfedge.specs.Rows.{cornerOf}

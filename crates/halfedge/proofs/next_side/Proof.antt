@@ -4,6 +4,7 @@ use borrow.Author.Needs.{needs}
 use borrow.Author.Tests.{eq-eqb, ne-eqb}
 use mathlib.Core.Path.{_≡_}
 use native.Mathlib.Omega.{arith}
+use Prim.Native.Nat.{_≤_}
 use Rattle.rules.specs.Elements.{nextNumber}
 use Rattle.halfedge.specs.Rows.{nextSide}
 use Rattle.halfedge.proofs.Within.{inside, passed}
@@ -11,8 +12,12 @@ use Rattle.halfedge.proofs.Turns.{no-side, turns}
 use Rattle.halfedge.proofs.next_side.Statement.{statement}
 use Rattle.halfedge.proofs.next_side.Tie as tie
 
-turned-from : (c : tie.Else1) → let a = c .before .before .before .args in nextNumber (c .before .before .side-count .result) (a .i) ≡ nextSide (a .row) (a .i)
+-- the row has a side i
+turned-from : (c : tie.Else1) → let s = c .before .before in nextNumber (s .side-count .result) (s .before .args .i) ≡ nextSide (s .before .args .row) (s .before .args .i)
 turned-from c = turns nextNumber _ _ (c .before .before .side-count .ensures) (c .before .is-within .ensures) (c .if1 .left)
+
+there : (c : tie.Else1) → let s = c .before .before in (1 ≤ s .before .args .i) × (s .before .args .i ≤ s .side-count .result)
+there c = inside 1 _ _ (passed (c .before .is-within .ensures) (c .if1 .left))
 
 side-count-requires : tie.Need-side-count-requires
 side-count-requires c κs = search needs
@@ -28,12 +33,7 @@ unfolding nextNumber
 returns-2 c = rw (eq-eqb _ _ (c .if2 .taken), nextNumber) at (turned-from (c .before))
 
 add-result : tie.Need-add-result
-add-result c =
-    let args = c .before .before .before .before .args in
-    let side-count = c .before .before .before .side-count in
-    let k = side-count in
-    let i = args .i in
-    omega (arith, inside 1 (k .result) i (passed (c .before .before .is-within .ensures) (c .before .if1 .left)), k .ok)
+add-result c = omega (arith, there (c .before))
 
 returns-3 : tie.Need-returns-3
 unfolding nextNumber

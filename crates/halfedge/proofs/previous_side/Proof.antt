@@ -3,6 +3,7 @@
 use borrow.Author.Needs.{needs}
 use borrow.Author.Tests.{eq-eqb, ne-eqb}
 use mathlib.Core.Path.{_≡_}
+use Prim.Native.Nat.{_≤_}
 use Rattle.rules.specs.Elements.{previousNumber}
 use Rattle.halfedge.specs.Rows.{previousSide}
 use Rattle.halfedge.proofs.Within.{inside, passed}
@@ -10,8 +11,12 @@ use Rattle.halfedge.proofs.Turns.{no-side, turns}
 use Rattle.halfedge.proofs.previous_side.Statement.{statement}
 use Rattle.halfedge.proofs.previous_side.Tie as tie
 
-turned-from : (c : tie.Else1) → let a = c .before .before .before .args in previousNumber (c .before .before .side-count .result) (a .i) ≡ previousSide (a .row) (a .i)
+-- the row has a side i
+turned-from : (c : tie.Else1) → let s = c .before .before in previousNumber (s .side-count .result) (s .before .args .i) ≡ previousSide (s .before .args .row) (s .before .args .i)
 turned-from c = turns previousNumber _ _ (c .before .before .side-count .ensures) (c .before .is-within .ensures) (c .if1 .left)
+
+there : (c : tie.Else1) → let s = c .before .before in (1 ≤ s .before .args .i) × (s .before .args .i ≤ s .side-count .result)
+there c = inside 1 _ _ (passed (c .before .is-within .ensures) (c .if1 .left))
 
 side-count-requires : tie.Need-side-count-requires
 side-count-requires c κs = search needs
@@ -27,9 +32,7 @@ unfolding previousNumber
 returns-2 c = rw (eq-eqb _ _ (c .if2 .taken), previousNumber) at (turned-from (c .before))
 
 sub-result : tie.Need-sub-result
-sub-result c =
-    let side-count = c .before .before .before .side-count in
-    inside 1 (side-count .result) _ (passed (c .before .before .is-within .ensures) (c .before .if1 .left)) .0
+sub-result c = there (c .before) .0
 
 returns-3 : tie.Need-returns-3
 unfolding previousNumber
