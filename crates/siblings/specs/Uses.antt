@@ -123,7 +123,8 @@ module _ (L : List ℕ) (s : ℕ) (a : Side L s) where
           let third = next-between L again in
           let first : s ≡ x → ⊥ = λ e. d (ap (sibling L) (sym e) ∙ sym e) in
           let second : x ≡ y → ⊥ = λ e. d (sym e ∙ sym (alone L x (rw (sym e) at again) s own)) in
-          three-counted (sideWith L (joins L s)) (length L) (slot s) (slot x) (slot y) (slot-below L s a) (slot-below L x sibling-side) (slot-below L y (third .side)) (passes-at s own) (passes-at x between) (passes-at y third)
+          three-counted (sideWith L (joins L s)) (length L) (slot s) (slot x) (slot y)
+          (slot-below L s a) (slot-below L x sibling-side) (slot-below L y (third .side)) (passes-at s own) (passes-at x between) (passes-at y third)
           (λ e. first (slot-inj L s x a sibling-side e))
           (λ e. d (sym (slot-inj L s y a (third .side) e)))
           (λ e. second (slot-inj L x y sibling-side (third .side) e))
