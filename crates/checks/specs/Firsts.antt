@@ -1,18 +1,17 @@
 -- The least side of each vertex, found from the last place of the list to the first.
 -- Assumes nothing.
-use mathlib.Core.Path.{_≡_, refl, ap, sym, subst, _∙_}
-use mathlib.Core.Bool.{Bool, true, false, not}
+use mathlib.Core.Path.{_≡_, refl, ap, sym, _∙_}
 use mathlib.Core.Logic.{_⊎_, inl, inr}
 use mathlib.Core.List.{List}
 use Prim.Native.Nat.{ℕ, _+_, _-_, _≤_, _<_}
 use native.Mathlib.Omega.{arith}
-use lib.Dec.{T, eqb, T-not, not-T}
+use lib.Dec.{eqb, not-T}
 use lib.ListN.{length, set}
 use Rattle.lists.specs.TestLaws.{decide, means-eq}
 use Rattle.lists.specs.Search.{at}
-use Rattle.lists.specs.SearchLaws.{lt-or-eq, le-not-lt}
+use Rattle.lists.specs.SearchLaws.{lt-or-eq}
 use Rattle.lists.specs.Stores.{at-same, at-other}
-use Rattle.rules.specs.Elements.{Side, slot, origin, sideAt, firstSide, firstVertex}
+use Rattle.rules.specs.Elements.{Side, slot, origin, sideAt, firstSide}
 use Rattle.rules.specs.Pairing.{SideAt}
 use Rattle.rules.specs.Refusals.{unusedVertex}
 use Rattle.theory.specs.Sides.{sideAt-slot, slot-sideAt, slot-below, slot-less}

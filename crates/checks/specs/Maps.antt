@@ -1,24 +1,22 @@
 -- What the sibling map in the work buffer tells at each place.
 -- Assumes nothing.
-use mathlib.Core.Path.{_≡_, refl, ap, sym, subst, _∙_}
-use mathlib.Core.Bool.{Bool, true, false, not}
+use mathlib.Core.Path.{_≡_, ap, sym, _∙_}
+use mathlib.Core.Bool.{false, not}
 use mathlib.Core.Logic.{_⊎_, inl, inr}
 use mathlib.Core.List.{List}
-use Prim.Native.Nat.{ℕ, _+_, _*_, _-_, _/_, _%_, _≤_, _<_}
+use Prim.Native.Nat.{ℕ, _+_, _≤_, _<_}
 use native.Mathlib.Omega.{arith}
 use lib.Dec.{T, leb, eqb, T-not, not-T}
-use lib.ListN.{length, take, drop}
+use lib.ListN.{length}
 use Rattle.lists.specs.Tests.{both}
-use Rattle.lists.specs.TestLaws.{Test, pass, fail, test, Means, decide, passes, both-pass, means-eq, means-le, means-not}
+use Rattle.lists.specs.TestLaws.{Test, pass, fail, test, Means, decide, means-eq, means-le, means-not}
 use Rattle.lists.specs.Search.{at}
-use Rattle.rules.specs.Elements.{elements, isSide, Side, slot, origin, sideAt, firstSide, countSides}
+use Rattle.rules.specs.Elements.{isSide, Side, slot, origin, sideAt, firstSide, countSides}
 use Rattle.rules.specs.Pairing.{alike, joins}
 use Rattle.rules.specs.Refusals.{crowdedSide, alikeSide}
-use Rattle.theory.specs.Sides.{side-facts, side-positive, slot-sideAt, slot-below}
-use Rattle.theory.specs.Least.{found-at, found-nowhere, found-later, means-none, means-some}
+use Rattle.theory.specs.Sides.{side-positive, slot-sideAt, slot-below}
+use Rattle.theory.specs.Least.{found-at, found-nowhere, found-later, means-none}
 use Rattle.theory.specs.FitRows.{Fit}
-use Rattle.theory.specs.Pairings.{means-alike, means-joins}
-use Rattle.halfedge.specs.Rows.{rowOf, cornerOf, part-row, row-corner}
 use Rattle.siblings.specs.Siblings.{sibling}
 use Rattle.siblings.specs.Uses.{sibling-side, crowded, means-sibling-alike}
 
@@ -36,34 +34,57 @@ CrowdedAt L p = Side L (sideAt p) × (sibling L (sibling L (sideAt p)) ≡ sideA
 abbrev pub AlikeAt : List ℕ → ℕ → Type 0
 AlikeAt L p = Side L (sideAt p) × (sibling L (sideAt p) ≡ sideAt p → ⊥) × (origin L (sibling L (sideAt p)) ≡ origin L (sideAt p))
 
-module _ (n : ℕ) (L w : List ℕ) (k : Mapped n L w) (p : ℕ) (inside : p < length L) where
-  -- a side stands at p exactly where the map isn't 0
-  pub map-at : Side L (sideAt p) → at w (n + p) ≡ sibling L (sideAt p)
-  map-at a = ap (λ (i : ℕ). at w (n + i)) (sym (slot-sideAt p)) ∙ k .siblings (sideAt p) a
+-- what the entry for place p tells
+module _ {n : ℕ} {L w : List ℕ} (p : ℕ) (here : Mapped n L w × (p < length L)) where
+  -- a side stands at p exactly where the entry isn't 0, and the entry is its sibling
+  sibling-at : Side L (sideAt p) → at w (n + p) ≡ sibling L (sideAt p)
+  sibling-at a = ap (λ (i : ℕ). at w (n + i)) (sym (slot-sideAt p)) ∙ here .0 .siblings (sideAt p) a
 
-  pub map-side : (at w (n + p) ≡ 0 → ⊥) → Side L (sideAt p)
-  map-side d = go (test (isSide L (sideAt p)))
+  pub side-there : (at w (n + p) ≡ 0 → ⊥) → Side L (sideAt p)
+  side-there d = go (test (isSide L (sideAt p)))
     where
       go : Test (isSide L (sideAt p)) → Side L (sideAt p)
       go (pass t e) = t
-      go (fail t e) = absurd (d (k .empty p inside (T-not (isSide L (sideAt p)) t)))
+      go (fail t e) = absurd (d (here .0 .empty p (here .1) (T-not (isSide L (sideAt p)) t)))
 
-  pub map-none : at w (n + p) ≡ 0 → Side L (sideAt p) → ⊥
-  map-none e a = side-positive L (sibling L (sideAt p)) (sibling-side L (sideAt p) a) (sym (map-at a) ∙ e)
+  none-there : at w (n + p) ≡ 0 → Side L (sideAt p) → ⊥
+  none-there e a = side-positive L (sibling L (sideAt p)) (sibling-side L (sideAt p) a) (sym (sibling-at a) ∙ e)
 
-  -- the sibling's sibling
-  pub map-twice : (t : ℕ) → at w (n + p) ≡ t → (t ≡ 0 → ⊥) → at w (n + slot t) ≡ sibling L (sibling L (sideAt p))
-  map-twice t e d =
-      let a = map-side (λ z. d (sym e ∙ z)) in
-      let q : t ≡ sibling L (sideAt p) = sym e ∙ map-at a in
-      ap (λ (x : ℕ). at w (n + slot x)) q ∙ k .siblings (sibling L (sideAt p)) (sibling-side L (sideAt p) a)
+  pub none-crowded : at w (n + p) ≡ 0 → Means false (CrowdedAt L p)
+  none-crowded e = record { says = λ t. absurd t; shows = λ (a, d). none-there e a }
 
--- the origin of a side, read from its row
-pub origin-read : (L : List ℕ) (s a e : ℕ) → Side L s → a ≡ 4 * (s / 8 - 1) → e ≡ a + 4 → cornerOf (rowOf (take (e - a) (drop a L))) (s % 8) ≡ origin L s
-unfolding origin slot
-origin-read L s a e b p q =
-    let f = side-facts L s b in
-    ap (λ (x : List ℕ). cornerOf (rowOf x) (s % 8)) (part-row L (s / 8) a e p q) ∙ row-corner L (s / 8) (s % 8) (f .number-from) (f .number-four)
+  pub none-alike : at w (n + p) ≡ 0 → Means false (AlikeAt L p)
+  none-alike e = record { says = λ t. absurd t; shows = λ (a, d, o). none-there e a }
+
+  module _ (some : at w (n + p) ≡ 0 → ⊥) where
+    pub sibling-there : Side L (at w (n + p))
+    sibling-there = let a = side-there some in rw (sibling-at a) (sibling-side L (sideAt p) a)
+
+    -- check 6 by the sibling's sibling, at place i
+    pub sibling-below : {i : ℕ} → i ≡ slot (at w (n + p)) → n + i < length w
+    sibling-below q = omega (arith, slot-below L (at w (n + p)) sibling-there, here .0 .room)
+
+    pub crowded-by : {i s : ℕ} → i ≡ slot (at w (n + p)) → s ≡ sideAt p → Means (not (eqb (at w (n + i)) s)) (CrowdedAt L p)
+    crowded-by {i} {s} q e =
+        let a = side-there some in
+        let twice : at w (n + i) ≡ sibling L (sibling L (sideAt p)) =
+        ap (λ (j : ℕ). at w (n + j)) q ∙ here .0 .siblings _ sibling-there ∙ ap (sibling L) (sibling-at a) in
+        let m = means-not (means-eq (at w (n + i)) s) in
+        record { says = λ t. (a, λ z. m .says t (twice ∙ z ∙ sym e)); shows = λ (b, d). m .shows (λ z. d (sym twice ∙ z ∙ e)) }
+
+  -- check 7 by the sibling
+  pub lone-alike : {s : ℕ} → s ≡ sideAt p → at w (n + p) ≡ s → Means false (AlikeAt L p)
+  lone-alike e q = record { says = λ t. absurd t; shows = λ (a, d, o). d (sym (sibling-at a) ∙ q ∙ e) }
+
+  pub alike-by : (at w (n + p) ≡ 0 → ⊥) → {s x y : ℕ} → s ≡ sideAt p → (at w (n + p) ≡ s → ⊥) → x ≡ origin L (at w (n + p)) → y ≡ origin L s → Means (eqb x y) (AlikeAt L p)
+  alike-by some {s} {x} {y} e other from-it from-s =
+      let a = side-there some in
+      let first : x ≡ origin L (sibling L (sideAt p)) = from-it ∙ ap (origin L) (sibling-at a) in
+      let second : y ≡ origin L (sideAt p) = from-s ∙ ap (origin L) e in
+      record {
+        says = λ t. (a, (λ z. other (sibling-at a ∙ z ∙ sym e)), sym first ∙ means-eq x y .says t ∙ second);
+        shows = λ (b, d, o). means-eq x y .shows (first ∙ o ∙ sym second);
+      }
 
 -- below p no crowded side begins; no side that another runs alike with
 abbrev pub NotCrowded : List ℕ → ℕ → Type 0
@@ -106,7 +127,7 @@ module _ (n : ℕ) (L : List ℕ) (fit : Fit n L) where
           (means-le 3 (countSides L (joins L s)) .shows (crowded L s a .1 d)))
 
 -- check 7 from place to place, where siblings are so of each other
-module _ (n : ℕ) (L : List ℕ) (two : (s : ℕ) → Side L s → sibling L (sibling L s) ≡ s) where
+module _ (L : List ℕ) (two : (s : ℕ) → Side L s → sibling L (sibling L s) ≡ s) where
   -- the test of check 7, by the sibling
   alike-is : (p : ℕ) → AlikeAt L p → T (not (eqb (firstSide L (λ t. both (not (eqb (sideAt p) t)) (alike L (sideAt p) t))) 0))
   alike-is p (a, d, o) = means-sibling-alike L (sideAt p) a (two (sideAt p) a) .shows (d, o)

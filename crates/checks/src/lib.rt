@@ -1,16 +1,19 @@
 // Checks 5 to 7 over a list of fit rows: the least side of each vertex, and what the sibling map tells.
 ghost use mathlib.Core.Path.{_≡_};
 ghost use mathlib.Core.List.{List};
-ghost use Prim.Native.Nat.{ℕ, _+_, _*_, _-_, _≤_, _<_};
+ghost use Prim.Native.Nat.{ℕ, _+_, _≤_, _<_};
 ghost use lib.ListN.{length};
 ghost use Rattle.lists.specs.Search.{at};
 ghost use Rattle.lists.specs.Stores.{Kept};
 ghost use Rattle.lists.specs.TestLaws.{Means};
-ghost use Rattle.rules.specs.Elements.{elements, origin, Side};
 ghost use Rattle.rules.specs.Refusals.{unusedVertex, crowdedSide, alikeSide};
 ghost use Rattle.theory.specs.FitRows.{Fit};
 ghost use Rattle.checks.specs.Firsts.{FirstsFrom, Firsts};
 ghost use Rattle.checks.specs.Maps.{Mapped, CrowdedAt, AlikeAt};
+use buffers::clear_first;
+use halfedge::code_at;
+use halfedge::row;
+use halfedge::slot_of;
 use halfedge::wide;
 use sides::origin_of;
 
@@ -23,7 +26,7 @@ fn put_first(n: usize, list: &[u32], work: &mut [u32], p: usize, x: u32)
         return;
     }
     let i = wide(x) - 1;
-    work[i] = halfedge::code_at(p);
+    work[i] = code_at(p);
 }
 
 fn put_row(n: usize, list: &[u32], work: &mut [u32], a: usize)
@@ -31,11 +34,11 @@ fn put_row(n: usize, list: &[u32], work: &mut [u32], a: usize)
     ensures { λ r. ⌜ Kept n (now (work .entry)) (now (work .exit)) × FirstsFrom n (now (list .entry)) a (now (work .exit)) ⌝ }
 {
     let e = a + 4;
-    let row = halfedge::row(&list[a..e]);
-    put_first(n, list, work, a + 3, row[3]);
-    put_first(n, list, work, a + 2, row[2]);
-    put_first(n, list, work, a + 1, row[1]);
-    put_first(n, list, work, a, row[0]);
+    let corners = row(&list[a..e]);
+    put_first(n, list, work, a + 3, corners[3]);
+    put_first(n, list, work, a + 2, corners[2]);
+    put_first(n, list, work, a + 1, corners[1]);
+    put_first(n, list, work, a, corners[0]);
 }
 
 fn put_rows(n: usize, list: &[u32], work: &mut [u32])
@@ -54,7 +57,7 @@ pub fn first_sides(n: usize, list: &[u32], work: &mut [u32])
     requires { ⌜ Fit n (now list) × (n ≤ length (now work)) ⌝ }
     ensures { λ r. ⌜ Kept n (now (work .entry)) (now (work .exit)) × Firsts n (now (list .entry)) (now (work .exit)) ⌝ }
 {
-    buffers::clear(&mut work[0..n]);
+    clear_first(n, work);
     put_rows(n, list, work);
 }
 
@@ -82,10 +85,7 @@ fn is_crowded(n: usize, list: &[u32], work: &[u32], p: usize) -> bool
     if t == 0 {
         return false;
     }
-    if work[n + halfedge::slot_of(t)] == halfedge::code_at(p) {
-        return false;
-    }
-    true
+    work[n + slot_of(t)] != code_at(p)
 }
 
 // Check 6: the least side whose two vertices three or more sides join; 0 where there is none.
@@ -96,7 +96,7 @@ pub fn crowded_side(n: usize, list: &[u32], work: &[u32]) -> u32
     let mut p = 0;
     while p < list.len() {
         if is_crowded(n, list, work, p) {
-            return halfedge::code_at(p);
+            return code_at(p);
         }
         p += 1;
     }
@@ -112,14 +112,11 @@ fn is_alike(n: usize, list: &[u32], work: &[u32], p: usize) -> bool
     if t == 0 {
         return false;
     }
-    let s = halfedge::code_at(p);
+    let s = code_at(p);
     if t == s {
         return false;
     }
-    if origin_of(list, t) != origin_of(list, s) {
-        return false;
-    }
-    true
+    origin_of(list, t) == origin_of(list, s)
 }
 
 // Check 7, where check 6 found nothing: the least side that another one runs alike with; 0 where there is none.
@@ -130,7 +127,7 @@ pub fn alike_side(n: usize, list: &[u32], work: &[u32]) -> u32
     let mut p = 0;
     while p < list.len() {
         if is_alike(n, list, work, p) {
-            return halfedge::code_at(p);
+            return code_at(p);
         }
         p += 1;
     }

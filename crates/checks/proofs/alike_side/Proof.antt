@@ -1,14 +1,12 @@
 -- `checks::alike_side` meets its contract: no such side begins below p.
 -- Assumes nothing.
-use mathlib.Core.Path.{_≡_, sym, ap, _∙_}
-use mathlib.Core.Bool.{Bool, not}
-use mathlib.Core.List.{List}
-use Prim.Native.Nat.{ℕ, _+_, _-_, _≤_, _<_}
+use mathlib.Core.Path.{_≡_, _∙_}
+use Prim.Native.Nat.{ℕ, _-_, _≤_}
 use native.Mathlib.Omega.{arith}
 use borrow.Author.Needs.{needs}
-use lib.Dec.{T, T-not}
+use lib.Dec.{T-not}
 use lib.ListN.{length}
-use Rattle.rules.specs.Elements.{Side, sideAt}
+use Rattle.rules.specs.Elements.{Side}
 use Rattle.siblings.specs.Siblings.{sibling}
 use Rattle.checks.specs.Maps.{alike-found, alike-later, alike-nowhere, NotAlike, two-by-two}
 use Rattle.checks.proofs.alike_side.Statement.{statement}
@@ -20,6 +18,9 @@ Inv-loop n list work p₀ p = NotAlike list p × (p ≤ length list)
 abbrev μ-loop : tie.MeasureT-loop
 μ-loop n list work p₀ p = length list - p
 
+abbrev begun : tie.At-loop Inv-loop μ-loop → tie.Start Inv-loop μ-loop
+begun c = c .before .before .before
+
 two : (c : tie.Start Inv-loop μ-loop) (s : ℕ) → Side (c .args .list .now) s → sibling (c .args .list .now) (sibling (c .args .list .now) s) ≡ s
 two c = two-by-two (c .args .n) (c .args .list .now) (c .pre .0 .fit) (c .pre .1)
 
@@ -27,20 +28,19 @@ loop-holds : tie.Need-loop-holds Inv-loop μ-loop
 loop-holds c = ((λ s a h. absurd (omega arith)), omega arith)
 
 is-alike-requires : tie.Need-is-alike-requires Inv-loop μ-loop
-is-alike-requires c κs =
-    let pre = c .before .before .before .before .pre in
-    (pre .0, omega arith)
+is-alike-requires c κs = (begun (c .before) .pre .0, omega arith)
 
 code-at-requires : tie.Need-code-at-requires Inv-loop μ-loop
 code-at-requires c κs =
-    let pre = c .before .before .before .before .before .before .pre in
-    omega (arith, pre .0 .fit .size, pre .0 .fit .fours)
+    let turn = c .before .before .before in
+    let fit = begun turn .pre .0 .fit in omega (arith, fit .size, fit .fours)
 
 returns : tie.Need-returns Inv-loop μ-loop
 returns c =
-    let args = c .before .before .before .before .before .before .before .args in
-    let loop = c .before .before .before .before .loop in
-    c .code-at .ensures ∙ alike-found (args .n) (args .list .now) (two (c .before .before .before .before .before .before .before)) (loop .p) (loop .inv .0) (c .before .before .is-alike .ensures .says (rw (c .before .if1 .taken) tt))
+    let asked = c .before .before in
+    let turn = asked .before .before in
+    let found = asked .is-alike .ensures .says (rw (c .before .if1 .taken) tt) in
+    c .code-at .ensures ∙ alike-found _ (two (begun turn)) (turn .loop .p) (turn .loop .inv .0) found
 
 add-p : tie.Need-add-p Inv-loop μ-loop
 add-p c = search needs
@@ -50,14 +50,14 @@ loop-less c = omega arith
 
 loop-again : tie.Need-loop-again Inv-loop μ-loop
 loop-again c =
-    let args = c .before .before .before .before .before .before .args in
-    let loop = c .before .before .before .loop in
-    (alike-later (args .n) (args .list .now) (two (c .before .before .before .before .before .before)) (loop .p) (loop .inv .0) (λ x. T-not (c .before .is-alike .result) (rw (c .if1 .left) tt) (c .before .is-alike .ensures .shows x)), omega arith)
+    let asked = c .before in
+    let turn = asked .before .before in
+    let is = asked .is-alike in
+    (alike-later _ (two (begun turn)) (turn .loop .p) (turn .loop .inv .0) (λ x. T-not (is .result) (rw (c .if1 .left) tt) (is .ensures .shows x)), omega arith)
 
 returns-2 : tie.Need-returns-2 Inv-loop μ-loop
 returns-2 c =
-    let args = c .before .before .before .before .args in
-    alike-nowhere (args .n) (args .list .now) (two (c .before .before .before .before)) (c .before .loop .p) (omega arith) (c .before .loop .inv .0)
+    let turn = c .before in alike-nowhere _ (two (begun turn)) (turn .loop .p) (omega arith) (turn .loop .inv .0)
 
 pub alike-side-spec : {M : Type 1} → statement M
 alike-side-spec =

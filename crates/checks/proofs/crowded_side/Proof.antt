@@ -1,15 +1,11 @@
 -- `checks::crowded_side` meets its contract: no such side begins below p.
 -- Assumes nothing.
-use mathlib.Core.Path.{_≡_, sym, ap, _∙_}
-use mathlib.Core.Bool.{Bool, not}
-use mathlib.Core.List.{List}
-use Prim.Native.Nat.{ℕ, _+_, _-_, _≤_, _<_}
+use mathlib.Core.Path.{_∙_}
+use Prim.Native.Nat.{_-_, _≤_}
 use native.Mathlib.Omega.{arith}
 use borrow.Author.Needs.{needs}
-use lib.Dec.{T, T-not}
+use lib.Dec.{T-not}
 use lib.ListN.{length}
-use Rattle.rules.specs.Elements.{Side, sideAt}
-use Rattle.siblings.specs.Siblings.{sibling}
 use Rattle.checks.specs.Maps.{crowded-found, crowded-later, crowded-nowhere, NotCrowded}
 use Rattle.checks.proofs.crowded_side.Statement.{statement}
 use Rattle.checks.proofs.crowded_side.Tie as tie
@@ -20,25 +16,26 @@ Inv-loop n list work p₀ p = NotCrowded list p × (p ≤ length list)
 abbrev μ-loop : tie.MeasureT-loop
 μ-loop n list work p₀ p = length list - p
 
+abbrev begun : tie.At-loop Inv-loop μ-loop → tie.Start Inv-loop μ-loop
+begun c = c .before .before .before
+
 loop-holds : tie.Need-loop-holds Inv-loop μ-loop
 loop-holds c = ((λ s a h. absurd (omega arith)), omega arith)
 
 is-crowded-requires : tie.Need-is-crowded-requires Inv-loop μ-loop
-is-crowded-requires c κs =
-    let pre = c .before .before .before .before .pre in
-    (pre, omega arith)
+is-crowded-requires c κs = (begun (c .before) .pre, omega arith)
 
 code-at-requires : tie.Need-code-at-requires Inv-loop μ-loop
 code-at-requires c κs =
-    let pre = c .before .before .before .before .before .before .pre in
-    omega (arith, pre .fit .size, pre .fit .fours)
+    let turn = c .before .before .before in
+    let fit = begun turn .pre .fit in omega (arith, fit .size, fit .fours)
 
 returns : tie.Need-returns Inv-loop μ-loop
 returns c =
-    let pre = c .before .before .before .before .before .before .before .pre in
-    let args = c .before .before .before .before .before .before .before .args in
-    let loop = c .before .before .before .before .loop in
-    c .code-at .ensures ∙ crowded-found (args .n) (args .list .now) (pre .fit) (loop .p) (loop .inv .0) (c .before .before .is-crowded .ensures .says (rw (c .before .if1 .taken) tt))
+    let asked = c .before .before in
+    let turn = asked .before .before in
+    let found = asked .is-crowded .ensures .says (rw (c .before .if1 .taken) tt) in
+    c .code-at .ensures ∙ crowded-found _ _ (begun turn .pre .fit) (turn .loop .p) (turn .loop .inv .0) found
 
 add-p : tie.Need-add-p Inv-loop μ-loop
 add-p c = search needs
@@ -48,16 +45,14 @@ loop-less c = omega arith
 
 loop-again : tie.Need-loop-again Inv-loop μ-loop
 loop-again c =
-    let pre = c .before .before .before .before .before .before .pre in
-    let args = c .before .before .before .before .before .before .args in
-    let loop = c .before .before .before .loop in
-    (crowded-later (args .n) (args .list .now) (pre .fit) (loop .p) (loop .inv .0) (λ x. T-not (c .before .is-crowded .result) (rw (c .if1 .left) tt) (c .before .is-crowded .ensures .shows x)), omega arith)
+    let asked = c .before in
+    let turn = asked .before .before in
+    let is = asked .is-crowded in
+    (crowded-later _ _ (begun turn .pre .fit) (turn .loop .p) (turn .loop .inv .0) (λ x. T-not (is .result) (rw (c .if1 .left) tt) (is .ensures .shows x)), omega arith)
 
 returns-2 : tie.Need-returns-2 Inv-loop μ-loop
 returns-2 c =
-    let pre = c .before .before .before .before .pre in
-    let args = c .before .before .before .before .args in
-    crowded-nowhere (args .n) (args .list .now) (pre .fit) (c .before .loop .p) (omega arith) (c .before .loop .inv .0)
+    let turn = c .before in crowded-nowhere _ _ (begun turn .pre .fit) (turn .loop .p) (omega arith) (turn .loop .inv .0)
 
 pub crowded-side-spec : {M : Type 1} → statement M
 crowded-side-spec =

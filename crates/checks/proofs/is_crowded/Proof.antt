@@ -1,45 +1,19 @@
--- `checks::is_crowded` meets its contract.
+-- `checks::is_crowded` meets its contract. What the entry tells is in Maps.
 -- Assumes nothing.
-use mathlib.Core.Path.{_≡_, refl, ap, sym, _∙_}
-use Prim.Native.Nat.{ℕ, _+_, _*_, _<_}
+use Prim.Native.Nat.{_+_, _<_}
 use native.Mathlib.Omega.{arith}
 use borrow.Author.Needs.{needs}
 use lib.ListN.{length}
-use Rattle.lists.specs.Search.{at}
-use Rattle.rules.specs.Elements.{Side, slot, sideAt}
-use Rattle.theory.specs.Sides.{slot-below}
-use Rattle.siblings.specs.Siblings.{sibling}
-use Rattle.siblings.specs.Uses.{sibling-side}
-use Rattle.checks.specs.Maps.{map-at, map-side, map-none, map-twice}
+use Rattle.checks.specs.Maps.{none-crowded, sibling-below, crowded-by}
 use Rattle.checks.proofs.is_crowded.Statement.{statement}
 use Rattle.checks.proofs.is_crowded.Tie as tie
 
--- what was read at the side's place is its sibling
-there : (c : tie.After-slot-of) → Side (c .before .before .before .before .before .args .list .now) (sideAt (c .before .before .before .before .before .args .p))
-there c =
-    let pre = c .before .before .before .before .before .pre in
-    let args = c .before .before .before .before .before .args in
-    map-side (args .n) (args .list .now) (args .work .now) (pre .0) (args .p) (pre .1) (c .before .if1 .left)
+abbrev begun : tie.After-shared-slice-known3 → tie.Start
+begun c = c .before .before .before
 
-read : (c : tie.After-slot-of) → at (c .before .before .before .before .before .args .work .now) (c .before .before .before .before .before .args .n + c .before .before .before .before .before .args .p) ≡ sibling (c .before .before .before .before .before .args .list .now) (sideAt (c .before .before .before .before .before .args .p))
-read c =
-    let pre = c .before .before .before .before .before .pre in
-    let args = c .before .before .before .before .before .args in
-    map-at (args .n) (args .list .now) (args .work .now) (pre .0) (args .p) (pre .1) (there c)
-
-place : (c : tie.After-slot-of) → c .before .before .before .before .before .args .n + c .slot-of .result < length (c .before .before .before .before .before .args .work .now)
-place c =
-    let pre = c .before .before .before .before .before .pre in
-    let args = c .before .before .before .before .before .args in
-    let b = slot-below (args .list .now) (sibling (args .list .now) (sideAt (args .p))) (sibling-side (args .list .now) (sideAt (args .p)) (there c)) in
-    omega (arith, c .slot-of .ensures ∙ ap slot (read c), pre .0 .room)
-
-twice : (c : tie.After-slot-of) → at (c .before .before .before .before .before .args .work .now) (c .before .before .before .before .before .args .n + c .slot-of .result) ≡ sibling (c .before .before .before .before .before .args .list .now) (sibling (c .before .before .before .before .before .args .list .now) (sideAt (c .before .before .before .before .before .args .p)))
-twice c =
-    let pre = c .before .before .before .before .before .pre in
-    let args = c .before .before .before .before .before .args in
-    ap (λ (i : ℕ). at (args .work .now) (args .n + i)) (c .slot-of .ensures)
-    ∙ map-twice (args .n) (args .list .now) (args .work .now) (pre .0) (args .p) (pre .1) _ refl (c .before .if1 .left)
+-- the sibling's entry is in the work
+below : (c : tie.After-slot-of) → let a = begun (c .before .before) .args in a .n + c .slot-of .result < length (a .work .now)
+below c = let some = c .before in sibling-below _ (begun (some .before) .pre) (some .if1 .left) (c .slot-of .ensures)
 
 add-t : tie.Need-add-t
 add-t c = search needs
@@ -51,31 +25,28 @@ shared-slice-read-t : tie.Need-shared-slice-read-t
 shared-slice-read-t c = search needs
 
 returns : tie.Need-returns
-returns c =
-    let pre = c .before .before .before .before .pre in
-    let args = c .before .before .before .before .args in
-    record { says = λ t. absurd t; shows = λ (a, d). map-none (args .n) (args .list .now) (args .work .now) (pre .0) (args .p) (pre .1) (c .if1 .taken) a }
+returns c = none-crowded _ (begun (c .before) .pre) (c .if1 .taken)
 
 slot-of-requires : tie.Need-slot-of-requires
 slot-of-requires c κs = search needs
 
-add-if2 : tie.Need-add-if2
-add-if2 c = omega (arith, place c)
+add-result : tie.Need-add-result
+add-result c = omega (arith, below c)
 
-mul-if2 : tie.Need-mul-if2
-mul-if2 c = omega (arith, place c)
+mul-result : tie.Need-mul-result
+mul-result c = omega (arith, below c)
 
-shared-slice-read-if2 : tie.Need-shared-slice-read-if2
-shared-slice-read-if2 c = omega (arith, place (c .before))
+shared-slice-read-result : tie.Need-shared-slice-read-result
+shared-slice-read-result c = below (c .before)
 
 code-at-requires : tie.Need-code-at-requires
 code-at-requires c κs = search needs
 
 returns-2 : tie.Need-returns-2
-returns-2 c = record { says = λ t. absurd t; shows = λ (a, d). d (sym (twice (c .before .before .before)) ∙ c .if2 .taken ∙ c .before .code-at .ensures) }
-
-returns-3 : tie.Need-returns-3
-returns-3 c = record { says = λ t. (there (c .before .before .before), λ e. c .if2 .left (twice (c .before .before .before) ∙ e ∙ sym (c .before .code-at .ensures))); shows = λ x. tt }
+returns-2 c =
+    let placed = c .before .before in
+    let some = placed .before in
+    crowded-by _ (begun (some .before) .pre) (some .if1 .left) (placed .slot-of .ensures) (c .code-at .ensures)
 
 pub is-crowded-spec : {M : Type 1} → statement M
 is-crowded-spec =
@@ -86,9 +57,8 @@ is-crowded-spec =
     shared-slice-read-t
     returns
     slot-of-requires
-    add-if2
-    mul-if2
-    shared-slice-read-if2
+    add-result
+    mul-result
+    shared-slice-read-result
     code-at-requires
-    returns-2
-    returns-3)
+    returns-2)
