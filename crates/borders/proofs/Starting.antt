@@ -1,19 +1,17 @@
 -- The numbering begins: what the checks say of the list, and the work with B2e's places cleared.
 -- Assumes nothing.
-use mathlib.Core.Path.{_≡_, refl, ap, sym, _∙_}
+use mathlib.Core.Path.{_≡_, refl, ap, _∙_}
 use mathlib.Core.Bool.{not}
 use mathlib.Core.List.{List, _++_}
 use Prim.Native.Nat.{ℕ, _+_, _-_, _≤_, _<_}
 use native.Mathlib.Omega.{arith}
 use lib.Dec.{eqb}
-use lib.ListN.{length, take, drop, replicate, length-append, length-take, length-drop, length-replicate, List·getD-append}
-use lib.Seq.{getD-take, getD-drop, drop-at, length-take-le}
+use lib.ListN.{length, take, drop, replicate}
 use Rattle.lists.specs.Tests.{both}
 use Rattle.lists.specs.TestLaws.{means-eq}
 use Rattle.lists.specs.Search.{at, count, upto}
-use Rattle.lists.specs.SearchLaws.{at-blank}
 use Rattle.lists.specs.Changes.{blank-length, blank-before, blank-here}
-use Rattle.lists.specs.Parts.{part, length-part, put-take}
+use Rattle.lists.specs.Parts.{part, length-part}
 use Rattle.rules.specs.Elements.{Side, slot, origin, firstSide}
 use Rattle.rules.specs.Pairing.{alike}
 use Rattle.rules.specs.Refusals.{unusedVertex, alikeSide}

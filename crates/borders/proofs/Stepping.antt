@@ -8,14 +8,14 @@ use Prim.Native.Nat.{ℕ, suc, _+_, _*_, _-_, _≤_, _<_}
 use native.Mathlib.Omega.{arith}
 use native.Mathlib.Numerals.{add-one}
 use lib.Dec.{T, T-not, not-T}
-use lib.ListN.{length, set, length-set, length-append, List·getD-append, List·getD-eq-default}
+use lib.ListN.{length, set, length-set}
 use lib.Seq.{getD-at}
 use Rattle.lists.specs.TestLaws.{Test, pass, fail, test, decide, passes, both-pass, means-eq}
 use Rattle.lists.specs.Search.{at, count, upto}
-use Rattle.lists.specs.SearchLaws.{lt-or-eq, le-not-lt, le-or-lt, count-pass, count-fail, count-bound, upto-pass, upto-fail, length-upto}
+use Rattle.lists.specs.SearchLaws.{lt-or-eq, le-not-lt, count-pass, count-fail, count-bound, upto-pass, upto-fail, length-upto}
 use Rattle.lists.specs.Changes.{at-snoc-other}
 use Rattle.lists.specs.Stores.{at-same, at-other}
-use Rattle.rules.specs.Elements.{isSide, Side, slot, destination, next, sideAt, sideWith}
+use Rattle.rules.specs.Elements.{maxElement, isSide, Side, slot, destination, next, sideAt, sideWith}
 use Rattle.rules.specs.Tables.{partner, isBorder, borderNumber, e2e}
 use Rattle.theory.specs.Sides.{side-facts, side-positive, sideAt-slot, slot-sideAt, slot-below}
 use Rattle.theory.specs.Steps.{next-side}
@@ -28,6 +28,11 @@ pub put-length : {i x : ℕ} {w w′ : List ℕ} → Put i x w w′ → length w
 put-length (kept e f) = ap length f
 put-length {i} {x} {w} (put e f) = ap length f ∙ length-set w i x
 
+-- what is put in, by the code x of border b, b as the index i, the code s of the side and the vertex d where it ends
+pub put-read : (n : ℕ) (L w : List ℕ) (p b : ℕ) {x i s d : ℕ} {w′ : List ℕ} → x ≡ 8 * b → i ≡ b → s ≡ sideAt p → d ≡ destination L (sideAt p) →
+    Put (d - 1) x (set (set w (n + p) x) (n + length L + i - 1) s) w′ → Put (destination L (sideAt p) - 1) (8 * b) (entered n L p b w) w′
+put-read n L w p b e f g h q = rw (e, f, g, h) at q
+
 module _ {n : ℕ} {L : List ℕ} (m : Matched n L) {p k c : ℕ} {w : List ℕ} (s : Numbering n L p k c w) (inside : p < length L) where
   abbrev isBorderAt : ℕ → Bool
   isBorderAt = sideWith L (isBorder L)
@@ -39,8 +44,8 @@ module _ {n : ℕ} {L : List ℕ} (m : Matched n L) {p k c : ℕ} {w : List ℕ}
   pub few : (k ≤ p) × (c ≤ p)
   few = ((rw (s .number) (count-bound isBorderAt p)), (rw (s .sides) (count-bound isSideAt p)))
 
-  pub room : (length L ≤ 4_000_000) × (n + 2 * length L ≤ length w) × (n ≤ 1_000_000)
-  room = omega (arith, m .fit .fours, m .fit .size, m .fit .vertices, s .long)
+  pub room : (length L ≤ 4 * maxElement) × (n + 2 * length L ≤ length w)
+  room = omega (arith, m .fit .fours, m .fit .size, s .long)
 
   -- what stands at p is 0 where there is no side, and else the side's sibling
   sibling-at : Side L (sideAt p) → at w (n + p) ≡ sibling L (sideAt p)

@@ -5,8 +5,12 @@
 ghost use mathlib.Core.Path.{_≡_};
 ghost use Prim.Native.Nat.{_+_, _*_, _-_, _/_, _≤_, _<_};
 ghost use lib.ListN.{length};
-ghost use Rattle.rules.specs.Elements.{Side, destination, sideAt};
+ghost use Rattle.rules.specs.Elements.{maxElement, Side, destination, sideAt};
 ghost use Rattle.borders.specs.Numbers.{Ready, Numbered, Matched, Numbering, Put, entered};
+use buffers::clear;
+use halfedge::HalfEdge;
+use halfedge::code_at;
+use halfedge::is_border;
 use halfedge::wide;
 use sides::destination_of;
 
@@ -22,7 +26,7 @@ pub fn number_borders(n: usize, list: &[u32], work: &mut [u32]) -> Counts
 {
     let start = n + list.len();
     let end = start + list.len();
-    buffers::clear(&mut work[start..end]);
+    clear(&mut work[start..end]);
     number(n, list, work)
 }
 
@@ -63,7 +67,7 @@ fn number_place(
         return Counts { borders, sides };
     }
     let c = sides + 1;
-    if sibling != halfedge::code_at(p) {
+    if sibling != code_at(p) {
         return Counts { borders, sides: c };
     }
     let b = borders + 1;
@@ -76,12 +80,12 @@ fn number_place(
 
 // Gives the border side at place p the number b.
 fn put_border(n: usize, list: &[u32], work: &mut [u32], p: usize, b: u32)
-    requires { ⌜ (p < length (now list)) × (1 ≤ b) × (b ≤ p + 1) × (length (now list) ≤ 4_000_000) × (n + 2 * length (now list) ≤ length (now work)) ⌝ }
+    requires { ⌜ (p < length (now list)) × (1 ≤ b) × (b ≤ p + 1) × (length (now list) ≤ 4 * maxElement) × (n + 2 * length (now list) ≤ length (now work)) ⌝ }
     requires { ⌜ Side (now list) (sideAt p) × (1 ≤ destination (now list) (sideAt p)) × (destination (now list) (sideAt p) ≤ n) ⌝ }
     ensures { λ _. ⌜ Put (destination (now (list .entry)) (sideAt p) - 1) (8 * b) (entered n (now (list .entry)) p b (now (work .entry))) (now (work .exit)) ⌝ }
 {
-    let s = halfedge::code_at(p);
-    let border = 8 * b;
+    let s = code_at(p);
+    let border = HalfEdge::border(b).code;
     work[n + p] = border;
     work[n + list.len() + wide(b) - 1] = s;
     put_vertex(work, wide(destination_of(list, s)) - 1, border);
@@ -92,7 +96,7 @@ fn put_vertex(work: &mut [u32], i: usize, border: u32)
     requires { ⌜ i < length (now work) ⌝ }
     ensures { λ _. ⌜ Put i border (now (work .entry)) (now (work .exit)) ⌝ }
 {
-    if work[i] % 8 != 0 {
+    if !is_border(work[i]) {
         work[i] = border;
     }
 }

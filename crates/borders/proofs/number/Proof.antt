@@ -14,14 +14,15 @@ Inv-loop n list work₀ borders₀ sides₀ p₀ work borders sides p = (p ≤ l
 abbrev μ-loop : tie.MeasureT-loop
 μ-loop n list work₀ borders₀ sides₀ p₀ work borders sides p = length list - p
 
+abbrev begun : tie.At-loop Inv-loop μ-loop → tie.Start Inv-loop μ-loop
+begun c = c .before .before .before
+
 loop-holds : tie.Need-loop-holds Inv-loop μ-loop
 loop-holds c = (omega arith, c .before .before .pre .1)
 
 number-place-requires : tie.Need-number-place-requires Inv-loop μ-loop
 number-place-requires c κs =
-    let pre = c .before .before .before .before .before .pre in
-    let l = c .before .before .loop in
-    (pre .0, (c .before .loop-test .taken, l .inv .1))
+    let turn = c .before .before in (begun turn .pre .0, (c .before .loop-test .taken, turn .loop .inv .1))
 
 add-p : tie.Need-add-p Inv-loop μ-loop
 add-p c = omega arith
@@ -33,16 +34,13 @@ loop-again : tie.Need-loop-again Inv-loop μ-loop
 loop-again c = (omega arith, c .before .before .number-place .ensures)
 
 same-length : tie.Need-same-length Inv-loop μ-loop
-same-length c =
-    let pre = c .before .before .before .before .pre in
-    c .before .loop .inv .1 .long ∙ sym (pre .1 .long)
+same-length c = c .before .loop .inv .1 .long ∙ sym (begun (c .before) .pre .1 .long)
 
 returns : tie.Need-returns Inv-loop μ-loop
 returns c =
-    let args = c .before .before .before .before .args in
-    let l = c .before .loop in
-    let e : l .p ≡ length (args .list .now) = omega (arith, l .inv .0, c .loop-test .left) in
-    rw e at (l .inv .1)
+    let (below, done) = c .before .loop .inv in
+    let e : c .before .loop .p ≡ length (begun (c .before) .args .list .now) = omega arith in
+    rw e at done
 
 pub number-spec : {M : Type 1} → statement M
 number-spec =

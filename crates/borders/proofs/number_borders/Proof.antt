@@ -10,6 +10,12 @@ use Rattle.borders.proofs.Ending.{numbered}
 use Rattle.borders.proofs.number_borders.Statement.{statement}
 use Rattle.borders.proofs.number_borders.Tie as tie
 
+abbrev begun : tie.After-clear → tie.Start
+begun c = c .before .before .before .before
+
+abbrev emptied : tie.After-number-arg → tie.After-clear
+emptied c = c .before .before .before
+
 add-start : tie.Need-add-start
 add-start c = search needs
 
@@ -33,21 +39,21 @@ clear-requires c κs = search needs
 
 number-requires : tie.Need-number-requires
 number-requires c κs =
-    let clear = c .before .before .before .clear in
-    let p = c .before .before .before .before .before .before .before in
-    let l = clear in
+    let p = begun (emptied c) in
     let n = p .args .n in
     let list = p .args .list .now in
     let k : n + length list + length list - (n + length list) ≡ length list = omega arith in
-    (matched _ _ _ (p .pre), cleared n list (p .args .work .now) (p .pre) _ (l .last .0) k (l .ensures))
+    let clear = emptied c .clear in
+    (matched _ _ _ (p .pre), cleared n list (p .args .work .now) (p .pre) _ (clear .last .0) k (clear .ensures))
 
 same-length : tie.Need-same-length
 same-length c = search needs
 
 returns : tie.Need-returns
 returns c =
-    let p = c .before .before .before .before .before .before .before .before .before .before in
-    let s = c .before .before .number .ensures in
+    let done = c .before .before in
+    let p = begun (emptied (done .before)) in
+    let s = done .number .ensures in
     numbered (p .args .n) (p .args .list .now) (matched _ _ _ (p .pre)) _ _ (p .args .work .now) _ s (s .long ∙ sym (p .pre .long))
 
 pub number-borders-spec : {M : Type 1} → statement M

@@ -1,27 +1,39 @@
 -- `borders::put_border` meets its contract.
 -- Assumes nothing.
 use mathlib.Core.Path.{_≡_, ap, _∙_}
+use Prim.Native.Nat.{_*_}
 use native.Mathlib.Omega.{arith}
 use borrow.Author.Needs.{needs}
 use lib.ListN.{length-set}
 use Rattle.rules.specs.Elements.{sideAt, destination}
-use Rattle.borders.proofs.Stepping.{put-length}
+use Rattle.halfedge.specs.Codes.{border-code}
+use Rattle.borders.proofs.Stepping.{put-length, put-read}
 use Rattle.borders.proofs.put_border.Statement.{statement}
 use Rattle.borders.proofs.put_border.Tie as tie
 
-ends : (c : tie.After-wide2) → let a = c .before .before .before .before .before .before .before .args in c .wide2 .result ≡ destination (a .list .now) (sideAt (a .p))
+abbrev begun : tie.After-code-at → tie.Start
+begun c = c .before .before .before
+
+abbrev entered : tie.After-wide2 → tie.After-wide
+entered c = c .before .before .before
+
+abbrev coded : tie.After-wide2 → tie.After-border
+coded c = entered c .before
+
+border : (c : tie.After-border) → c .border .result .code ≡ 8 * begun (c .before) .args .b
+border c = c .border .ensures ∙ border-code _ (omega arith) (omega arith)
+
+ends : (c : tie.After-wide2) → let a = begun (coded c .before) .args in c .wide2 .result ≡ destination (a .list .now) (sideAt (a .p))
 ends c =
-    let args = c .before .before .before .before .before .before .before .args in
-    let code-at = c .before .before .before .before .code-at in
     c .wide2 .ensures
     ∙ c .before .destination-of .ensures
-    ∙ ap (destination (args .list .now)) (code-at .ensures)
+    ∙ ap (destination _) (coded c .before .code-at .ensures)
 
 code-at-requires : tie.Need-code-at-requires
 code-at-requires c κs = search needs
 
-mul-border : tie.Need-mul-border
-mul-border c = search needs
+border-requires : tie.Need-border-requires
+border-requires c κs = search needs
 
 add-work : tie.Need-add-work
 add-work c = search needs
@@ -52,8 +64,7 @@ slice-write-work-2 c = simp length-set (omega (arith, c .wide .ensures))
 
 destination-of-requires : tie.Need-destination-of-requires
 destination-of-requires c κs =
-    let pre = c .before .before .before .before .before .pre in
-    rw (c .before .before .code-at .ensures) (pre .1 .0)
+    let read = c .before .before .before in rw (read .code-at .ensures) (begun read .pre .1 .0)
 
 wide-requires-2 : tie.Need-wide-requires-2
 wide-requires-2 c κs = search needs
@@ -69,15 +80,19 @@ same-length c = put-length (c .before .before .put-vertex .ensures) ∙ simp len
 
 returns : tie.Need-returns
 returns c =
-    let w = c .before .before .before in
-    rw (ends w, w .before .before .before .wide .ensures, w .before .before .before .before .code-at .ensures) at (c .before .before .put-vertex .ensures)
+    let done = c .before .before in
+    let found = done .before in
+    let read = coded found .before in
+    let a = begun read .args in
+    put-read (a .n) (a .list .now) (a .work .now) (a .p) (a .b) (border (coded found)) (entered found .wide .ensures)
+    (read .code-at .ensures) (ends found) (done .put-vertex .ensures)
 
 pub put-border-spec : {M : Type 1} → statement M
 put-border-spec =
     tie.close
     (tie.spec
     code-at-requires
-    mul-border
+    border-requires
     add-work
     mul-work
     slice-write-work

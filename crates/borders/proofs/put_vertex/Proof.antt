@@ -2,15 +2,20 @@
 -- Assumes nothing.
 use mathlib.Core.Path.{refl}
 use borrow.Author.Needs.{needs}
+use borrow.Author.Tests.{not-true, not-false}
+use Rattle.halfedge.specs.Codes.{of-border, of-side}
 use Rattle.borders.specs.Numbers.{kept, put}
 use Rattle.borders.proofs.put_vertex.Statement.{statement}
 use Rattle.borders.proofs.put_vertex.Tie as tie
 
-mul-if1 : tie.Need-mul-if1
-mul-if1 c = search needs
+mul-is-border : tie.Need-mul-is-border
+mul-is-border c = search needs
 
-slice-read-if1 : tie.Need-slice-read-if1
-slice-read-if1 c = search needs
+slice-read-is-border : tie.Need-slice-read-is-border
+slice-read-is-border c = search needs
+
+is-border-requires : tie.Need-is-border-requires
+is-border-requires c κs = search needs
 
 mul-work : tie.Need-mul-work
 mul-work c = search needs
@@ -22,12 +27,20 @@ same-length : tie.Need-same-length
 same-length c = search needs
 
 returns : tie.Need-returns
-returns c = put (c .if1 .taken) refl
+returns c = put (of-side _ (c .before .is-border .ensures) (not-true _ (c .if1 .taken))) refl
 
 returns-2 : tie.Need-returns-2
-returns-2 c = kept (c .if1 .left) refl
+returns-2 c = kept (of-border _ (c .before .is-border .ensures) (not-false _ (c .if1 .left))) refl
 
 pub put-vertex-spec : {M : Type 1} → statement M
 put-vertex-spec =
     tie.close
-    (tie.spec mul-if1 slice-read-if1 mul-work slice-write-work same-length returns returns-2)
+    (tie.spec
+    mul-is-border
+    slice-read-is-border
+    is-border-requires
+    mul-work
+    slice-write-work
+    same-length
+    returns
+    returns-2)
