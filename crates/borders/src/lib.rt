@@ -3,7 +3,7 @@
 // The work holds for each vertex its least side, which becomes V2e; for each place of the list the sibling, which becomes E2e; and then
 // B2e, as many places again.
 ghost use mathlib.Core.Path.{_≡_};
-ghost use Prim.Native.Nat.{_+_, _*_, _-_, _/_, _≤_, _<_};
+ghost use Prim.Native.Nat.{_+_, _*_, _-_, _≤_, _<_};
 ghost use lib.ListN.{length};
 ghost use Rattle.rules.specs.Elements.{maxElement, Side, destination, sideAt};
 ghost use Rattle.borders.specs.Numbers.{Ready, Numbered, Matched, Numbering, Put, entered};

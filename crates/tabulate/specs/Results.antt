@@ -3,29 +3,28 @@
 use mathlib.Core.Path.{_≡_, refl, ap, sym, _∙_}
 use mathlib.Core.Bool.{true}
 use mathlib.Core.List.{List}
-use Prim.Native.Nat.{ℕ, _+_, _*_, _/_, _≤_, _<_}
+use Prim.Native.Nat.{ℕ, _+_, _*_, _/_, _≤_}
 use native.Mathlib.Omega.{arith}
 use lib.Dec.{T, eqb}
 use lib.ListN.{length, take, drop}
-use lib.Seq.{take-take}
 use Rattle.lists.specs.Search.{at}
 use Rattle.lists.specs.SearchLaws.{count-bound}
 use Rattle.lists.specs.TestLaws.{both-pass, means-eq}
 use Rattle.lists.specs.Parts.{part, part-take}
 use Rattle.lists.specs.Stores.{Kept}
-use Rattle.rules.specs.Elements.{elements, element, number, sideAt, Side, slot, sideWith, firstVertex, countSides}
-use Rattle.rules.specs.Pairing.{sizesFit, unfitCorner, repeatedCorner, rowsFit, Pairing}
-use Rattle.rules.specs.Tables.{partner, borders, edges, b2e, e2e, v2e}
+use Rattle.rules.specs.Elements.{maxElement, elements, element, number, sideAt, slot, sideWith, firstVertex, countSides}
+use Rattle.rules.specs.Pairing.{sizesFit, unfitCorner, repeatedCorner, rowsFit}
+use Rattle.rules.specs.Tables.{borders, edges, b2e, e2e, v2e}
 use Rattle.rules.specs.Recovery.{walkTo, walk}
 use Rattle.rules.specs.Refusals.{Answer, gives, refused, unusedVertex, crowdedSide, alikeSide, missed, unorderedVertex, sideCheck, vertexCheck, listAnswer}
 use Rattle.theory.specs.Sides.{sideAt-slot}
-use Rattle.theory.specs.FitRows.{Fit, means-fit, means-sizes, no-side-at}
+use Rattle.theory.specs.FitRows.{Fit, means-fit, no-side-at}
 use Rattle.theory.specs.Pairings.{the-pairing}
-use Rattle.theory.specs.Entries.{length-v2e, length-e2e}
+use Rattle.theory.specs.Entries.{length-v2e}
 use Rattle.theory.specs.Built.{borders-bound}
 use Rattle.theory.specs.Walking.{walk-walked}
 use Rattle.theory.specs.Answers.{side-clear, side-refuses, vertex-clear, vertex-refuses}
-use Rattle.walk.specs.Layout.{Sizes, tables, written, v2eIn, e2eIn, Linked, Walking}
+use Rattle.walk.specs.Layout.{written, e2eIn, Walking}
 use Rattle.unordered.specs.Missed.{Walked}
 use Rattle.siblings.specs.Siblings.{Grouped, Room}
 use Rattle.checks.specs.Maps.{Mapped}
@@ -57,95 +56,196 @@ pub record Tabulated (n : ℕ) (L : List ℕ) (stated a : Answer) (w w′ : List
   pub holds : (k e : ℕ) → a ≡ gives k e → Holds n L w′
   pub long : length w′ ≡ length w
 
--- after the borders are numbered and the walk is made
-module _ (n : ℕ) (L w : List ℕ) (r : Ready n L w) (k c : ℕ) (w₁ : List ℕ) (x : Numbered n L k c w w₁) where
+-- a refusal leaves nothing that holds
+refuses : {n : ℕ} {L : List ℕ} {stated a : Answer} {r p q : ℕ} {w w′ : List ℕ} →
+    a ≡ refused r p q → stated ≡ refused r p q → length w′ ≡ length w → Tabulated n L stated a w w′
+refuses e f l =
+    record { answer = e ∙ sym f; holds = λ k c g. (let z : _≡_ {A = ℕ} 0 1 = cc in absurd (omega arith)); long = l }
+
+-- the same answer, stated with the checks before it, of the buffer at first
+restated : {n : ℕ} {L : List ℕ} {stated stated′ a : Answer} {w w₀ w′ : List ℕ} → stated′ ≡ stated → length w ≡ length w₀ → Tabulated n L stated a w w′ → Tabulated n L stated′ a w₀ w′
+restated e l x = record { answer = x .answer ∙ sym e; holds = x .holds; long = x .long ∙ l }
+
+-- the borders are numbered and the walk, from o on, is made: w has become w₂, and k and c are the numbers of border sides and of sides
+pub record Tabled (n : ℕ) (L : List ℕ) (o k c : ℕ) (w w₂ : List ℕ) : Type 0 where
+  pub fit : Fit n L
+  pub number : k ≡ borders L
+  pub sides : c ≡ countSides L (λ s. true)
+  pub walked : Walked o L w₂
+  pub unordered : firstVertex n (missed L (drop o w₂)) ≡ unorderedVertex n L
+  pub holds : Holds n L w₂
+  pub long : length w₂ ≡ length w
+
+module _ {n : ℕ} {L w : List ℕ} (r : Ready n L w) {k c : ℕ} {w₁ : List ℕ} (x : Numbered n L k c w w₁) {w₂ : List ℕ} (y : Walking n (elements L) n w₁ w₂) where
   fit : Fit n L
   fit = r .mapped .fit
 
-  pub walk-sizes : Sizes n (elements L) w₁
-  walk-sizes = record { vertices = fit .vertices; elements = fit .size; long = x .long ∙ r .long }
+  -- the walk is over the list's own tables
+  own : written n (elements L) w₂ ≡ walk (v2e n L) (e2e L)
+  unfolding walk
+  own =
+      y .new
+      ∙ ap (λ (X : List ℕ). walkTo X (e2eIn n (elements L) w₁) n) (x .vertices)
+      ∙ ap (λ (X : List ℕ). walkTo (v2e n L) X n) (x .opposites)
+      ∙ ap (walkTo (v2e n L) (e2e L)) (sym (length-v2e L n))
 
-  module _ (w₂ : List ℕ) (y : Walking n (elements L) n w₁ w₂) where
-    -- the walk is over the list's own tables
-    walked : written n (elements L) w₂ ≡ walk (v2e n L) (e2e L)
-    unfolding walk
-    walked =
-        y .new
-        ∙ ap (λ (X : List ℕ). walkTo X (e2eIn n (elements L) w₁) n) (x .vertices)
-        ∙ ap (λ (X : List ℕ). walkTo (v2e n L) X n) (x .opposites)
-        ∙ ap (walkTo (v2e n L) (e2e L)) (sym (length-v2e L n))
+  walk-done : Walked (n + 8 * elements L) L w₂
+  walk-done =
+      record {
+        size = fit .size;
+        fours = fit .fours;
+        start = omega (arith, fit .vertices, fit .size);
+        room = omega (arith, y .long, x .long, r .long, fit .fours);
+        empty = λ p h e.
+            ap (λ (X : List ℕ). at X p) own
+            ∙ walk-walked n L (the-pairing n L fit (r .apart)) .outside p (λ s a q. no-side-at n L fit p e (rw (ap sideAt (sym q) ∙ sideAt-slot L s a) a));
+      }
 
-    pub walk-done : Walked (n + 8 * elements L) L w₂
-    walk-done =
-        record {
-          size = fit .size;
-          fours = fit .fours;
-          start = omega (arith, fit .vertices, fit .size);
-          room = omega (arith, y .long, x .long, r .long, fit .fours);
-          empty = λ p h e.
-              ap (λ (X : List ℕ). at X p) walked
-              ∙ walk-walked n L (the-pairing n L fit (r .apart)) .outside p (λ s a q. no-side-at n L fit p e (rw (ap sideAt (sym q) ∙ sideAt-slot L s a) a));
-        }
+  walk-holds : Holds n L w₂
+  walk-holds =
+      let o = n + 8 * elements L in
+      let l₁ : o ≤ length w₁ = omega (arith, x .long, r .long) in
+      let l₂ : o ≤ length w₂ = omega (arith, y .long, x .long, r .long) in
+      let same : (a k : ℕ) → a + k ≤ o → part a k w₂ ≡ part a k w₁ =
+      λ a k h. sym (part-take a k o w₂ h l₂) ∙ ap (part a k) (y .kept) ∙ part-take a k o w₁ h l₁ in
+      record {
+        vertices = same 0 n (omega arith) ∙ x .vertices;
+        opposites = same n (4 * elements L) (omega arith) ∙ x .opposites;
+        border = same (n + 4 * elements L) (borders L) (omega (arith, borders-bound L, fit .fours)) ∙ x .border;
+      }
 
-    pub walk-missed : firstVertex n (missed L (drop (n + 8 * elements L) w₂)) ≡ unorderedVertex n L
-    unfolding unorderedVertex
-    walk-missed = ap (λ (X : List ℕ). firstVertex n (missed L X)) walked
+  walked : Tabled n L (n + 8 * elements L) k c w w₂
+  unfolding unorderedVertex
+  walked =
+      record {
+        fit = fit;
+        number = x .number;
+        sides = x .sides;
+        walked = walk-done;
+        unordered = ap (λ (X : List ℕ). firstVertex n (missed L X)) own;
+        holds = walk-holds;
+        long = y .long ∙ x .long;
+      }
 
-    pub walk-holds : Holds n L w₂
-    walk-holds =
-        let o = n + 8 * elements L in
-        let l₁ : o ≤ length w₁ = omega (arith, x .long, r .long) in
-        let l₂ : o ≤ length w₂ = omega (arith, y .long, x .long, r .long) in
-        let same : (a k : ℕ) → a + k ≤ o → part a k w₂ ≡ part a k w₁ =
-        λ a k h. sym (part-take a k o w₂ h l₂) ∙ ap (part a k) (y .kept) ∙ part-take a k o w₁ h l₁ in
-        record {
-          vertices = same 0 n (omega arith) ∙ x .vertices;
-          opposites = same n (4 * elements L) (omega arith) ∙ x .opposites;
-          border = same (n + 4 * elements L) (borders L) (omega (arith, borders-bound L, fit .fours)) ∙ x .border;
-        }
+-- in the code, with n as the index a
+pub tabled : {n a k c : ℕ} {L w w₁ w₂ : List ℕ} → Ready n L w → a ≡ n → Numbered a L k c w w₁ → Walking a (elements L) a w₁ w₂ → Tabled n L (a + 8 * elements L) k c w w₂
+tabled r e x y = rw e (walked r (rw e at x) (rw e at y))
 
--- what the sibling map and the least sides leave for the borders
-module _ (n : ℕ) (L w : List ℕ) (fit : Fit n L) (long : length w ≡ n + 12 * elements L) where
-  pub room : Room n L w
-  room = record { fit = fit; room = omega (arith, fit .fours) }
-
-  module _ (w₁ w₂ : List ℕ) (x : Grouped n L w w₁) (y : Kept n w₁ w₂) where
-    pub still-long : length w₂ ≡ n + 12 * elements L
-    still-long = y .long ∙ x .kept .long ∙ long
-
-    pub mapped : Mapped n L w₂
-    mapped =
-        record {
-          fit = fit;
-          room = omega (arith, still-long, fit .fours);
-          siblings = λ s a. y .entries (n + slot s) (omega arith) ∙ x .siblings s a;
-          empty = λ p h d. y .entries (n + p) (omega arith) ∙ x .empty p h d;
-        }
-
--- checks 3 and 4 found nothing: the rows are fit
-pub fit-rows : (n : ℕ) (L : List ℕ) → T (sizesFit n L) → unfitCorner n L ≡ 0 → repeatedCorner L ≡ 0 → Fit n L
-unfolding rowsFit
-fit-rows n L t e f =
-    means-fit n L .says
-    (both-pass (sizesFit n L) _ t
-    (both-pass (eqb (unfitCorner n L) 0) (eqb (repeatedCorner L) 0) (means-eq (unfitCorner n L) 0 .shows e) (means-eq (repeatedCorner L) 0 .shows f)))
-
--- a refusal leaves nothing that holds
-pub refuses : (n : ℕ) (L : List ℕ) (stated a : Answer) (r p q : ℕ) (w w′ : List ℕ) → a ≡ refused r p q → stated ≡ refused r p q → length w′ ≡ length w → Tabulated n L stated a w w′
-refuses n L stated a r p q w w′ e f l =
-    record { answer = e ∙ sym f; holds = λ k c g. (let z : _≡_ {A = ℕ} 0 1 = cc in absurd (omega arith)); long = l }
-
-pub sides-bound : (L : List ℕ) → countSides L (λ s. true) ≤ length L
+sides-bound : (L : List ℕ) → countSides L (λ s. true) ≤ length L
 unfolding countSides
 sides-bound L = count-bound (sideWith L (λ s. true)) (length L)
 
--- k and the number of edges
-pub counted : (L : List ℕ) (k c : ℕ) → k ≡ borders L → c ≡ countSides L (λ s. true) → gives k ((c + k) / 2) ≡ gives (borders L) (edges L)
-unfolding edges
-counted L k c e f =
-    ap (λ (i : ℕ). gives i ((c + i) / 2)) e ∙ ap (λ (j : ℕ). gives (borders L) ((j + borders L) / 2)) f
+module _ {n o k c : ℕ} {L w w₂ : List ℕ} (t : Tabled n L o k c w w₂) where
+  pub few : c + k ≤ 8 * maxElement
+  few = omega (arith, t .number, t .sides, borders-bound L, sides-bound L, t .fit .fours, t .fit .size)
 
--- the same answer, stated with the checks before it, of the buffer at first
-pub restated : (n : ℕ) (L : List ℕ) (stated stated′ a : Answer) (w w₀ w′ : List ℕ) → stated′ ≡ stated → length w ≡ length w₀ → Tabulated n L stated a w w′ → Tabulated n L stated′ a w₀ w′
-restated n L stated stated′ a w w₀ w′ e l x =
-    record { answer = x .answer ∙ sym e; holds = x .holds; long = x .long ∙ l }
+  -- check 8 by the vertex v that the search found
+  module _ {v : ℕ} (found : v ≡ firstVertex n (missed L (drop o w₂))) where
+    is : v ≡ unorderedVertex n L
+    is = found ∙ t .unordered
+
+    pub refuses-8 : {a : Answer} → (v ≡ 0 → ⊥) → a ≡ refused 8 v 0 → Tabulated n L (pairedAnswer n L) a w w₂
+    refuses-8 d e = refuses e (rw is (vertex-refuses 8 (unorderedVertex n L) _ (λ z. d (is ∙ z)))) (t .long)
+
+    pub gives-tables : {a : Answer} → v ≡ 0 → a ≡ gives k ((c + k) / 2) → Tabulated n L (pairedAnswer n L) a w w₂
+    unfolding edges
+    gives-tables z e =
+        let counts = ap (λ (i : ℕ). gives i ((c + i) / 2)) (t .number) ∙ ap (λ (j : ℕ). gives (borders L) ((j + borders L) / 2)) (t .sides) in
+        record {
+          answer = e ∙ counts ∙ sym (vertex-clear 8 (unorderedVertex n L) _ (sym is ∙ z));
+          holds = λ k e g. t .holds;
+          long = t .long;
+        }
+
+-- w₀ has become w, which holds the sibling map and each vertex's least side; n as an index is a
+pub record Prepared (n a : ℕ) (L w₀ w : List ℕ) : Type 0 where
+  pub index : a ≡ n
+  pub mapped : Mapped a L w
+  pub firsts : Firsts n L w
+  pub long : length w ≡ n + 12 * elements L
+  pub same : length w ≡ length w₀
+
+module _ {n a : ℕ} {L w : List ℕ} (here : Fit n L × (length w ≡ n + 12 * elements L)) (e : a ≡ n) where
+  pub room : Room a L w
+  room = rw e (record { fit = here .0; room = omega (arith, here .0 .fours, here .1) })
+
+  module _ {w₁ : List ℕ} (x : Grouped a L w w₁) where
+    pub still : Fit a L × (a ≤ length w₁)
+    still = (rw e (here .0), omega (arith, x .kept .long, here .1))
+
+    pub prepared : {w₂ : List ℕ} → Kept a w₁ w₂ × Firsts a L w₂ → Prepared n a L w w₂
+    prepared (y, f) =
+        let same = y .long ∙ x .kept .long in
+        record {
+          index = e;
+          mapped =
+              record {
+                fit = still .0;
+                room = omega (arith, here .0 .fours, here .1);
+                siblings = λ s b. y .entries (a + slot s) (omega arith) ∙ x .siblings s b;
+                empty = λ p h d. y .entries (a + p) (omega arith) ∙ x .empty p h d;
+              };
+          firsts = rw e at f;
+          long = same ∙ here .1;
+          same = same;
+        }
+
+-- checks 5 to 7, each by what its search found
+module _ {n a : ℕ} {L w₀ w : List ℕ} (p : Prepared n a L w₀ w) where
+  pub refuses-5 : {v : ℕ} {r : Answer} → v ≡ unusedVertex n L → (v ≡ 0 → ⊥) → r ≡ refused 5 v 0 → Tabulated n L (fitAnswer n L) r w₀ w
+  refuses-5 e d f = refuses f (rw e (vertex-refuses 5 (unusedVertex n L) _ (λ z. d (e ∙ z)))) (p .same)
+
+  module _ (used : unusedVertex n L ≡ 0) where
+    pub refuses-6 : {s : ℕ} {r : Answer} → s ≡ crowdedSide L → (s ≡ 0 → ⊥) → r ≡ refused 6 (element s) (number s) → Tabulated n L (fitAnswer n L) r w₀ w
+    refuses-6 e d f =
+        refuses f (vertex-clear 5 _ _ used ∙ rw e (side-refuses 6 (crowdedSide L) _ (λ z. d (e ∙ z)))) (p .same)
+
+    module _ (uncrowded : crowdedSide L ≡ 0) where
+      clear : {rest : Answer} → vertexCheck 5 (unusedVertex n L) (sideCheck 6 (crowdedSide L) rest) ≡ rest
+      clear = vertex-clear 5 _ _ used ∙ side-clear 6 _ _ uncrowded
+
+      pub refuses-7 : {s : ℕ} {r : Answer} → s ≡ alikeSide L → (s ≡ 0 → ⊥) → r ≡ refused 7 (element s) (number s) → Tabulated n L (fitAnswer n L) r w₀ w
+      refuses-7 e d f = refuses f (clear ∙ rw e (side-refuses 7 (alikeSide L) _ (λ z. d (e ∙ z)))) (p .same)
+
+      module _ (apart : alikeSide L ≡ 0) where
+        pub ready : Ready n L w
+        ready =
+            record {
+              mapped = rw (p .index) at (p .mapped);
+              firsts = p .firsts;
+              used = used;
+              uncrowded = uncrowded;
+              apart = apart;
+              long = p .long;
+            }
+
+        pub fit-on : {r : Answer} {w′ : List ℕ} → Tabulated n L (pairedAnswer n L) r w w′ → Tabulated n L (fitAnswer n L) r w₀ w′
+        fit-on x = restated (clear ∙ side-clear 7 _ _ apart) (p .same) x
+
+-- checks 3 and 4, each by the corner that the search found
+module _ {n : ℕ} {L w : List ℕ} {r : Answer} where
+  pub refuses-3 : {s : ℕ} → (unfitCorner n L ≡ 0 → ⊥) × (unfitCorner n L ≡ s) → r ≡ refused 3 (element s) (number s) → Tabulated n L (listAnswer n L) r w w
+  unfolding listAnswer
+  refuses-3 (d, e) f =
+      refuses f (side-refuses 3 (unfitCorner n L) _ d ∙ ap (λ (s : ℕ). refused 3 (element s) (number s)) e) refl
+
+  pub refuses-4 : {s : ℕ} → (unfitCorner n L ≡ 0) × (repeatedCorner L ≡ 0 → ⊥) × (repeatedCorner L ≡ s) → r ≡ refused 4 (element s) (number s) → Tabulated n L (listAnswer n L) r w w
+  unfolding listAnswer
+  refuses-4 (z, d, e) f =
+      refuses f
+      (side-clear 3 _ _ z ∙ side-refuses 4 (repeatedCorner L) _ d ∙ ap (λ (s : ℕ). refused 4 (element s) (number s)) e)
+      refl
+
+  pub list-on : {w′ : List ℕ} → (unfitCorner n L ≡ 0) × (repeatedCorner L ≡ 0) → Tabulated n L (fitAnswer n L) r w w′ → Tabulated n L (listAnswer n L) r w w′
+  unfolding listAnswer
+  list-on (y, z) x = restated (side-clear 3 _ _ y ∙ side-clear 4 _ _ z) refl x
+
+-- checks 3 and 4 found nothing: the rows are fit
+pub fit-rows : {n : ℕ} {L w : List ℕ} → Sized n L w → (unfitCorner n L ≡ 0) × (repeatedCorner L ≡ 0) → Fit n L × (length w ≡ n + 12 * elements L)
+unfolding rowsFit
+fit-rows {n} {L} s (e, f) = (
+  means-fit n L .says
+      (both-pass (sizesFit n L) _ (s .sizes)
+      (both-pass (eqb (unfitCorner n L) 0) (eqb (repeatedCorner L) 0) (means-eq (unfitCorner n L) 0 .shows e) (means-eq (repeatedCorner L) 0 .shows f))),
+  s .long,
+)

@@ -1,6 +1,6 @@
 // Checks 3 to 8 and the three tables of a list, in a scratch buffer of n + 12m entries; nothing else is written.
 ghost use mathlib.Core.Path.{_≡_};
-ghost use Prim.Native.Nat.{_+_, _*_, _≤_};
+ghost use Prim.Native.Nat.{_+_, _*_};
 ghost use lib.ListN.{length};
 ghost use Rattle.rules.specs.Elements.{elements, element, number};
 ghost use Rattle.rules.specs.Refusals.{refused, listAnswer};
@@ -9,18 +9,27 @@ ghost use Rattle.answer.specs.Numbers.{numbers};
 ghost use Rattle.borders.specs.Numbers.{Ready};
 ghost use Rattle.tabulate.specs.Results.{Sized, fitAnswer, pairedAnswer, Tabulated};
 use answer::Answer;
+use answer::give_two;
+use answer::refuse_at;
+use borders::number_borders;
+use checks::alike_side;
+use checks::crowded_side;
+use checks::first_sides;
+use checks::unused_vertex;
 use corners::Fault;
+use corners::first_fault;
+use halfedge::element_of;
+use halfedge::number_of;
 use halfedge::wide;
+use siblings::siblings;
+use unordered::unordered_vertex;
+use walk::walk;
 
 // A refusal at the side or corner with this code.
 fn refusal_at(refusal: u32, code: u32) -> Answer
     ensures { λ r. ⌜ numbers r ≡ refused refusal (element code) (number code) ⌝ }
 {
-    Answer::Refused {
-        number: refusal,
-        first: code / 8,
-        second: code % 8,
-    }
+    refuse_at(refusal, element_of(code), number_of(code))
 }
 
 // The tables and check 8, where checks 3 to 7 found nothing.
@@ -29,22 +38,16 @@ fn tabulate_paired(n: u32, list: &[u32], work: &mut [u32]) -> Answer
     ensures { λ r. ⌜ Tabulated n (now (list .entry)) (pairedAnswer n (now (list .entry))) (numbers r) (now (work .entry)) (now (work .exit)) ⌝ }
 {
     let m = list.len() / 4;
-    let counts = borders::number_borders(wide(n), list, work);
-    walk::walk(wide(n), m, work);
-    let v = unordered::unordered_vertex(n, wide(n) + 8 * m, list, work);
+    let vertices = wide(n);
+    let counts = number_borders(vertices, list, work);
+    walk(vertices, m, work);
+    let v = unordered_vertex(n, vertices + 8 * m, list, work);
     if v != 0 {
-        return Answer::Refused {
-            number: 8,
-            first: v,
-            second: 0,
-        };
+        return refuse_at(8, v, 0);
     }
     let k = counts.borders;
     let sides = counts.sides;
-    Answer::Gives {
-        first: k,
-        second: (sides + k) / 2,
-    }
+    give_two(k, (sides + k) / 2)
 }
 
 // Checks 5 to 8 and the tables, where checks 3 and 4 found nothing.
@@ -52,21 +55,18 @@ fn tabulate_fit(n: u32, list: &[u32], work: &mut [u32]) -> Answer
     requires { ⌜ Fit n (now list) × (length (now work) ≡ n + 12 * elements (now list)) ⌝ }
     ensures { λ r. ⌜ Tabulated n (now (list .entry)) (fitAnswer n (now (list .entry))) (numbers r) (now (work .entry)) (now (work .exit)) ⌝ }
 {
-    siblings::siblings(wide(n), list, work);
-    checks::first_sides(wide(n), list, work);
-    let v = checks::unused_vertex(n, work);
+    let vertices = wide(n);
+    siblings(vertices, list, work);
+    first_sides(vertices, list, work);
+    let v = unused_vertex(n, work);
     if v != 0 {
-        return Answer::Refused {
-            number: 5,
-            first: v,
-            second: 0,
-        };
+        return refuse_at(5, v, 0);
     }
-    let s = checks::crowded_side(wide(n), list, work);
+    let s = crowded_side(vertices, list, work);
     if s != 0 {
         return refusal_at(6, s);
     }
-    let t = checks::alike_side(wide(n), list, work);
+    let t = alike_side(vertices, list, work);
     if t != 0 {
         return refusal_at(7, t);
     }
@@ -77,7 +77,7 @@ pub fn tabulate(n: u32, list: &[u32], work: &mut [u32]) -> Answer
     requires { ⌜ Sized n (now list) (now work) ⌝ }
     ensures { λ r. ⌜ Tabulated n (now (list .entry)) (listAnswer n (now (list .entry))) (numbers r) (now (work .entry)) (now (work .exit)) ⌝ }
 {
-    let fault = corners::first_fault(n, list);
+    let fault = first_fault(n, list);
     match fault {
         Fault::Unfit(c) => refusal_at(3, c),
         Fault::Repeated(c) => refusal_at(4, c),
