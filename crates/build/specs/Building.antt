@@ -1,23 +1,26 @@
 -- What build leaves in the tables.
 -- Assumes nothing.
 use mathlib.Core.Path.{_≡_, refl, ap, sym, _∙_}
-use mathlib.Core.Bool.{Bool, true, false}
+use mathlib.Core.Bool.{true, false}
 use mathlib.Core.Logic.{_⊎_, inl, inr}
 use mathlib.Core.List.{List, _++_, append-nil}
-use Prim.Native.Nat.{ℕ, _+_, _*_, _-_, _/_, _≤_, _<_}
+use Prim.Native.Nat.{ℕ, _+_, _*_, _-_, _≤_, _<_}
 use native.Mathlib.Omega.{arith}
 use lib.Dec.{T, leb, eqb}
-use lib.ListN.{length, take, drop, replicate, drop-of-length-le, length-take, length-append}
+use lib.ListN.{length, take, drop, replicate, drop-of-length-le, length-take, length-append, length-drop}
 use lib.Seq.{take-append-seam}
 use Rattle.lists.specs.Tests.{both}
 use Rattle.lists.specs.TestLaws.{passes, means-eq, means-le, zero-or}
 use Rattle.lists.specs.Search.{at}
-use Rattle.lists.specs.Parts.{part, part-take}
-use Rattle.rules.specs.Elements.{elements}
+use Rattle.lists.specs.Parts.{part, part-take, length-part}
+use Rattle.rules.specs.Elements.{maxVertex, maxElement, elements}
 use Rattle.rules.specs.Pairing.{sizesFit, unfitCorner, repeatedCorner}
 use Rattle.rules.specs.Tables.{borders, edges, b2e, e2e, v2e}
-use Rattle.rules.specs.Refusals.{Answer, gives, refused, Buffers, callSizes, callLengths, lengthChecks, workAfter, buildAnswer, buildLeaves, roomCheck, listAnswer, after, onto, sideCheck, vertexCheck, unusedVertex, crowdedSide, alikeSide, unorderedVertex}
-use Rattle.theory.specs.Answers.{room-enough, side-clear, side-refuses, vertex-clear, vertex-refuses}
+use Rattle.rules.specs.Refusals.{Answer, gives, refused, Buffers, callSizes, callLengths, lengthChecks, workAfter, buildAnswer, buildLeaves}
+use Rattle.rules.specs.Refusals.{roomCheck, listAnswer, after, onto, sideCheck, vertexCheck, unusedVertex, crowdedSide, alikeSide, unorderedVertex}
+use Rattle.theory.specs.FitRows.{means-sizes}
+use Rattle.theory.specs.Built.{borders-bound}
+use Rattle.theory.specs.Answers.{room-enough, room-short, side-clear, side-refuses, vertex-clear, vertex-refuses}
 use Rattle.tabulate.specs.Results.{Sized, Holds, Tabulated}
 
 -- the answer of checks 3 to 9, and the tables after it
@@ -39,41 +42,26 @@ unfolding onto
 onto-full xs out e = ap (λ (r : List ℕ). xs ++ r) (drop-of-length-le out {i = length xs} (omega arith)) ∙ append-nil xs
 
 -- copies from the work buffer: from its start, and from a to e
-pub front-copied : (n : ℕ) (w out new : List ℕ) → n ≤ length w → length out ≡ n → new ≡ onto (take (n - 0) w) out → new ≡ take n w
+front-copied : (n : ℕ) (w out new : List ℕ) → n ≤ length w → length out ≡ n → new ≡ onto (take (n - 0) w) out → new ≡ take n w
 front-copied n w out new h l e =
     let z : n - 0 ≡ n = omega arith in
     e ∙ onto-full (take (n - 0) w) out (simp length-take (omega arith)) ∙ ap (λ (k : ℕ). take k w) z
 
-pub part-copied : (a e k : ℕ) (w out new : List ℕ) → e ≡ a + k → new ≡ onto (take (e - a) (drop a w)) out → new ≡ onto (part a k w) out
+part-copied : (a e k : ℕ) (w out new : List ℕ) → e ≡ a + k → new ≡ onto (take (e - a) (drop a w)) out → new ≡ onto (part a k w) out
 part-copied a e k w out new h q =
     let z : e - a ≡ k = omega arith in q ∙ ap (λ (i : ℕ). onto (take i (drop a w)) out) z
 
--- what is left after a refusal, and after counts
-module _ (n : ℕ) (L V2e E2e B2e : List ℕ) where
-  pub built-refused : (a : Answer) (r p q : ℕ) → a ≡ refused r p q → a ≡ roomCheck (length B2e) (listAnswer n L) → Built n L a V2e E2e B2e V2e E2e B2e
-  unfolding after
-  built-refused a r p q e f =
+module _ (n m k : ℕ) (w V2e E2e B2e : List ℕ) {V2e′ E2e′ B2e′ : List ℕ} where
+  pub copied : (n + 4 * m + k ≤ length w) × (length V2e ≡ n) × (length E2e ≡ 4 * m) × (k ≤ length B2e) × (n ≤ maxVertex) × (m ≤ maxElement) →
+      V2e′ ≡ onto (take (n - 0) w) V2e → E2e′ ≡ onto (take (n + 4 * m - n) (drop n w)) E2e →
+      B2e′ ≡ onto (take (n + 4 * m + k - (n + 4 * m)) (drop (n + 4 * m) w)) B2e → Copied n m k w B2e V2e′ E2e′ B2e′
+  copied (inside, v, e, b, h, l) x y z =
       record {
-        answer = f;
-        vertices = sym (ap (λ (x : Answer). after x (v2e n L) V2e) e);
-        opposites = sym (ap (λ (x : Answer). after x (e2e L) E2e) e);
-        border = sym (ap (λ (x : Answer). after x (onto (b2e L) B2e) B2e) e);
-      }
-
-  pub built-counts : (a : Answer) (k e m : ℕ) (w V2e′ E2e′ B2e′ : List ℕ) → a ≡ gives k e → a ≡ listAnswer n L → k ≤ length B2e → k ≡ borders L → m ≡ elements L → length E2e ≡ 4 * m
-      → Holds n L w → Copied n m k w B2e V2e′ E2e′ B2e′ → Built n L a V2e E2e B2e V2e′ E2e′ B2e′
-  unfolding after
-  built-counts a k e m w V2e′ E2e′ B2e′ g s h q z l x y =
-      record {
-        answer = g ∙ sym (room-enough (length B2e) k e h) ∙ ap (roomCheck (length B2e)) (sym g ∙ s);
-        vertices = y .vertices ∙ x .vertices ∙ sym (ap (λ (v : Answer). after v (v2e n L) V2e) g);
-        opposites = y .opposites ∙ ap (λ (i : ℕ). part n (4 * i) w) z ∙ x .opposites ∙ sym (ap (λ (v : Answer). after v (e2e L) E2e) g);
-        border =
-            y .border
-            ∙ ap (λ (i : ℕ). onto (part (n + 4 * i) k w) B2e) z
-            ∙ ap (λ (i : ℕ). onto (part (n + 4 * elements L) i w) B2e) q
-            ∙ ap (λ (b : List ℕ). onto b B2e) (x .border)
-            ∙ sym (ap (λ (v : Answer). after v (onto (b2e L) B2e) B2e) g);
+        vertices = front-copied n w V2e V2e′ (omega arith) v x;
+        opposites =
+            part-copied n (n + 4 * m) (4 * m) w E2e E2e′ refl y
+            ∙ onto-full (part n (4 * m) w) E2e (length-part n (4 * m) w (omega arith) ∙ sym e);
+        border = part-copied (n + 4 * m) (n + 4 * m + k) k w B2e B2e′ refl z;
       }
 
 -- what checks 1 and 2 say
@@ -99,11 +87,6 @@ holds-front n L w r l b x =
       opposites = front n (4 * elements L) (omega arith) ∙ x .opposites;
       border = front (n + 4 * elements L) (borders L) (omega arith) ∙ x .border;
     }
-
--- a refusal stays one whatever the room
-pub refused-room : (room r p q : ℕ) (a x : Answer) → a ≡ refused r p q → a ≡ x → a ≡ roomCheck room x
-unfolding roomCheck
-refused-room room r p q a x e s = e ∙ sym (ap (roomCheck room) (sym s ∙ e))
 
 -- checks that end in counts found nothing
 clear-side : (r s k e : ℕ) (rest : Answer) → sideCheck r s rest ≡ gives k e → rest ≡ gives k e
@@ -131,6 +114,104 @@ counts-are n L k e g =
     (clear-side 4 (repeatedCorner L) k e _ (clear-side 3 (unfitCorner n L) k e _ g))))) in
     cc
 
+-- checks 1 and 2 found nothing
+pub record Checked (n : ℕ) (L V2e E2e work : List ℕ) : Type 0 where
+  pub sizes : T (sizesFit n L)
+  pub vertices : n ≤ maxVertex
+  pub size : elements L ≤ maxElement
+  pub fours : length L ≡ 4 * elements L
+  pub v2e-long : length V2e ≡ n
+  pub e2e-long : length E2e ≡ 4 * elements L
+  pub room : n + 16 * elements L ≤ length work
+
+pub checked : {n : ℕ} {L V2e E2e work : List ℕ} → (callSizes n L E2e ≡ true) × (callLengths n L E2e V2e work ≡ true) → Checked n L V2e E2e work
+checked {n} {L} {V2e} {E2e} {work} (s, l) =
+    let sizes = sizes-known n L E2e s .0 in
+    let (a, (b, c)) = means-sizes n L .says sizes in
+    let (v, e, r) = lengths-known n L E2e V2e work l in
+    record { sizes = sizes; vertices = a; size = b; fours = c; v2e-long = v; e2e-long = e; room = r }
+
+-- checks 3 to 8 were made in the front of the work, which has become W, and t is their answer
+pub record Scratched (n : ℕ) (L : List ℕ) (t : Answer) (work W : List ℕ) : Type 0 where
+  pub stated : t ≡ listAnswer n L
+  pub holds : (k e : ℕ) → t ≡ gives k e → Holds n L W
+  pub long : length W ≡ length work
+
+-- n as an index is a
+module _ {n : ℕ} {L V2e E2e work : List ℕ} (x : Checked n L V2e E2e work) {a : ℕ} (index : a ≡ n) where
+  pub front-fits : a + 12 * elements L ≤ length work
+  front-fits = omega (arith, x .room)
+
+  front-long : length (take (a + 12 * elements L - 0) work) ≡ n + 12 * elements L
+  front-long = simp length-take (omega (arith, x .room))
+
+  pub sized : Sized n L (take (a + 12 * elements L - 0) work)
+  sized = record { sizes = x .sizes; long = front-long }
+
+  pub scratched : {t : Answer} {w : List ℕ} → Tabulated n L (listAnswer n L) t (take (a + 12 * elements L - 0) work) w →
+      Scratched n L t work (w ++ drop (a + 12 * elements L - 0) work)
+  scratched {w = w} y =
+      let long = y .long ∙ front-long in
+      let few : borders L ≤ 4 * elements L = omega (arith, borders-bound L, x .fours) in
+      record {
+        stated = y .answer;
+        holds = λ k e g. holds-front n L w _ long few (y .holds k e g);
+        long = simp (length-append, length-drop) (omega (arith, long, x .room));
+      }
+
+-- a refusal leaves the tables as they were
+module _ {n : ℕ} {L : List ℕ} {t : Answer} {work W : List ℕ} (s : Scratched n L t work W) {V2e E2e B2e : List ℕ} where
+  unchanged : {a : Answer} {r p q : ℕ} → a ≡ refused r p q → a ≡ roomCheck (length B2e) (listAnswer n L) → Built n L a V2e E2e B2e V2e E2e B2e
+  unfolding after
+  unchanged e f =
+      record {
+        answer = f;
+        vertices = sym (ap (λ (x : Answer). after x (v2e n L) V2e) e);
+        opposites = sym (ap (λ (x : Answer). after x (e2e L) E2e) e);
+        border = sym (ap (λ (x : Answer). after x (onto (b2e L) B2e) B2e) e);
+      }
+
+  -- checks 3 to 8 refused
+  pub refused-on : {r p q : ℕ} → t ≡ refused r p q → Built n L t V2e E2e B2e V2e E2e B2e × (length W ≡ length work)
+  unfolding roomCheck
+  refused-on e = (unchanged e (e ∙ sym (ap (roomCheck (length B2e)) (sym (s .stated) ∙ e))), s .long)
+
+  -- B2e is shorter than k, which as an index is i
+  pub short-on : {k e i : ℕ} {a : Answer} → t ≡ gives k e → i ≡ k → length B2e < i → a ≡ refused 9 k 0 → Built n L a V2e E2e B2e V2e E2e B2e × (length W ≡ length work)
+  short-on {k} {e} g q h f =
+      let short = ap (roomCheck (length B2e)) (sym (s .stated) ∙ g) ∙ room-short (length B2e) k e (omega arith) in
+      (unchanged f (f ∙ sym short), s .long)
+
+-- the counts k and e: the tables are copied out; n and k as indices are a and i
+module _ {n k e : ℕ} {L V2e E2e work W : List ℕ} {t : Answer} (x : Checked n L V2e E2e work) (s : Scratched n L t work W) (g : t ≡ gives k e)
+    {a i : ℕ} (index : a ≡ n) (count : i ≡ k) (B2e : List ℕ) (enough : i ≤ length B2e) where
+  number : k ≡ borders L
+  number = counts-are n L k e (sym (s .stated) ∙ g)
+
+  pub commits : (a + 4 * elements L + i ≤ length W) × (length V2e ≡ a) × (length E2e ≡ 4 * elements L) × (i ≤ length B2e) × (a ≤ maxVertex) × (elements L ≤ maxElement)
+  commits = (
+    omega (arith, x .room, s .long, number, borders-bound L, x .fours),
+    x .v2e-long ∙ sym index,
+    x .e2e-long,
+    enough,
+    omega (arith, x .vertices),
+    x .size,
+  )
+
+  pub counts-on : {V2e′ E2e′ B2e′ : List ℕ} → Copied a (elements L) i W B2e V2e′ E2e′ B2e′ → Built n L (gives k e) V2e E2e B2e V2e′ E2e′ B2e′ × (length W ≡ length work)
+  unfolding after
+  counts-on {V2e′} {E2e′} {B2e′} c =
+      let y : Copied n (elements L) (borders L) W B2e V2e′ E2e′ B2e′ = rw (index, count, number) at c in
+      let h = s .holds k e g in (
+        record {
+          answer = sym (room-enough (length B2e) k e (omega arith)) ∙ ap (roomCheck (length B2e)) (sym g ∙ s .stated);
+          vertices = y .vertices ∙ h .vertices;
+          opposites = y .opposites ∙ h .opposites;
+          border = y .border ∙ ap (λ (b : List ℕ). onto b B2e) (h .border);
+        },
+        s .long,
+      )
+
 -- the four buffers
 abbrev pub lent : List ℕ → List ℕ → List ℕ → List ℕ → Buffers
 lent V2e E2e B2e work = record { vertices = V2e; opposites = E2e; border = B2e; work = work }
@@ -146,21 +227,33 @@ module _ (n : ℕ) (L V2e E2e B2e work : List ℕ) where
       sym (ap (λ (a : Answer). lent (after a (v2e n L) V2e) (after a (e2e L) E2e) (after a (onto (b2e L) B2e) B2e) (workAfter (callSizes n L E2e) (callLengths n L E2e V2e work) work)) e
       ∙ ap (lent V2e E2e B2e) f)
 
-  pub unsized : callSizes n L E2e ≡ false → (refused 1 0 0 ≡ buildAnswer n L w) × (w ≡ buildLeaves n L w)
+  pub unsized : {a : Answer} → a ≡ refused 1 0 0 → callSizes n L E2e ≡ false → (a ≡ buildAnswer n L w) × (w ≡ buildLeaves n L w)
   unfolding buildAnswer lengthChecks workAfter
-  unsized e =
+  unsized r e =
       let a : buildAnswer n L w ≡ refused 1 0 0 = rw (e, lengthChecks) in
-      (sym a, refused-leaves 1 a (rw (e, workAfter)))
+      (r ∙ sym a, refused-leaves 1 a (rw (e, workAfter)))
 
-  pub unlengthened : callSizes n L E2e ≡ true → callLengths n L E2e V2e work ≡ false → (refused 2 0 0 ≡ buildAnswer n L w) × (w ≡ buildLeaves n L w)
+  pub unlengthened : {a : Answer} → a ≡ refused 2 0 0 → callSizes n L E2e ≡ true → callLengths n L E2e V2e work ≡ false →
+      (a ≡ buildAnswer n L w) × (w ≡ buildLeaves n L w)
   unfolding buildAnswer lengthChecks workAfter
-  unlengthened e f =
+  unlengthened r e f =
       let a : buildAnswer n L w ≡ refused 2 0 0 = rw (e, f, lengthChecks) in
-      (sym a, refused-leaves 2 a (rw (e, f, workAfter)))
+      (r ∙ sym a, refused-leaves 2 a (rw (e, f, workAfter)))
 
-  pub built : (a : Answer) (V2e′ E2e′ B2e′ work′ : List ℕ) → callSizes n L E2e ≡ true → callLengths n L E2e V2e work ≡ true → Built n L a V2e E2e B2e V2e′ E2e′ B2e′ → work′ ≡ replicate (length work) 0 → (a ≡ buildAnswer n L w) × (lent V2e′ E2e′ B2e′ work′ ≡ buildLeaves n L w)
+  -- all of the work is cleared
+  pub built : {a : Answer} {V2e′ E2e′ B2e′ work′ : List ℕ} {l : ℕ} → (callSizes n L E2e ≡ true) × (callLengths n L E2e V2e work ≡ true) →
+      Built n L a V2e E2e B2e V2e′ E2e′ B2e′ × (l ≡ length work) → work′ ≡ replicate l 0 →
+      (a ≡ buildAnswer n L w) × (lent V2e′ E2e′ B2e′ work′ ≡ buildLeaves n L w)
   unfolding buildAnswer buildLeaves lengthChecks workAfter
-  built a V2e′ E2e′ B2e′ work′ e f x z =
+  built {a} (e, f) (x, long) z =
       let g : a ≡ buildAnswer n L w = x .answer ∙ sym (rw (e, f, lengthChecks)) in
-      let y : workAfter (callSizes n L E2e) (callLengths n L E2e V2e work) work ≡ replicate (length work) 0 = rw (e, f, workAfter) in
-      (g, λ i. record { vertices = (x .vertices ∙ ap (λ (v : Answer). after v (v2e n L) V2e) g) i; opposites = (x .opposites ∙ ap (λ (v : Answer). after v (e2e L) E2e) g) i; border = (x .border ∙ ap (λ (v : Answer). after v (onto (b2e L) B2e) B2e) g) i; work = (z ∙ sym y) i })
+      let y : workAfter (callSizes n L E2e) (callLengths n L E2e V2e work) work ≡ replicate (length work) 0 = rw (e, f, workAfter) in (
+        g,
+        λ i.
+            record {
+              vertices = (x .vertices ∙ ap (λ (v : Answer). after v (v2e n L) V2e) g) i;
+              opposites = (x .opposites ∙ ap (λ (v : Answer). after v (e2e L) E2e) g) i;
+              border = (x .border ∙ ap (λ (v : Answer). after v (onto (b2e L) B2e) B2e) g) i;
+              work = (z ∙ ap (λ (k : ℕ). replicate k 0) long ∙ sym y) i;
+            },
+      )

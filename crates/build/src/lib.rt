@@ -3,13 +3,19 @@ ghost use mathlib.Core.Path.{_≡_};
 ghost use mathlib.Core.Bool.{true};
 ghost use Prim.Native.Nat.{_+_, _*_, _≤_};
 ghost use lib.ListN.{length};
-ghost use Rattle.rules.specs.Elements.{elements};
+ghost use Rattle.rules.specs.Elements.{maxVertex, maxElement};
 ghost use Rattle.rules.specs.Refusals.{callSizes, callLengths, buildAnswer, buildLeaves};
 ghost use Rattle.answer.specs.Numbers.{numbers};
-ghost use Rattle.tabulate.specs.Results.{Holds};
 ghost use Rattle.build.specs.Building.{Built, Copied, lent};
 use answer::Answer;
+use answer::refuse;
+use answer::refuse_at;
+use buffers::clear;
+use buffers::copy;
 use halfedge::wide;
+use lengths::lengths_fit;
+use lengths::sizes_fit;
+use tabulate::tabulate;
 
 // The tables are copied out of the work buffer.
 fn commit(
@@ -21,14 +27,14 @@ fn commit(
     b2e: &mut [u32],
     work: &[u32],
 )
-    requires { ⌜ (n + 4 * m + k ≤ length (now work)) × (length (now v2e) ≡ n) × (length (now e2e) ≡ 4 * m) × (k ≤ length (now b2e)) × (n ≤ 1_000_000) × (m ≤ 1_000_000) ⌝ }
+    requires { ⌜ (n + 4 * m + k ≤ length (now work)) × (length (now v2e) ≡ n) × (length (now e2e) ≡ 4 * m) × (k ≤ length (now b2e)) × (n ≤ maxVertex) × (m ≤ maxElement) ⌝ }
     ensures { λ r. ⌜ Copied n m k (now (work .entry)) (now (b2e .entry)) (now (v2e .exit)) (now (e2e .exit)) (now (b2e .exit)) ⌝ }
 {
     let a = n + 4 * m;
     let e = a + k;
-    buffers::copy(&work[0..n], v2e);
-    buffers::copy(&work[n..a], e2e);
-    buffers::copy(&work[a..e], b2e);
+    copy(&work[0..n], v2e);
+    copy(&work[n..a], e2e);
+    copy(&work[a..e], b2e);
 }
 
 // Checks 3 to 9 and the tables, where the lengths are fit. The work buffer isn't cleared yet.
@@ -45,20 +51,17 @@ fn build_fit(
     ensures { λ r. ⌜ length (now (work .exit)) ≡ length (now (work .entry)) ⌝ }
 {
     let m = list.len() / 4;
-    let end = wide(n) + 12 * m;
-    let t = tabulate::tabulate(n, list, &mut work[0..end]);
+    let vertices = wide(n);
+    let end = vertices + 12 * m;
+    let t = tabulate(n, list, &mut work[0..end]);
     let Answer::Gives { first, second: _ } = t else {
         return t;
     };
     let k = wide(first);
     if b2e.len() < k {
-        return Answer::Refused {
-            number: 9,
-            first,
-            second: 0,
-        };
+        return refuse_at(9, first, 0);
     }
-    commit(wide(n), m, k, v2e, e2e, b2e, work);
+    commit(vertices, m, k, v2e, e2e, b2e, work);
     t
 }
 
@@ -75,21 +78,13 @@ pub fn build(
     ensures { λ r. ⌜ numbers r ≡ buildAnswer n (now (list .entry)) (lent (now (v2e .entry)) (now (e2e .entry)) (now (b2e .entry)) (now (work .entry))) ⌝ }
     ensures { λ r. ⌜ lent (now (v2e .exit)) (now (e2e .exit)) (now (b2e .exit)) (now (work .exit)) ≡ buildLeaves n (now (list .entry)) (lent (now (v2e .entry)) (now (e2e .entry)) (now (b2e .entry)) (now (work .entry))) ⌝ }
 {
-    if !lengths::sizes_fit(n, list.len(), e2e.len()) {
-        return Answer::Refused {
-            number: 1,
-            first: 0,
-            second: 0,
-        };
+    if !sizes_fit(n, list.len(), e2e.len()) {
+        return refuse(1);
     }
-    if !lengths::lengths_fit(n, list.len(), e2e.len(), v2e.len(), work.len()) {
-        return Answer::Refused {
-            number: 2,
-            first: 0,
-            second: 0,
-        };
+    if !lengths_fit(n, list.len(), e2e.len(), v2e.len(), work.len()) {
+        return refuse(2);
     }
     let a = build_fit(n, list, v2e, e2e, b2e, work);
-    buffers::clear(work);
+    clear(work);
     a
 }

@@ -1,54 +1,44 @@
--- `build::build_fit` meets its contract.
+-- `build::build_fit` meets its contract. The laws of its steps are in Building.
 -- Assumes nothing.
-use mathlib.Core.Path.{_≡_, refl, ap, sym, _∙_}
-use mathlib.Core.List.{List, _++_}
-use Prim.Native.Nat.{ℕ, _+_, _*_, _-_, _/_, _≤_}
-use native.Mathlib.Omega.{arith}
-use borrow.Author.Needs.{needs}
-use lib.ListN.{length, take, drop, length-take, length-append, length-drop}
+use mathlib.Core.Path.{ap}
+use mathlib.Core.List.{_++_}
+use Prim.Native.Nat.{_+_, _*_, _-_}
+use lib.ListN.{drop}
 use Rattle.rules.specs.Elements.{elements}
-use Rattle.rules.specs.Tables.{borders}
-use Rattle.rules.specs.Refusals.{Answer, gives, refused, roomCheck, listAnswer}
-use Rattle.theory.specs.FitRows.{means-sizes}
-use Rattle.theory.specs.Answers.{room-short}
-use Rattle.theory.specs.Built.{borders-bound}
 use Rattle.answer.specs.Numbers.{numbers}
-use Rattle.tabulate.specs.Results.{Sized, Tabulated}
-use Rattle.build.specs.Building.{sizes-known, lengths-known, built-refused, built-counts, holds-front, refused-room, counts-are}
+use Rattle.build.specs.Building.{Checked, checked, front-fits, sized, Scratched, scratched, refused-on, short-on, commits, counts-on}
+use borrow.Author.Needs.{needs}
 use Rattle.build.proofs.build_fit.Statement.{statement}
 use Rattle.build.proofs.build_fit.Tie as tie
 
-abbrev Tabled : Type 0
-Tabled = tie.After-tabulate
+abbrev begun : tie.After-wide → tie.Start
+begun c = c .before .before .before .before .before .before
 
-abbrev list : Tabled → List ℕ
-list c =
-    let args = c .before .before .before .before .before .before .before .before .args in
-    args .list .now
+abbrev tabled : tie.After-slice-known5 → tie.After-tabulate
+tabled c = c .before .before
 
-abbrev scratch : Tabled → List ℕ
-scratch c = c .tabulate .last .1 .1 .0
+abbrev start : tie.After-tabulate → tie.Start
+start c = begun (c .before .before)
 
--- the scratch buffer back in front of the rest of the work buffer
-abbrev work-now : Tabled → List ℕ
-work-now c =
-    let args = c .before .before .before .before .before .before .before .before .args in
-    scratch c ++ drop (c .before .before .wide .result + 12 * elements (list c) - 0) (args .work .now)
+-- counts were told, and k is an index
+abbrev told : tie.After-wide2 → tie.After-t
+told c = c .before .before
 
-scratch-long : (c : Tabled) → length (scratch c) ≡ c .before .before .before .before .before .before .before .before .args .n + 12 * elements (list c)
-scratch-long c =
-    let pre = c .before .before .before .before .before .before .before .before .pre in
-    let args = c .before .before .before .before .before .before .before .before .args in
-    c .tabulate .ensures .long ∙ simp length-take (omega (arith, c .before .before .wide .ensures, lengths-known (args .n) (args .list .now) (args .e2e .now) (args .v2e .now) (args .work .now) (pre .1)))
+abbrev found : tie.After-wide2 → tie.After-tabulate
+found c = tabled (told c .before .before)
 
-same-long : (c : Tabled) → length (work-now c) ≡ length (c .before .before .before .before .before .before .before .before .args .work .now)
-same-long c =
-    let pre = c .before .before .before .before .before .before .before .before .pre in
-    let args = c .before .before .before .before .before .before .before .before .args in
-    simp (length-append, length-drop) (omega (arith, scratch-long c, c .before .before .wide .ensures, lengths-known (args .n) (args .list .now) (args .e2e .now) (args .v2e .now) (args .work .now) (pre .1)))
+abbrev enough : tie.After-commit-arg4 → tie.Else1
+enough c = c .before .before .before .before
 
-stated : (c : Tabled) → numbers (c .tabulate .result) ≡ listAnswer (c .before .before .before .before .before .before .before .before .args .n) (list c)
-stated c = c .tabulate .ensures .answer
+known : (c : tie.Start) → let a = c .args in Checked (a .n) (a .list .now) (a .v2e .now) (a .e2e .now) (a .work .now)
+known c = checked (c .pre)
+
+-- the scratch buffer is back in front of the rest of the work
+scratch : (c : tie.After-tabulate) →
+    let a = start c .args in
+    let end = c .before .before .wide .result + 12 * elements (a .list .now) in
+    Scratched (a .n) (a .list .now) (numbers (c .tabulate .result)) (a .work .now) (c .tabulate .last .1 .1 .0 ++ drop (end - 0) (a .work .now))
+scratch c = scratched (known (start c)) (c .before .before .wide .ensures) (c .tabulate .ensures)
 
 wide-requires : tie.Need-wide-requires
 wide-requires c κs = search needs
@@ -66,16 +56,10 @@ part-tabulate-start : tie.Need-part-tabulate-start
 part-tabulate-start c = search needs
 
 part-tabulate-end : tie.Need-part-tabulate-end
-part-tabulate-end c =
-    let pre = c .before .before .before .before .before .before .pre in
-    let args = c .before .before .before .before .before .before .args in
-    let h : c .wide .result + 12 * elements (args .list .now) ≤ length (args .work .now) = omega (arith, c .wide .ensures, lengths-known (args .n) (args .list .now) (args .e2e .now) (args .v2e .now) (args .work .now) (pre .1)) in search needs
+part-tabulate-end c = let h = front-fits (known (begun c)) (c .wide .ensures) in search needs
 
 tabulate-requires : tie.Need-tabulate-requires
-tabulate-requires c κs =
-    let pre = c .before .before .before .before .before .before .before .pre in
-    let args = c .before .before .before .before .before .before .before .args in
-    record { sizes = sizes-known (args .n) (args .list .now) (args .e2e .now) (pre .0) .0; long = (simp length-take (omega (arith, c .before .wide .ensures, lengths-known (args .n) (args .list .now) (args .e2e .now) (args .v2e .now) (args .work .now) (pre .1)))) }
+tabulate-requires c κs = sized (known (begun (c .before))) (c .before .wide .ensures)
 
 enum-known-t : tie.Need-enum-known-t
 enum-known-t c = search needs
@@ -87,51 +71,28 @@ same-length : tie.Need-same-length
 same-length c = search needs
 
 returns : tie.Need-returns
-returns c =
-    let args = c .before .before .before .before .before .before .before .before .before .before .before .before .args in
-    let t = c .before .before .before .before in
-    let e = ap numbers (c .enum-told .given .1) in
-    (built-refused (args .n) (args .list .now) (args .v2e .now) (args .e2e .now) (args .b2e .now) (numbers (t .tabulate .result)) _ _ _ e (refused-room (length (args .b2e .now)) _ _ _ _ _ e (stated t)), same-long t)
+returns c = refused-on (scratch (tabled (c .before .before))) (ap numbers (c .enum-told .given .1))
 
 wide-requires-2 : tie.Need-wide-requires-2
 wide-requires-2 c κs = search needs
+
+refuse-at-requires : tie.Need-refuse-at-requires
+refuse-at-requires c κs = search needs
 
 same-length-2 : tie.Need-same-length-2
 same-length-2 c = search needs
 
 returns-2 : tie.Need-returns-2
 returns-2 c =
-    let args = c .before .before .before .before .before .before .before .before .before .before .before .before .before .before .before .args in
-    let t′ = c .before .before .before .t in
-    let t = c .before .before .before .before .before .before .before in
-    let k = t′ .given .0 .0 in
-    let e = t′ .given .0 .1 .0 in
-    let g : listAnswer (args .n) (args .list .now) ≡ gives k e = sym (stated t) ∙ ap numbers (t′ .given .1) in
-    (built-refused (args .n) (args .list .now) (args .v2e .now) (args .e2e .now) (args .b2e .now) _ 9 k 0 refl (sym (ap (roomCheck (length (args .b2e .now))) g ∙ room-short (length (args .b2e .now)) k e (omega (arith, c .before .wide2 .ensures)))), same-long t)
-
-wide-requires-3 : tie.Need-wide-requires-3
-wide-requires-3 c κs = search needs
+    let short = c .before .before in
+    short-on (scratch (found short)) (ap numbers (told short .t .given .1)) (short .wide2 .ensures) (c .before .if1 .taken) (c .refuse-at .ensures)
 
 commit-requires : tie.Need-commit-requires
 commit-requires c κs =
-    let pre = c .before .before .before .before .before .before .before .before .before .before .before .before .before .before .before .before .before .before .before .before .pre in
-    let args = c .before .before .before .before .before .before .before .before .before .before .before .before .before .before .before .before .before .before .before .before .args in
-    let t′ = c .before .before .before .before .before .before .before .before .t in
-    let wide2 = c .before .before .before .before .before .before .wide2 in
-    let if1 = c .before .before .before .before .before .if1 in
-    let wide3 = c .before .before .before .before .wide3 in
-    let t = c .before .before .before .before .before .before .before .before .before .before .before .before in
-    let k = t′ .given .0 .0 in
-    let b = counts-are (args .n) (args .list .now) k _ (sym (stated t) ∙ ap numbers (t′ .given .1)) in
-    let l = lengths-known (args .n) (args .list .now) (args .e2e .now) (args .v2e .now) (args .work .now) (pre .1) in
-    let z = means-sizes (args .n) (args .list .now) .says (sizes-known (args .n) (args .list .now) (args .e2e .now) (pre .0) .0) in (
-      omega (arith, same-long t, l, wide3 .ensures, wide2 .ensures, b, borders-bound (list t), z .1 .1),
-      omega (arith, l, wide3 .ensures),
-      l .1,
-      omega (arith, if1 .left),
-      omega (arith, z, wide3 .ensures),
-      omega (arith, z),
-    )
+    let room = enough c in
+    let k = room .before in
+    commits (known (start (found k))) (scratch (found k)) (ap numbers (told k .t .given .1)) (found k .before .before .wide .ensures) (k .wide2 .ensures)
+    (start (found k) .args .b2e .now) (room .if1 .left)
 
 same-length-3 : tie.Need-same-length-3
 same-length-3 c = search needs
@@ -147,24 +108,11 @@ same-length-6 c = search needs
 
 returns-3 : tie.Need-returns-3
 returns-3 c =
-    let pre = c .before .before .before .before .before .before .before .before .before .before .before .before .before .before .before .before .before .before .before .before .before .before .before .before .before .before .before .pre in
-    let args = c .before .before .before .before .before .before .before .before .before .before .before .before .before .before .before .before .before .before .before .before .before .before .before .before .before .before .before .args in
-    let t′ = c .before .before .before .before .before .before .before .before .before .before .before .before .before .before .before .t in
-    let wide2 = c .before .before .before .before .before .before .before .before .before .before .before .before .before .wide2 in
-    let if1 = c .before .before .before .before .before .before .before .before .before .before .before .before .if1 in
-    let wide3 = c .before .before .before .before .before .before .before .before .before .before .before .wide3 in
-    let commit = c .before .before .before .before .before .before .commit in
-    let t = c .before .before .before .before .before .before .before .before .before .before .before .before .before .before .before .before .before .before .before in
-    let k = t′ .given .0 .0 in
-    let e = t′ .given .0 .1 .0 in
-    let g : numbers (t .tabulate .result) ≡ gives k e = ap numbers (t′ .given .1) in
-    let b = counts-are (args .n) (args .list .now) k e (sym (stated t) ∙ g) in
-    let z = means-sizes (args .n) (args .list .now) .says (sizes-known (args .n) (args .list .now) (args .e2e .now) (pre .0) .0) in (
-      built-counts (args .n) (args .list .now) (args .v2e .now) (args .e2e .now) (args .b2e .now) (gives k e) k e (elements (list t)) (work-now t) _ _ _ refl (sym g ∙ stated t) (omega (arith, wide2 .ensures, if1 .left)) b refl (lengths-known (args .n) (args .list .now) (args .e2e .now) (args .v2e .now) (args .work .now) (pre .1) .1)
-          (holds-front (args .n) (args .list .now) (scratch t) _ (scratch-long t) (omega (arith, borders-bound (list t), z .1 .1)) (t .tabulate .ensures .holds k e g))
-          (rw (wide3 .ensures, wide2 .ensures) at (commit .ensures)),
-      same-long t,
-    )
+    let done = c .before .before .before .before .before .before in
+    let room = enough (done .before) in
+    let k = room .before in
+    counts-on (known (start (found k))) (scratch (found k)) (ap numbers (told k .t .given .1)) (found k .before .before .wide .ensures) (k .wide2 .ensures)
+    (start (found k) .args .b2e .now) (room .if1 .left) (done .commit .ensures)
 
 pub build-fit-spec : {M : Type 1} → statement M
 build-fit-spec =
@@ -182,9 +130,9 @@ build-fit-spec =
     same-length
     returns
     wide-requires-2
+    refuse-at-requires
     same-length-2
     returns-2
-    wide-requires-3
     commit-requires
     same-length-3
     same-length-4

@@ -1,15 +1,18 @@
 -- `build::commit` meets its contract.
 -- Assumes nothing.
-use mathlib.Core.Path.{_≡_, refl, ap, sym, _∙_}
-use mathlib.Core.List.{List}
-use Prim.Native.Nat.{ℕ, _+_, _*_, _-_, _≤_}
-use native.Mathlib.Omega.{arith}
+use Rattle.build.specs.Building.{copied}
 use borrow.Author.Needs.{needs}
-use lib.ListN.{length, take}
-use Rattle.lists.specs.Parts.{part, length-part}
-use Rattle.build.specs.Building.{onto-full, front-copied, part-copied}
 use Rattle.build.proofs.commit.Statement.{statement}
 use Rattle.build.proofs.commit.Tie as tie
+
+abbrev begun : tie.After-copy → tie.Start
+begun c = c .before .before .before .before .before .before .before
+
+abbrev first : tie.After-copy2 → tie.After-copy
+first c = c .before .before .before .before .before
+
+abbrev second : tie.After-copy3 → tie.After-copy2
+second c = c .before .before .before .before .before
 
 mul-a : tie.Need-mul-a
 mul-a c = search needs
@@ -73,19 +76,11 @@ same-length-3 c = search needs
 
 returns : tie.Need-returns
 returns c =
-    let pre = c .before .before .before .before .before .before .before .before .before .before .before .before .before .before .before .before .before .before .before .pre in
-    let args = c .before .before .before .before .before .before .before .before .before .before .before .before .before .before .before .before .before .before .before .args in
-    let copy = c .before .before .before .before .before .before .before .before .before .before .before .before .copy in
-    let copy2 = c .before .before .before .before .before .before .before .copy2 in
-    let s = args in
-    let h = pre in
-    record {
-      vertices = front-copied (s .n) (s .work .now) (s .v2e .now) _ (omega (arith, h)) (h .1) (copy .ensures);
-      opposites =
-          part-copied (s .n) (s .n + 4 * s .m) (4 * s .m) (s .work .now) (s .e2e .now) _ refl (copy2 .ensures)
-          ∙ onto-full (part (s .n) (4 * s .m) (s .work .now)) (s .e2e .now) (length-part (s .n) (4 * s .m) (s .work .now) (omega (arith, h)) ∙ sym (h .2));
-      border = part-copied (s .n + 4 * s .m) (s .n + 4 * s .m + s .k) (s .k) (s .work .now) (s .b2e .now) _ refl (c .before .before .copy3 .ensures);
-    }
+    let third = c .before .before in
+    let e = second third in
+    let v = first e in
+    let a = begun v .args in
+    copied (a .n) (a .m) (a .k) (a .work .now) (a .v2e .now) (a .e2e .now) (a .b2e .now) (begun v .pre) (v .copy .ensures) (e .copy2 .ensures) (third .copy3 .ensures)
 
 pub commit-spec : {M : Type 1} → statement M
 commit-spec =
