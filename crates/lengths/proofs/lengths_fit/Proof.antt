@@ -9,6 +9,10 @@ use lib.Dec.{leb}
 use Rattle.lengths.proofs.lengths_fit.Statement.{statement}
 use Rattle.lengths.proofs.lengths_fit.Tie as tie
 
+-- after the first test
+long : (c : tie.Else1) → c .before .before .args .v2e ≡ c .before .before .args .n
+long c = omega arith
+
 wide-requires : tie.Need-wide-requires
 wide-requires c κs = search needs
 
@@ -20,8 +24,7 @@ mul-if2 c = search needs
 
 returns-2 : tie.Need-returns-2
 returns-2 c =
-    let args = c .before .before .before .args in
-    let h : args .v2e ≡ args .n = omega arith in simp (eq-eqb _ _ h, ne-eqb _ _ (c .if2 .taken))
+    simp (eq-eqb _ _ (long (c .before)), ne-eqb _ _ (c .if2 .taken))
 
 wide-requires-2 : tie.Need-wide-requires-2
 wide-requires-2 c κs = search needs
@@ -34,8 +37,9 @@ add-result c = search needs
 
 returns-3 : tie.Need-returns-3
 returns-3 c =
-    let args = c .before .before .before .before .args in
-    let h : args .v2e ≡ args .n = omega arith in simp (eq-eqb _ _ h, eq-eqb _ _ (c .before .if2 .left)) (ap (λ (i : ℕ). leb (i + 16 * (args .first / 4)) (args .work)) (c .wide2 .ensures))
+    let one = c .before .before in
+    let args = one .before .before .args in
+    simp (eq-eqb _ _ (long one), eq-eqb _ _ (c .before .if2 .left)) (ap (λ (i : ℕ). leb (i + 16 * (args .first / 4)) (args .work)) (c .wide2 .ensures))
 
 pub lengths-fit-spec : {M : Type 1} → statement M
 lengths-fit-spec =

@@ -8,6 +8,10 @@ use Rattle.rules.specs.Elements.{maxVertex, maxElement}
 use Rattle.lengths.proofs.sizes_fit.Statement.{statement}
 use Rattle.lengths.proofs.sizes_fit.Tie as tie
 
+-- after the first two tests
+size : (c : tie.Else2) → let one = c .before .before in one .before .args .first / 4 ≤ maxElement
+size c = omega arith
+
 returns : tie.Need-returns
 returns c = simp (lt-leb _ maxVertex (c .if1 .taken))
 
@@ -16,26 +20,24 @@ wide-requires c κs = search needs
 
 returns-2 : tie.Need-returns-2
 returns-2 c =
-    let args = c .before .before .before .args in
-    let h : maxElement < args .first / 4 = omega arith in simp (le-leb _ maxVertex (c .before .before .if1 .left), lt-leb _ _ h)
+    let one = c .before .before in
+    let h : maxElement < one .before .args .first / 4 = omega arith in simp (le-leb _ maxVertex (one .if1 .left), lt-leb _ _ h)
 
 mul-if3 : tie.Need-mul-if3
 mul-if3 c = search needs
 
 returns-3 : tie.Need-returns-3
 returns-3 c =
-    let args = c .before .before .before .before .args in
-    let if1 = c .before .before .before .if1 in
-    let h : args .first / 4 ≤ maxElement = omega arith in simp (le-leb _ maxVertex (if1 .left), le-leb _ _ h, ne-eqb _ _ (c .if3 .taken))
+    let two = c .before in
+    let one = two .before .before in simp (le-leb _ maxVertex (one .if1 .left), le-leb _ _ (size two), ne-eqb _ _ (c .if3 .taken))
 
 mul-result : tie.Need-mul-result
 mul-result c = search needs
 
 returns-4 : tie.Need-returns-4
 returns-4 c =
-    let args = c .before .before .before .before .args in
-    let if1 = c .before .before .before .if1 in
-    let h : args .first / 4 ≤ maxElement = omega arith in simp (le-leb _ maxVertex (if1 .left), le-leb _ _ h, eq-eqb _ _ (c .if3 .left))
+    let two = c .before in
+    let one = two .before .before in simp (le-leb _ maxVertex (one .if1 .left), le-leb _ _ (size two), eq-eqb _ _ (c .if3 .left))
 
 pub sizes-fit-spec : {M : Type 1} → statement M
 sizes-fit-spec =
