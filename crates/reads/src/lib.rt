@@ -14,7 +14,8 @@ ghost use lib.Dec.{T};
 ghost use lib.ListN.{length};
 ghost use Rattle.lists.specs.Tests.{within};
 ghost use Rattle.rules.specs.Elements.{Side};
-ghost use Rattle.rules.specs.Queries.{read, andThen, isBorderCode, isHalfEdge, isVertex, readOpposite, readBorderSide, readVertexEntry, readOrigin, readDestination, borderNext, startSide, onward, loopNext};
+ghost use Rattle.rules.specs.Queries.{read, andThen, isBorderCode, isHalfEdge, isVertex, readOpposite, readBorderSide, readVertexEntry, readOrigin};
+ghost use Rattle.rules.specs.Queries.{readDestination, borderNext, startSide, onward, loopNext};
 ghost use Rattle.reads.specs.Meshes.{mesh, Fit};
 ghost use Rattle.reads.specs.Readings.{readOf, priorVertex};
 

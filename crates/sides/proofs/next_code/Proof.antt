@@ -1,9 +1,7 @@
 -- `sides::next_code` meets its contract.
 -- Assumes nothing.
-use Prim.Native.Nat.{_+_, _*_, _/_, _%_}
 use native.Mathlib.Omega.{arith}
-use mathlib.Core.Path.{_≡_, ap, _∙_}
-use Rattle.rules.specs.Elements.{sides, next, nextNumber}
+use Rattle.rules.specs.Elements.{next, nextNumber}
 use Rattle.theory.specs.Steps.{next-numbered}
 use Rattle.theory.specs.Sides.{side-facts}
 use Rattle.sides.proofs.Sided.{row-there, turn-read}

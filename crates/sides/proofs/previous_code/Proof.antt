@@ -1,9 +1,7 @@
 -- `sides::previous_code` meets its contract.
 -- Assumes nothing.
-use Prim.Native.Nat.{_+_, _*_, _/_, _%_}
 use native.Mathlib.Omega.{arith}
-use mathlib.Core.Path.{_≡_, ap, _∙_}
-use Rattle.rules.specs.Elements.{sides, previous, previousNumber}
+use Rattle.rules.specs.Elements.{previous, previousNumber}
 use Rattle.theory.specs.Steps.{previous-numbered}
 use Rattle.theory.specs.Sides.{side-facts}
 use Rattle.sides.proofs.Sided.{row-there, turn-read}
