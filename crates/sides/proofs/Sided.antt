@@ -8,7 +8,7 @@ use lib.ListN.{length}
 use Rattle.lists.specs.Tests.{both, within}
 use Rattle.rules.specs.Elements.{elements, corner, sides, isSide, Side, row, slot, origin, destination, nextNumber, next}
 use Rattle.halfedge.specs.Rows.{rowOf, cornerOf, turned, nextSide, row-corner, row-turned}
-use Rattle.theory.specs.Sides.{side-facts}
+use Rattle.theory.specs.Sides.{SidesBy, three, four, sides-by, side-facts}
 use Rattle.theory.specs.Steps.{next-numbered}
 
 -- the row of element f
@@ -20,6 +20,14 @@ module _ (L : List ℕ) (f : ℕ) {r : List ℕ} (e : r ≡ rowOf (row L f)) whe
 pub side-by : (L : List ℕ) (s : ℕ) {f i : ℕ} → f ≡ s / 8 → i ≡ s % 8 → isSide L s ≡ both (within 1 (elements L) f) (within 1 (sides L f) i)
 unfolding isSide
 side-by L s e d = rw (e, d)
+
+-- an element has three sides at least
+pub three-sides : (L : List ℕ) (f : ℕ) → 3 ≤ sides L f
+three-sides L f = go (sides-by (corner L f 4))
+  where
+    go : {k : ℕ} → SidesBy (corner L f 4) k → 3 ≤ k
+    go (three z e) = omega arith
+    go (four z e) = omega arith
 
 -- the side s, read by its element f, its number i and the row r of that element
 module _ (L : List ℕ) (s : ℕ) (a : Side L s) {f : ℕ} (ef : f ≡ s / 8) where

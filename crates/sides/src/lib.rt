@@ -39,6 +39,10 @@ pub fn is_side(list: &[u32], code: u32) -> bool
     if i < 1 {
         return false;
     }
+    // Every element has three sides, so its row is read for a fourth alone.
+    if i < 4 {
+        return true;
+    }
     i <= side_count(row_at(list, f))
 }
 
