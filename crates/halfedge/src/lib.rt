@@ -172,7 +172,7 @@ pub fn code_at(p: usize) -> u32
     requires { ⌜ p < 4 * maxElement ⌝ }
     ensures { λ r. ⌜ r ≡ sideAt p ⌝ }
 {
-    HalfEdge::side((p / 4 + 1) as u32, (p % 4 + 1) as u32).code
+    side_code((p / 4 + 1) as u32, (p % 4 + 1) as u32)
 }
 
 // The entry of the element list at which a side's origin stands.
