@@ -37,15 +37,15 @@ use Rattle.walker.proofs.call_at.Kinds as call-at-kinds
 use Rattle.walker.proofs.call_at.Reads as call-at-reads
 use Rattle.runs.specs.Runs.{StartRun, StepRun, BuildRun, RecoverRun, RingRun, NeighboursRun, BorderLoopRun}
 
--- build(n, list, v2e, e2e, b2e, work)
-module _ (κs : Lfts 5) (a : Dens κs build-kinds.ps) (r : resT build-kinds.r κs .Denot) (s : AtExit (endedOf 5 build-kinds.ps build-kinds.r) κs) where
-  abbrev begins : Buffers
-  begins = lent (a .1 .1 .0 .now) (a .1 .1 .1 .0 .now) (a .1 .1 .1 .1 .0 .now) (a .1 .1 .1 .1 .1 .0 .now)
+-- the buffers of build(n, list, v2e, e2e, b2e, work)
+abbrev pub buffers : (κs : Lfts 5) → Dens κs build-kinds.ps → Buffers
+buffers κs a = lent (a .1 .1 .0 .now) (a .1 .1 .1 .0 .now) (a .1 .1 .1 .1 .0 .now) (a .1 .1 .1 .1 .1 .0 .now)
 
+module _ (κs : Lfts 5) (a : Dens κs build-kinds.ps) (r : resT build-kinds.r κs .Denot) (s : AtExit (endedOf 5 build-kinds.ps build-kinds.r) κs) where
   abbrev ends : Buffers
   ends = lent (s .1 .1 .0 .now) (s .1 .1 .1 .0 .now) (s .1 .1 .1 .1 .0 .now) (s .1 .1 .1 .1 .1 .0 .now)
 
-  pub build-run : build-reads.Post κs a r s → BuildRun (a .0) (a .1 .0 .now) begins (numbers r) ends
+  pub build-run : build-reads.Post κs a r s → BuildRun (a .0) (a .1 .0 .now) (buffers κs a) (numbers r) ends
   build-run p = record { answer = p .0; leaves = p .1 }
 
 -- recover(n, v2e, e2e, list, work)
@@ -55,56 +55,56 @@ module _ (κs : Lfts 4) (a : Dens κs recover-kinds.ps) (r : resT recover-kinds.
       (s .1 .1 .1 .0 .now) (s .1 .1 .1 .1 .0 .now)
   recover-run p = record { answer = p .0; leaves = p .1 .0; clears = p .1 .1 }
 
--- a query (n, list, v2e, e2e, b2e, code or vertex)
+-- what a query (n, list, v2e, e2e, b2e, code or vertex) is asked about
+abbrev pub asked : (κs : Lfts 4) → Dens κs opposite-kinds.ps → Mesh
+asked κs a = mesh (a .0) (a .1 .0 .now) (a .1 .1 .0 .now) (a .1 .1 .1 .0 .now) (a .1 .1 .1 .1 .0 .now)
+
+abbrev pub of : (κs : Lfts 4) → Dens κs opposite-kinds.ps → ℕ
+of κs a = a .1 .1 .1 .1 .1 .0
+
 module _ (κs : Lfts 4) (a : Dens κs opposite-kinds.ps) (r : resT opposite-kinds.r κs .Denot) (s : AtExit (endedOf 4 opposite-kinds.ps opposite-kinds.r) κs) where
-  abbrev asked : Mesh
-  asked = mesh (a .0) (a .1 .0 .now) (a .1 .1 .0 .now) (a .1 .1 .1 .0 .now) (a .1 .1 .1 .1 .0 .now)
-
-  abbrev of : ℕ
-  of = a .1 .1 .1 .1 .1 .0
-
-  pub opposite-run : opposite-reads.Post κs a r s → numbers r ≡ oppositeAnswer asked of
+  pub opposite-run : opposite-reads.Post κs a r s → numbers r ≡ oppositeAnswer (asked κs a) (of κs a)
   opposite-run p = p
 
-  pub next-run : next-reads.Post κs a r s → numbers r ≡ nextAnswer asked of
+  pub next-run : next-reads.Post κs a r s → numbers r ≡ nextAnswer (asked κs a) (of κs a)
   next-run p = p
 
-  pub previous-run : previous-reads.Post κs a r s → numbers r ≡ previousAnswer asked of
+  pub previous-run : previous-reads.Post κs a r s → numbers r ≡ previousAnswer (asked κs a) (of κs a)
   previous-run p = p
 
-  pub element-run : element-reads.Post κs a r s → numbers r ≡ elementAnswer asked of
+  pub element-run : element-reads.Post κs a r s → numbers r ≡ elementAnswer (asked κs a) (of κs a)
   element-run p = p
 
-  pub origin-run : origin-reads.Post κs a r s → numbers r ≡ originAnswer asked of
+  pub origin-run : origin-reads.Post κs a r s → numbers r ≡ originAnswer (asked κs a) (of κs a)
   origin-run p = p
 
-  pub destination-run : destination-reads.Post κs a r s → numbers r ≡ destinationAnswer asked of
+  pub destination-run : destination-reads.Post κs a r s → numbers r ≡ destinationAnswer (asked κs a) (of κs a)
   destination-run p = p
 
-  pub across-run : across-reads.Post κs a r s → numbers r ≡ acrossAnswer asked of
+  pub across-run : across-reads.Post κs a r s → numbers r ≡ acrossAnswer (asked κs a) (of κs a)
   across-run p = p
 
-  pub half-edge-border-run : halfedge-is-border-reads.Post κs a r s → numbers r ≡ halfEdgeBorderAnswer asked of
+  pub half-edge-border-run : halfedge-is-border-reads.Post κs a r s → numbers r ≡ halfEdgeBorderAnswer (asked κs a) (of κs a)
   half-edge-border-run p = p
 
-  pub vertex-border-run : vertex-is-border-reads.Post κs a r s → numbers r ≡ vertexBorderAnswer asked of
+  pub vertex-border-run : vertex-is-border-reads.Post κs a r s → numbers r ≡ vertexBorderAnswer (asked κs a) (of κs a)
   vertex-border-run p = p
 
--- a query that writes a list (n, list, v2e, e2e, b2e, vertex or border, out)
-module _ (κs : Lfts 5) (a : Dens κs ring-kinds.ps) (r : resT ring-kinds.r κs .Denot) (s : AtExit (endedOf 5 ring-kinds.ps ring-kinds.r) κs) where
-  abbrev listed : Mesh
-  listed = mesh (a .0) (a .1 .0 .now) (a .1 .1 .0 .now) (a .1 .1 .1 .0 .now) (a .1 .1 .1 .1 .0 .now)
+-- what a query that writes a list (n, list, v2e, e2e, b2e, vertex or border, out) is asked about
+abbrev pub listed : (κs : Lfts 5) → Dens κs ring-kinds.ps → Mesh
+listed κs a = mesh (a .0) (a .1 .0 .now) (a .1 .1 .0 .now) (a .1 .1 .1 .0 .now) (a .1 .1 .1 .1 .0 .now)
 
+module _ (κs : Lfts 5) (a : Dens κs ring-kinds.ps) (r : resT ring-kinds.r κs .Denot) (s : AtExit (endedOf 5 ring-kinds.ps ring-kinds.r) κs) where
   pub ring-run : ring-reads.Post κs a r s
-      → RingRun listed (a .1 .1 .1 .1 .1 .0) (a .1 .1 .1 .1 .1 .1 .0 .now) (numbers r) (s .1 .1 .1 .1 .1 .1 .0 .now)
+      → RingRun (listed κs a) (a .1 .1 .1 .1 .1 .0) (a .1 .1 .1 .1 .1 .1 .0 .now) (numbers r) (s .1 .1 .1 .1 .1 .1 .0 .now)
   ring-run p = record { answer = p .0; leaves = p .1 }
 
   pub neighbours-run : neighbours-reads.Post κs a r s
-      → NeighboursRun listed (a .1 .1 .1 .1 .1 .0) (a .1 .1 .1 .1 .1 .1 .0 .now) (numbers r) (s .1 .1 .1 .1 .1 .1 .0 .now)
+      → NeighboursRun (listed κs a) (a .1 .1 .1 .1 .1 .0) (a .1 .1 .1 .1 .1 .1 .0 .now) (numbers r) (s .1 .1 .1 .1 .1 .1 .0 .now)
   neighbours-run p = record { answer = p .0; leaves = p .1 }
 
   pub border-loop-run : border-loop-reads.Post κs a r s
-      → BorderLoopRun listed (a .1 .1 .1 .1 .1 .0) (a .1 .1 .1 .1 .1 .1 .0 .now) (numbers r) (s .1 .1 .1 .1 .1 .1 .0 .now)
+      → BorderLoopRun (listed κs a) (a .1 .1 .1 .1 .1 .0) (a .1 .1 .1 .1 .1 .1 .0 .now) (numbers r) (s .1 .1 .1 .1 .1 .1 .0 .now)
   border-loop-run p = record { answer = p .0; leaves = p .1 }
 
 -- a walker's call by value (record, n, list, v2e, e2e, b2e, call): walker::move_on over `&mut` and the exports go through it

@@ -1,15 +1,13 @@
 -- What each exported call returns, taken apart by the header's three formulas, is the rule's answer. `Post` is the call's own contract.
 -- Assumes nothing.
 use mathlib.Core.Path.{_≡_}
-use Prim.Native.Nat.{ℕ}
 use contract.Lifetimes.{Lfts}
 use borrow.Fn.Kinds.{Dens, resT, endedOf}
 use denote.Triple.Clauses.{AtExit}
-use Rattle.rules.specs.Refusals.{Buffers, buildAnswer, recoverAnswer}
-use Rattle.rules.specs.Queries.{Mesh, oppositeAnswer, nextAnswer, previousAnswer, elementAnswer, originAnswer, destinationAnswer, acrossAnswer}
+use Rattle.rules.specs.Refusals.{buildAnswer, recoverAnswer}
+use Rattle.rules.specs.Queries.{oppositeAnswer, nextAnswer, previousAnswer, elementAnswer, originAnswer, destinationAnswer, acrossAnswer}
 use Rattle.rules.specs.Queries.{halfEdgeBorderAnswer, vertexBorderAnswer, ringAnswer, neighboursAnswer, borderLoopAnswer, walkerStart, walkerStep}
 use Rattle.answer.specs.Numbers.{unpacked}
-use Rattle.build.specs.Building.{lent}
 use Rattle.reads.specs.Meshes.{mesh}
 use Rattle.borzhanu.proofs.borzhanu_build.Kinds as build-kinds
 use Rattle.borzhanu.proofs.borzhanu_build.Reads as build-reads
@@ -35,15 +33,13 @@ use Rattle.borzhanu.proofs.borzhanu_walker_step.Kinds as step-kinds
 use Rattle.borzhanu.proofs.borzhanu_walker_step.Reads as step-reads
 use Rattle.borzhanu.specs.Walkers.{walkerIn}
 use Rattle.answer.specs.Packing.{told}
+use Rattle.runs.specs.Contracts.{buffers, asked, of, listed}
 use Rattle.runs.specs.Bounds.{build-fits, recover-fits, opposite-fits, next-fits, previous-fits, element-fits, origin-fits, destination-fits}
 use Rattle.runs.specs.Bounds.{across-fits, half-edge-border-fits, vertex-border-fits, ring-fits, neighbours-fits, border-loop-fits, start-fits, step-fits}
 
 module _ (κs : Lfts 5) (a : Dens κs build-kinds.ps) (r : resT build-kinds.r κs .Denot) (s : AtExit (endedOf 5 build-kinds.ps build-kinds.r) κs) where
-  abbrev buffers : Buffers
-  buffers = lent (a .1 .1 .0 .now) (a .1 .1 .1 .0 .now) (a .1 .1 .1 .1 .0 .now) (a .1 .1 .1 .1 .1 .0 .now)
-
-  pub build-told : build-reads.Post κs a r s → unpacked r ≡ buildAnswer (a .0) (a .1 .0 .now) buffers
-  build-told p = told _ (build-fits _ _ buffers) r (p .0)
+  pub build-told : build-reads.Post κs a r s → unpacked r ≡ buildAnswer (a .0) (a .1 .0 .now) (buffers κs a)
+  build-told p = told _ (build-fits _ _ (buffers κs a)) r (p .0)
 
 module _ (κs : Lfts 4) (a : Dens κs recover-kinds.ps) (r : resT recover-kinds.r κs .Denot) (s : AtExit (endedOf 4 recover-kinds.ps recover-kinds.r) κs) where
   pub recover-told : recover-reads.Post κs a r s
@@ -51,51 +47,42 @@ module _ (κs : Lfts 4) (a : Dens κs recover-kinds.ps) (r : resT recover-kinds.
   recover-told p = told _ (recover-fits _ _ _ _ _) r (p .0)
 
 module _ (κs : Lfts 4) (a : Dens κs opposite-kinds.ps) (r : resT opposite-kinds.r κs .Denot) (s : AtExit (endedOf 4 opposite-kinds.ps opposite-kinds.r) κs) where
-  abbrev asked : Mesh
-  asked = mesh (a .0) (a .1 .0 .now) (a .1 .1 .0 .now) (a .1 .1 .1 .0 .now) (a .1 .1 .1 .1 .0 .now)
+  pub opposite-told : opposite-reads.Post κs a r s → unpacked r ≡ oppositeAnswer (asked κs a) (of κs a)
+  opposite-told p = told _ (opposite-fits (asked κs a) (of κs a)) r p
 
-  abbrev of : ℕ
-  of = a .1 .1 .1 .1 .1 .0
+  pub next-told : next-reads.Post κs a r s → unpacked r ≡ nextAnswer (asked κs a) (of κs a)
+  next-told p = told _ (next-fits (asked κs a) (of κs a)) r p
 
-  pub opposite-told : opposite-reads.Post κs a r s → unpacked r ≡ oppositeAnswer asked of
-  opposite-told p = told _ (opposite-fits asked of) r p
+  pub previous-told : previous-reads.Post κs a r s → unpacked r ≡ previousAnswer (asked κs a) (of κs a)
+  previous-told p = told _ (previous-fits (asked κs a) (of κs a)) r p
 
-  pub next-told : next-reads.Post κs a r s → unpacked r ≡ nextAnswer asked of
-  next-told p = told _ (next-fits asked of) r p
+  pub element-told : element-reads.Post κs a r s → unpacked r ≡ elementAnswer (asked κs a) (of κs a)
+  element-told p = told _ (element-fits (asked κs a) (of κs a)) r p
 
-  pub previous-told : previous-reads.Post κs a r s → unpacked r ≡ previousAnswer asked of
-  previous-told p = told _ (previous-fits asked of) r p
+  pub origin-told : origin-reads.Post κs a r s → unpacked r ≡ originAnswer (asked κs a) (of κs a)
+  origin-told p = told _ (origin-fits (asked κs a) (of κs a)) r p
 
-  pub element-told : element-reads.Post κs a r s → unpacked r ≡ elementAnswer asked of
-  element-told p = told _ (element-fits asked of) r p
+  pub destination-told : destination-reads.Post κs a r s → unpacked r ≡ destinationAnswer (asked κs a) (of κs a)
+  destination-told p = told _ (destination-fits (asked κs a) (of κs a)) r p
 
-  pub origin-told : origin-reads.Post κs a r s → unpacked r ≡ originAnswer asked of
-  origin-told p = told _ (origin-fits asked of) r p
+  pub across-told : across-reads.Post κs a r s → unpacked r ≡ acrossAnswer (asked κs a) (of κs a)
+  across-told p = told _ (across-fits (asked κs a) (of κs a)) r p
 
-  pub destination-told : destination-reads.Post κs a r s → unpacked r ≡ destinationAnswer asked of
-  destination-told p = told _ (destination-fits asked of) r p
+  pub half-edge-border-told : halfedge-is-border-reads.Post κs a r s → unpacked r ≡ halfEdgeBorderAnswer (asked κs a) (of κs a)
+  half-edge-border-told p = told _ (half-edge-border-fits (asked κs a) (of κs a)) r p
 
-  pub across-told : across-reads.Post κs a r s → unpacked r ≡ acrossAnswer asked of
-  across-told p = told _ (across-fits asked of) r p
-
-  pub half-edge-border-told : halfedge-is-border-reads.Post κs a r s → unpacked r ≡ halfEdgeBorderAnswer asked of
-  half-edge-border-told p = told _ (half-edge-border-fits asked of) r p
-
-  pub vertex-border-told : vertex-is-border-reads.Post κs a r s → unpacked r ≡ vertexBorderAnswer asked of
-  vertex-border-told p = told _ (vertex-border-fits asked of) r p
+  pub vertex-border-told : vertex-is-border-reads.Post κs a r s → unpacked r ≡ vertexBorderAnswer (asked κs a) (of κs a)
+  vertex-border-told p = told _ (vertex-border-fits (asked κs a) (of κs a)) r p
 
 module _ (κs : Lfts 5) (a : Dens κs ring-kinds.ps) (r : resT ring-kinds.r κs .Denot) (s : AtExit (endedOf 5 ring-kinds.ps ring-kinds.r) κs) where
-  abbrev listed : Mesh
-  listed = mesh (a .0) (a .1 .0 .now) (a .1 .1 .0 .now) (a .1 .1 .1 .0 .now) (a .1 .1 .1 .1 .0 .now)
+  pub ring-told : ring-reads.Post κs a r s → unpacked r ≡ ringAnswer (listed κs a) (a .1 .1 .1 .1 .1 .0) (a .1 .1 .1 .1 .1 .1 .0 .now)
+  ring-told p = told _ (ring-fits (listed κs a) _ _) r (p .0)
 
-  pub ring-told : ring-reads.Post κs a r s → unpacked r ≡ ringAnswer listed (a .1 .1 .1 .1 .1 .0) (a .1 .1 .1 .1 .1 .1 .0 .now)
-  ring-told p = told _ (ring-fits listed _ _) r (p .0)
+  pub neighbours-told : neighbours-reads.Post κs a r s → unpacked r ≡ neighboursAnswer (listed κs a) (a .1 .1 .1 .1 .1 .0) (a .1 .1 .1 .1 .1 .1 .0 .now)
+  neighbours-told p = told _ (neighbours-fits (listed κs a) _ _) r (p .0)
 
-  pub neighbours-told : neighbours-reads.Post κs a r s → unpacked r ≡ neighboursAnswer listed (a .1 .1 .1 .1 .1 .0) (a .1 .1 .1 .1 .1 .1 .0 .now)
-  neighbours-told p = told _ (neighbours-fits listed _ _) r (p .0)
-
-  pub border-loop-told : border-loop-reads.Post κs a r s → unpacked r ≡ borderLoopAnswer listed (a .1 .1 .1 .1 .1 .0) (a .1 .1 .1 .1 .1 .1 .0 .now)
-  border-loop-told p = told _ (border-loop-fits listed _ _) r (p .0)
+  pub border-loop-told : border-loop-reads.Post κs a r s → unpacked r ≡ borderLoopAnswer (listed κs a) (a .1 .1 .1 .1 .1 .0) (a .1 .1 .1 .1 .1 .1 .0 .now)
+  border-loop-told p = told _ (border-loop-fits (listed κs a) _ _) r (p .0)
 
 -- borzhanu_walker_start(n, elements, v2e, e2e, b2e, v, walker) and borzhanu_walker_step(n, elements, v2e, e2e, b2e, walker)
 module _ (κs : Lfts 5) (a : Dens κs start-kinds.ps) (r : resT start-kinds.r κs .Denot) (s : AtExit (endedOf 5 start-kinds.ps start-kinds.r) κs) where
