@@ -5,8 +5,11 @@ use mathlib.Core.Path.{_≡_, refl, ap}
 use Prim.Native.Nat.{ℕ, zero, suc, _+_, _*_, _-_, _≤_, _<_}
 use lib.Seq.{getD-take, getD-drop}
 use native.Mathlib.Omega.{arith}
+use borrow.Author.Tests.{ne-eqb}
+use lib.Dec.{eqb}
 use lib.ListN.{take, drop}
 use Rattle.lists.specs.Tests.{within}
+use Rattle.lists.specs.TestLaws.{Test, pass, fail, test}
 use Rattle.lists.specs.Search.{at}
 use Rattle.rules.specs.Elements.{row, corner, sides, sidesBy, nextNumber, previousNumber}
 use Rattle.halfedge.specs.Codes.{orNothing, within-true}
@@ -33,6 +36,22 @@ nextSide = turned nextNumber
 
 abbrev pub previousSide : List ℕ → ℕ → ℕ
 previousSide = turned previousNumber
+
+-- a row has three sides at least, so sides 1 and 2 are followed by 2 and 3
+pub three-sides : (r : List ℕ) → 3 ≤ sidesOf r
+unfolding sidesBy
+three-sides r = go (test (eqb (at r 3) 0))
+  where
+    go : Test (eqb (at r 3) 0) → 3 ≤ sidesOf r
+    go (pass t e) = rw (e, sidesBy) (omega arith)
+    go (fail t e) = rw (e, sidesBy) (omega arith)
+
+pub next-early : (r : List ℕ) (i : ℕ) → 1 ≤ i → i < 3 → nextSide r i ≡ i + 1
+unfolding turned nextNumber
+next-early r i l h =
+    let n : i ≤ sidesOf r = omega (arith, three-sides r) in
+    let d : i ≡ sidesOf r → ⊥ = λ e. omega (arith, three-sides r) in
+    simp (within-true l n) (rw (ne-eqb i (sidesOf r) d, nextNumber))
 
 -- the entries of a row are the first four of its part
 pub row-entry : (p : List ℕ) (j : ℕ) → j < 4 → at (rowOf p) j ≡ at p j

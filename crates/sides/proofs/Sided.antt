@@ -1,14 +1,14 @@
 -- What the row of a side's element says of the side.
 -- Assumes nothing.
-use mathlib.Core.Path.{_≡_, ap, sym, _∙_}
+use mathlib.Core.Path.{_≡_, ap, sym, subst, _∙_}
 use mathlib.Core.List.{List}
-use Prim.Native.Nat.{ℕ, _*_, _/_, _%_, _≤_}
+use Prim.Native.Nat.{ℕ, _+_, _*_, _/_, _%_, _≤_, _<_}
 use native.Mathlib.Omega.{arith}
 use lib.ListN.{length}
 use Rattle.lists.specs.Tests.{both, within}
 use Rattle.rules.specs.Elements.{elements, corner, sides, isSide, Side, row, slot, origin, destination, nextNumber, next}
-use Rattle.halfedge.specs.Rows.{rowOf, cornerOf, turned, nextSide, row-corner, row-turned}
-use Rattle.theory.specs.Sides.{SidesBy, three, four, sides-by, side-facts}
+use Rattle.halfedge.specs.Rows.{rowOf, cornerOf, turned, nextSide, next-early, three-sides, row-sides, row-corner, row-turned}
+use Rattle.theory.specs.Sides.{side-facts}
 use Rattle.theory.specs.Steps.{next-numbered}
 
 -- the row of element f
@@ -22,17 +22,25 @@ unfolding isSide
 side-by L s e d = rw (e, d)
 
 -- an element has three sides at least
-pub three-sides : (L : List ℕ) (f : ℕ) → 3 ≤ sides L f
-three-sides L f = go (sides-by (corner L f 4))
-  where
-    go : {k : ℕ} → SidesBy (corner L f 4) k → 3 ≤ k
-    go (three z e) = omega arith
-    go (four z e) = omega arith
+pub element-sides : (L : List ℕ) (f : ℕ) → 3 ≤ sides L f
+element-sides L f = subst (λ (k : ℕ). 3 ≤ k) (row-sides L f) (three-sides (rowOf (row L f)))
 
 -- the side s, read by its element f, its number i and the row r of that element
 module _ (L : List ℕ) (s : ℕ) (a : Side L s) {f : ℕ} (ef : f ≡ s / 8) where
   pub row-there : (1 ≤ f) × (4 * f ≤ length L)
   row-there = omega (arith, side-facts L s a)
+
+  -- sides 1 and 2 are followed alike by every row
+  pub early-read : {i : ℕ} → i ≡ s % 8 → i < 3 → (r : List ℕ) {j : ℕ} → j ≡ nextSide r i → j ≡ nextNumber (sides L (s / 8)) (s % 8)
+  early-read {i} ei h r q =
+      let x = side-facts L s a in
+      let l : 1 ≤ i = omega (arith, x .number-from) in
+      q ∙ next-early r i l h ∙ sym (next-early (rowOf (row L (s / 8))) i l h)
+      ∙ ap (nextSide (rowOf (row L (s / 8)))) ei ∙ row-turned L (s / 8) nextNumber (s % 8) (x .number-from) (x .number-to)
+
+  -- what was stepped to is side j of the element
+  pub step-read : {j c : ℕ} (turn : ℕ → ℕ → ℕ) → j ≡ turn (sides L (s / 8)) (s % 8) → c ≡ 8 * f + j → c ≡ 8 * (s / 8) + turn (sides L (s / 8)) (s % 8)
+  step-read {j} turn e q = q ∙ ap (λ (g : ℕ). 8 * g + j) ef ∙ ap (λ (k : ℕ). 8 * (s / 8) + k) e
 
   module _ {i : ℕ} {r : List ℕ} (ei : i ≡ s % 8) (er : r ≡ rowOf (row L f)) where
     row-is : r ≡ rowOf (row L (s / 8))

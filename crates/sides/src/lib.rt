@@ -51,7 +51,12 @@ pub fn next_code(list: &[u32], s: u32) -> u32
     ensures { λ r. ⌜ r ≡ next (now (list .entry)) s ⌝ }
 {
     let f = element_of(s);
-    side_code(f, next_side(row_at(list, f), number_of(s)))
+    let i = number_of(s);
+    // Sides 1 and 2 are followed as in a triangle in every element, so its row is read for the later ones alone.
+    if i < 3 {
+        return side_code(f, next_side([0; 4], i));
+    }
+    side_code(f, next_side(row_at(list, f), i))
 }
 
 pub fn previous_code(list: &[u32], s: u32) -> u32

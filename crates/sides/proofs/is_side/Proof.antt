@@ -4,7 +4,7 @@ use Prim.Native.Nat.{ℕ, _≤_, _<_}
 use Rattle.lists.specs.Tests.{both, within}
 use Rattle.halfedge.specs.Rows.{sidesOf, row-sides}
 use Rattle.rules.specs.Elements.{elements, sides, isSide}
-use Rattle.sides.proofs.Sided.{side-by, three-sides}
+use Rattle.sides.proofs.Sided.{side-by, element-sides}
 use borrow.Author.Tests.{le-leb, lt-leb}
 use mathlib.Core.List.{List}
 use mathlib.Core.Path.{_≡_, ap, sym, _∙_}
@@ -60,7 +60,7 @@ returns-4 : tie.Need-returns-4
 returns-4 c =
     let tested = c .before .before in
     let s = split tested in
-    let i : s .number-of .result ≤ sides (list s) (f s) = omega (arith, three-sides (list s) (f s)) in
+    let i : s .number-of .result ≤ sides (list s) (f s) = omega (arith, element-sides (list s) (f s)) in
     simp (by-number tested, le-leb 1 _ (c .before .if3 .left), le-leb _ _ i)
 
 row-at-requires : tie.Need-row-at-requires
