@@ -15,6 +15,7 @@ ghost use Prim.Native.Nat.{_+_, _≤_};
 ghost use lib.ListN.{length};
 ghost use lib.Seq.{sets};
 ghost use Rattle.answer.specs.Numbers.{numbers};
+ghost use Rattle.rules.specs.Elements.{maxBorder};
 ghost use Rattle.reads.specs.Meshes.{mesh, Fit};
 ghost use Rattle.reads.specs.Readings.{readOf};
 ghost use Rattle.passes.specs.Walks.{nextBy, shownBy, Stands, Stepped, walked, sizeOf, listOf, leading, preceded, Lists};
@@ -182,7 +183,7 @@ pub fn list_walk(
     out: &mut [u32],
 ) -> Answer
     requires { ⌜ (let M = mesh n (now list) (now v2e) (now e2e) (now b2e) in Fit M × Stands walk M start) ⌝ }
-    requires { ⌜ limit ≤ 4_000_000 ⌝ }
+    requires { ⌜ limit ≤ maxBorder ⌝ }
     ensures { λ r. ⌜ Lists (preceded prior (walked walk (mesh n (now (list .entry)) (now (v2e .entry)) (now (e2e .entry)) (now (b2e .entry))) start limit start)) (now (out .entry)) (numbers r) (now (out .exit)) ⌝ }
 {
     let counted = count(walk, n, list, v2e, e2e, b2e, limit, start);
