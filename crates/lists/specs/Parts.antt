@@ -5,7 +5,7 @@ use mathlib.Core.List.{List, _++_, append-nil}
 use Prim.Native.Nat.{ℕ, suc, _+_, _-_, _≤_, _<_}
 use native.Mathlib.Numerals.{add-one}
 use native.Mathlib.Omega.{arith}
-use lib.ListN.{length, take, drop, set, replicate, length-append, drop-of-length-le, length-take, length-drop, take-append-drop}
+use lib.ListN.{length, take, drop, set, replicate, length-append, drop-of-length-le, length-take, length-drop}
 use lib.Seq.{getD-take, getD-drop, ext-getD, take-at, drop-at, drop-cons, set-at, length-take-le, append-snoc, take-suc, take-length, drop-length}
 use Rattle.lists.specs.Search.{at}
 
@@ -18,10 +18,6 @@ at-part a k w i h = getD-take k (drop a w) i 0 h ∙ getD-drop a w i 0
 
 pub length-part : (a k : ℕ) (w : List ℕ) → a + k ≤ length w → length (part a k w) ≡ k
 length-part a k w h = simp (length-take, length-drop) (omega arith)
-
--- a list is its two parts
-pub two-parts : (o : ℕ) (w u : List ℕ) → take o w ≡ take o u → drop o w ≡ drop o u → w ≡ u
-two-parts o w u a b = sym (take-append-drop o w) ∙ ap (λ (x : List ℕ). x ++ drop o w) a ∙ ap (λ (x : List ℕ). take o u ++ x) b ∙ take-append-drop o u
 
 -- a part that ends by o is the same of what stands before o
 pub part-take : (a k o : ℕ) (w : List ℕ) → a + k ≤ o → o ≤ length w → part a k (take o w) ≡ part a k w

@@ -4,16 +4,15 @@ use mathlib.Core.Bool.{Bool, true, false}
 use mathlib.Core.List.{List, [], _∷_, _++_}
 use mathlib.Core.Path.{_≡_, refl, ap, _∙_}
 use Prim.Native.Nat.{ℕ, zero, suc, _+_, _*_, _-_, _/_, _%_, _^_, _≤_, _<_}
-use native.Mathlib.Nat.{pow-succ', add-zero, suc-mul}
+use native.Mathlib.Nat.{pow-succ', add-zero}
 use native.Mathlib.Numerals.{add-one}
 use native.Mathlib.Omega.{arith}
 use borrow.Author.Tests.{lt-ltb, le-ltb}
 use lib.Dec.{ltb, nltb→le}
 use lib.ListN.{length, take, drop, set, length-append}
 use lib.Seq.{sets, sets-eq, length-sets, take-at}
-use Rattle.lists.specs.Search.{at}
 use Rattle.lists.specs.TestLaws.{Test, pass, fail, test, means-lt}
-use Rattle.print.specs.Lines.{lastDigits, digits, joined, item, lineOf, Written, Counts, shownIf, hasRoom}
+use Rattle.print.specs.Lines.{lastDigits, digits, joined, Written, Counts, shownIf, hasRoom}
 
 -- room for more digits than there are changes nothing
 last-one : (k x : ℕ) → x < 10 → lastDigits (suc k) x ≡ (48 + x) ∷ []
@@ -71,15 +70,6 @@ joined-next f k l i a b = rw add-one (written-next l (joined f k) (f k) i a b)
 -- what is printed at the start of a buffer
 pub printed : (l s : List ℕ) → length s ≤ length l → take (length s) (sets l 0 s) ≡ s
 printed l s h = rw (sets-eq s l 0 (omega arith)) (take-at s (drop (0 + length s) l) (length s) refl)
-
--- a line of k numbers below 2 ^ 32 takes at most 2 + 11 × k bytes
-joined-le : (f : ℕ → List ℕ) (a k : ℕ) → ((i : ℕ) → length (f i) ≤ a) → length (joined f k) ≤ k * a
-unfolding joined
-joined-le f a zero h = omega arith
-joined-le f a (suc k) h = rw (length-append, suc-mul) (omega (arith, joined-le f a k h, h k))
-
-pub line-le : (letter : ℕ) (xs : List ℕ) → ((i : ℕ) → at xs i < 2 ^ 32) → length (lineOf letter xs) ≤ 2 + 11 * length xs
-line-le letter xs f = rw length-append (omega (arith, joined-le (item xs) 11 (length xs) (λ i. omega (arith, ten-digits (at xs i) (f i)))))
 
 -- with room all is shown
 pub has-room : (size p k : ℕ) → 11 * (k + 1) ≤ size - p → hasRoom size p k ≡ true

@@ -6,15 +6,10 @@ use Prim.Native.Nat.{ℕ, _+_, _*_, _/_, _%_, _≤_, _<_}
 use native.Mathlib.Omega.{arith}
 use lib.ListN.{length}
 use Rattle.lists.specs.Tests.{both, within}
-use Rattle.rules.specs.Elements.{elements, corner, sides, isSide, Side, row, slot, origin, destination, nextNumber, next}
+use Rattle.rules.specs.Elements.{elements, sides, isSide, Side, row, slot, origin, destination, nextNumber, next}
 use Rattle.halfedge.specs.Rows.{rowOf, cornerOf, turned, nextSide, next-early, three-sides, row-sides, row-corner, row-turned}
 use Rattle.theory.specs.Sides.{side-facts}
 use Rattle.theory.specs.Steps.{next-numbered}
-
--- the row of element f
-module _ (L : List ℕ) (f : ℕ) {r : List ℕ} (e : r ≡ rowOf (row L f)) where
-  pub corner-read : {i x : ℕ} → 1 ≤ i → i ≤ 4 → x ≡ cornerOf r i → x ≡ corner L f i
-  corner-read {i} l h q = q ∙ ap (λ (p : List ℕ). cornerOf p i) e ∙ row-corner L f i l h
 
 -- the tests of a code by its element f and its number i
 pub side-by : (L : List ℕ) (s : ℕ) {f i : ℕ} → f ≡ s / 8 → i ≡ s % 8 → isSide L s ≡ both (within 1 (elements L) f) (within 1 (sides L f) i)
