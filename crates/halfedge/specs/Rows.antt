@@ -1,5 +1,6 @@
 -- Document 01, "Element list and half-edge numbers": an element row as one value.
 -- Assumes nothing.
+use mathlib.Core.Bool.{true, false}
 use mathlib.Core.List.{List, [], _∷_}
 use mathlib.Core.Path.{_≡_, refl, ap}
 use Prim.Native.Nat.{ℕ, zero, suc, _+_, _*_, _-_, _≤_, _<_}
@@ -26,9 +27,17 @@ cornerOf r i = orNothing (within 1 4 i) (at r (i - 1))
 abbrev pub sidesOf : List ℕ → ℕ
 sidesOf r = sidesBy (at r 3)
 
+-- the same test for any two numbers: the first for a triangle, the second for a quadrilateral
+unfoldable pub byKind : List ℕ → ℕ → ℕ → ℕ
+byKind r t q = elim (eqb (at r 3) 0) [ true ↦ t | false ↦ q ]
+
+-- the side that a step gives from side i of k; 0 where there is no side i
+unfoldable pub stepIn : (ℕ → ℕ → ℕ) → ℕ → ℕ → ℕ
+stepIn step k i = orNothing (within 1 k i) (step k i)
+
 -- the side that a turn gives from side i of a row; 0 where the row has no side i
 unfoldable pub turned : (ℕ → ℕ → ℕ) → List ℕ → ℕ → ℕ
-turned turn r i = orNothing (within 1 (sidesOf r) i) (turn (sidesOf r) i)
+turned turn r i = stepIn turn (sidesOf r) i
 
 -- "the last corner being followed by the first"
 abbrev pub nextSide : List ℕ → ℕ → ℕ
@@ -47,7 +56,7 @@ three-sides r = go (test (eqb (at r 3) 0))
     go (fail t e) = rw (e, sidesBy) (omega arith)
 
 pub next-early : (r : List ℕ) (i : ℕ) → 1 ≤ i → i < 3 → nextSide r i ≡ i + 1
-unfolding turned nextNumber
+unfolding turned stepIn nextNumber
 next-early r i l h =
     let n : i ≤ sidesOf r = omega (arith, three-sides r) in
     let d : i ≡ sidesOf r → ⊥ = λ e. omega (arith, three-sides r) in
@@ -81,5 +90,5 @@ module _ (L : List ℕ) (f : ℕ) where
   row-corner i l h = let t = within-true l h in let j : i - 1 < 4 = omega arith in simp t (row-at (i - 1) j)
 
   pub row-turned : (turn : ℕ → ℕ → ℕ) (i : ℕ) → 1 ≤ i → i ≤ sides L f → turned turn (rowOf (row L f)) i ≡ turn (sides L f) i
-  unfolding turned
+  unfolding turned stepIn
   row-turned turn i l h = rw (row-sides, within-true l h)

@@ -6,7 +6,10 @@ ghost use Rattle.lists.specs.Search.{at};
 ghost use Rattle.lists.specs.Tests.{within};
 ghost use Rattle.rules.specs.Elements.{maxElement, maxBorder, element, number, sidesBy, slot, sideAt};
 ghost use Rattle.halfedge.specs.Codes.{sideCode, borderCode, knownCode};
-ghost use Rattle.halfedge.specs.Rows.{rowOf, cornerOf, nextSide, previousSide};
+ghost use Rattle.halfedge.specs.Rows.{rowOf, cornerOf, byKind, nextSide, previousSide};
+
+mod quadrilateral;
+mod triangle;
 
 // A side ⟨f,i⟩ or a border half-edge ⟨b,0⟩ by its code. Code 0 names nothing.
 pub struct HalfEdge {
@@ -133,38 +136,21 @@ pub fn corner(row: [u32; 4], i: u32) -> u32
 pub fn side_count(row: [u32; 4]) -> u32
     ensures { λ r. ⌜ r ≡ sidesBy (at row 3) ⌝ }
 {
-    if row[3] == 0 {
-        return 3;
-    }
-    4
+    by_kind(row, 3, 4)
 }
 
 // The number of the side after side i; 0 where the row has no side i.
 pub fn next_side(row: [u32; 4], i: u32) -> u32
     ensures { λ r. ⌜ r ≡ nextSide row i ⌝ }
 {
-    let count = side_count(row);
-    if !is_within(1, count, i) {
-        return 0;
-    }
-    if i == count {
-        return 1;
-    }
-    i + 1
+    by_kind(row, triangle::next(i), quadrilateral::next(i))
 }
 
 // The number of the side before side i; 0 where the row has no side i.
 pub fn previous_side(row: [u32; 4], i: u32) -> u32
     ensures { λ r. ⌜ r ≡ previousSide row i ⌝ }
 {
-    let count = side_count(row);
-    if !is_within(1, count, i) {
-        return 0;
-    }
-    if i == 1 {
-        return count;
-    }
-    i - 1
+    by_kind(row, triangle::previous(i), quadrilateral::previous(i))
 }
 
 // The code of the side whose origin stands at entry p of the element list.
@@ -180,6 +166,16 @@ pub fn slot_of(code: u32) -> usize
     ensures { λ r. ⌜ r ≡ slot code ⌝ }
 {
     wide(4 * one_less(element_of(code)) + one_less(number_of(code)))
+}
+
+// The first of two numbers for a triangle, the second for a quadrilateral. A fourth entry of 0 makes a triangle.
+fn by_kind(row: [u32; 4], in_triangle: u32, in_quadrilateral: u32) -> u32
+    ensures { λ r. ⌜ r ≡ byKind row in_triangle in_quadrilateral ⌝ }
+{
+    if row[3] == 0 {
+        return in_triangle;
+    }
+    in_quadrilateral
 }
 
 fn is_within(low: u32, high: u32, x: u32) -> bool

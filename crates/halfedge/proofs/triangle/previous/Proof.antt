@@ -1,0 +1,18 @@
+-- `halfedge::triangle::previous` meets its contract: each case is a step of the rule.
+-- Assumes nothing.
+use native.Mathlib.Omega.{arith}
+use Rattle.rules.specs.Elements.{previousNumber}
+use Rattle.halfedge.specs.Rows.{stepIn}
+use Rattle.halfedge.proofs.Turns.{side-case, no-side}
+use Rattle.halfedge.proofs.triangle.previous.Statement.{statement}
+use Rattle.halfedge.proofs.triangle.previous.Tie as tie
+
+pub previous-spec : {M : Type 1} → statement M
+unfolding previousNumber stepIn
+previous-spec =
+    tie.close
+    (tie.spec
+    (λ c. side-case previousNumber 3 1 (c .match .keys1))
+    (λ c. side-case previousNumber 3 2 (c .match .keys2))
+    (λ c. side-case previousNumber 3 3 (c .match .keys3))
+    (λ c. no-side previousNumber 3 (c .before .args .i) (λ l h. omega arith)))
