@@ -2,7 +2,7 @@
 -- Assumes nothing.
 use mathlib.Core.Bool.{true, false}
 use mathlib.Core.List.{List, [], _∷_}
-use mathlib.Core.Path.{_≡_, refl, ap}
+use mathlib.Core.Path.{_≡_, refl, ap, _∙_}
 use Prim.Native.Nat.{ℕ, zero, suc, _+_, _*_, _-_, _≤_, _<_}
 use lib.Seq.{getD-take, getD-drop}
 use native.Mathlib.Omega.{arith}
@@ -46,6 +46,11 @@ nextSide = turned nextNumber
 abbrev pub previousSide : List ℕ → ℕ → ℕ
 previousSide = turned previousNumber
 
+-- a step from a side that the row has
+pub turned-there : (turn : ℕ → ℕ → ℕ) (r : List ℕ) (i : ℕ) → 1 ≤ i → i ≤ sidesOf r → turned turn r i ≡ turn (sidesOf r) i
+unfolding turned stepIn
+turned-there turn r i l h = rw (within-true l h)
+
 -- a row has three sides at least, so sides 1 and 2 are followed by 2 and 3
 pub three-sides : (r : List ℕ) → 3 ≤ sidesOf r
 unfolding sidesBy
@@ -56,11 +61,11 @@ three-sides r = go (test (eqb (at r 3) 0))
     go (fail t e) = rw (e, sidesBy) (omega arith)
 
 pub next-early : (r : List ℕ) (i : ℕ) → 1 ≤ i → i < 3 → nextSide r i ≡ i + 1
-unfolding turned stepIn nextNumber
+unfolding nextNumber
 next-early r i l h =
     let n : i ≤ sidesOf r = omega (arith, three-sides r) in
     let d : i ≡ sidesOf r → ⊥ = λ e. omega (arith, three-sides r) in
-    simp (within-true l n) (rw (ne-eqb i (sidesOf r) d, nextNumber))
+    turned-there nextNumber r i l n ∙ (rw (ne-eqb i (sidesOf r) d, nextNumber))
 
 -- the entries of a row are the first four of its part
 pub row-entry : (p : List ℕ) (j : ℕ) → j < 4 → at (rowOf p) j ≡ at p j
@@ -77,10 +82,17 @@ part-row L f a e s q = let n : e - a ≡ 4 = omega arith in rw (n, s)
 pub part-at : (L : List ℕ) (a e j : ℕ) → e ≡ a + 4 → j < 4 → at (rowOf (take (e - a) (drop a L))) j ≡ at L (a + j)
 part-at L a e j q h = let n : j < e - a = omega arith in rw (row-entry, getD-take, getD-drop)
 
--- what the reader finds in the row of element f of L
+-- what the reader finds in element f of L: in its part of the list, and in its row
 module _ (L : List ℕ) (f : ℕ) where
+  pub part-entry : (j : ℕ) → j < 4 → at (row L f) j ≡ at L (4 * (f - 1) + j)
+  part-entry j h = rw (getD-take, getD-drop)
+
+  pub part-corner : (i : ℕ) → 1 ≤ i → i ≤ 4 → cornerOf (row L f) i ≡ corner L f i
+  unfolding cornerOf
+  part-corner i l h = let t = within-true l h in let j : i - 1 < 4 = omega arith in simp t (part-entry (i - 1) j)
+
   pub row-at : (j : ℕ) → j < 4 → at (rowOf (row L f)) j ≡ at L (4 * (f - 1) + j)
-  row-at j h = rw (row-entry, getD-take, getD-drop)
+  row-at j h = row-entry (row L f) j h ∙ part-entry j h
 
   pub row-sides : sidesOf (rowOf (row L f)) ≡ sides L f
   row-sides = ap sidesBy (row-at 3 (omega arith))
@@ -90,5 +102,6 @@ module _ (L : List ℕ) (f : ℕ) where
   row-corner i l h = let t = within-true l h in let j : i - 1 < 4 = omega arith in simp t (row-at (i - 1) j)
 
   pub row-turned : (turn : ℕ → ℕ → ℕ) (i : ℕ) → 1 ≤ i → i ≤ sides L f → turned turn (rowOf (row L f)) i ≡ turn (sides L f) i
-  unfolding turned stepIn
-  row-turned turn i l h = rw (row-sides, within-true l h)
+  row-turned turn i l h =
+      let there : i ≤ sidesOf (rowOf (row L f)) = rw row-sides h in
+      turned-there turn (rowOf (row L f)) i l there ∙ ap (λ (k : ℕ). turn k i) row-sides

@@ -127,10 +127,17 @@ pub fn row(part: &[u32]) -> [u32; 4]
 pub fn corner(row: [u32; 4], i: u32) -> u32
     ensures { λ r. ⌜ r ≡ cornerOf row i ⌝ }
 {
+    corner_at(&row, i)
+}
+
+// Corner i of an element, read alone from that element's part of the list; 0 where i is not 1 to 4.
+pub fn corner_at(part: &[u32], i: u32) -> u32
+    ensures { λ r. ⌜ r ≡ cornerOf (now (part .entry)) i ⌝ }
+{
     if !is_within(1, 4, i) {
         return 0;
     }
-    row[wide(i - 1)]
+    entry(part, wide(i - 1))
 }
 
 pub fn side_count(row: [u32; 4]) -> u32
@@ -139,14 +146,14 @@ pub fn side_count(row: [u32; 4]) -> u32
     by_kind(row, 3, 4)
 }
 
-// The number of the side after side i; 0 where the row has no side i.
+// The number of the side after side i, by the figure of the row's kind; 0 where the row has no side i.
 pub fn next_side(row: [u32; 4], i: u32) -> u32
     ensures { λ r. ⌜ r ≡ nextSide row i ⌝ }
 {
     by_kind(row, triangle::next(i), quadrilateral::next(i))
 }
 
-// The number of the side before side i; 0 where the row has no side i.
+// The number of the side before side i, by the figure of the row's kind; 0 where the row has no side i.
 pub fn previous_side(row: [u32; 4], i: u32) -> u32
     ensures { λ r. ⌜ r ≡ previousSide row i ⌝ }
 {

@@ -11,7 +11,11 @@ use Rattle.rules.specs.Queries.{Mesh, oppositeAnswer, nextAnswer, previousAnswe
 use Rattle.rules.specs.Queries.{halfEdgeBorderAnswer, vertexBorderAnswer, Walked}
 use Rattle.answer.specs.Numbers.{numbers}
 use Rattle.build.specs.Building.{lent}
+use Rattle.halfedge.specs.Rows.{nextSide, previousSide}
 use Rattle.reads.specs.Meshes.{mesh}
+use Rattle.halfedge.proofs.next_side.Kinds as next-side-kinds
+use Rattle.halfedge.proofs.next_side.Reads as next-side-reads
+use Rattle.halfedge.proofs.previous_side.Reads as previous-side-reads
 use Rattle.build.proofs.build.Kinds as build-kinds
 use Rattle.build.proofs.build.Reads as build-reads
 use Rattle.recover.proofs.recover.Kinds as recover-kinds
@@ -36,6 +40,14 @@ use Rattle.walker.specs.Walkers.{recordOf, movedOf, calledBy}
 use Rattle.walker.proofs.call_at.Kinds as call-at-kinds
 use Rattle.walker.proofs.call_at.Reads as call-at-reads
 use Rattle.runs.specs.Runs.{StartRun, StepRun, BuildRun, RecoverRun, RingRun, NeighboursRun, BorderLoopRun}
+
+-- next_side(row, i) and previous_side(row, i)
+module _ (κs : Lfts 0) (a : Dens κs next-side-kinds.ps) (r : resT next-side-kinds.r κs .Denot) (s : AtExit (endedOf 0 next-side-kinds.ps next-side-kinds.r) κs) where
+  pub next-side-run : next-side-reads.Post κs a r s → r ≡ nextSide (a .0) (a .1 .0)
+  next-side-run p = p
+
+  pub previous-side-run : previous-side-reads.Post κs a r s → r ≡ previousSide (a .0) (a .1 .0)
+  previous-side-run p = p
 
 -- the buffers of build(n, list, v2e, e2e, b2e, work)
 abbrev pub buffers : (κs : Lfts 5) → Dens κs build-kinds.ps → Buffers

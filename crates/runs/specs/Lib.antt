@@ -5,3 +5,4 @@ pub mod OnBuilt
 pub mod RoundTrip
 pub mod Bounds
 pub mod Exports
+pub mod SideSteps

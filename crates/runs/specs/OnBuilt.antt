@@ -18,7 +18,7 @@ use lib.Seq.{take-append-seam}
 use Rattle.lists.specs.Tests.{within}
 use Rattle.lists.specs.TestLaws.{decide, true-of, false-of, means-not, means-le, means-within}
 use Rattle.lists.specs.Search.{at}
-use Rattle.rules.specs.Elements.{Side, isSide, next, previous}
+use Rattle.rules.specs.Elements.{Side, isSide, sides, element, next, previous}
 use Rattle.rules.specs.Pairing.{Accepted}
 use Rattle.rules.specs.Tables.{b2e, e2e, v2e}
 use Rattle.rules.specs.Refusals.{Answer, gives, refused, Buffers, callSizes, callLengths, after, onto, workAfter, buildLeaves}
@@ -26,7 +26,7 @@ use Rattle.rules.specs.Queries.{Mesh, asked, defined, found, listed, listLeaves
 use Rattle.rules.specs.Queries.{neighbours, borderLoop, Walker, started, startSide, walkerStart, walkerStep, oppositeAnswer, nextAnswer, previousAnswer}
 use Rattle.rules.specs.Queries.{ringAnswer}
 use Rattle.rules.specs.Queries.{ringLeaves, neighboursAnswer, neighboursLeaves, borderLoopAnswer, borderLoopLeaves, startAnswer}
-use Rattle.theory.specs.Steps.{next-side, previous-side, previous-next, next-previous}
+use Rattle.theory.specs.Steps.{FirstBack, next-side, previous-side, previous-next, next-previous, next-back}
 use Rattle.theory.specs.Entries.{length-b2e}
 use Rattle.theory.specs.Built.{built, by-side}
 use Rattle.theory.specs.Rings.{ListsOnce}
@@ -207,6 +207,10 @@ module _ (n : ℕ) (L : List ℕ) (M : Mesh) (x : LeftBy n L M) where
   previous-undone s a d e =
       let t = previous-side L s d in
       (previous L s, t, e ∙ previouses s d, λ b h. h ∙ nexts (previous L s) t ∙ ap (λ (y : ℕ). gives y 0) (next-previous L s d))
+
+  -- of a side, next asked again and again first comes back after as many steps as its element has sides
+  pub next-comes-back : (s : ℕ) (cs : ℕ → ℕ) → Side L s → cs 0 ≡ s → ((j : ℕ) → gives (cs (suc j)) 0 ≡ nextAnswer M (cs j)) → FirstBack s (sides L (element s)) cs
+  next-comes-back s cs d b runs = next-back L s cs d b (λ j t. cc (runs j, nexts (cs j) t))
 
   -- a walker hands out the ring in order, and then 0 with the record unchanged
   pub walk-on-built : (v : ℕ) (w : Walker) (a : Answer) (ws : ℕ → Walker) (given : ℕ → Answer) → Walk M v w a ws given → 1 ≤ v → v ≤ n

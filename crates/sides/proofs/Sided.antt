@@ -7,9 +7,9 @@ use native.Mathlib.Omega.{arith}
 use lib.ListN.{length}
 use Rattle.lists.specs.Tests.{both, within}
 use Rattle.rules.specs.Elements.{elements, sides, isSide, Side, row, slot, origin, destination, nextNumber, next}
-use Rattle.halfedge.specs.Rows.{rowOf, cornerOf, turned, nextSide, next-early, three-sides, row-sides, row-corner, row-turned}
+use Rattle.halfedge.specs.Rows.{rowOf, cornerOf, turned, nextSide, next-early, three-sides, row-sides, part-corner, row-corner, row-turned}
 use Rattle.theory.specs.Sides.{side-facts}
-use Rattle.theory.specs.Steps.{next-numbered}
+use Rattle.theory.specs.Steps.{Numbered, next-numbered}
 
 -- the tests of a code by its element f and its number i
 pub side-by : (L : List ℕ) (s : ℕ) {f i : ℕ} → f ≡ s / 8 → i ≡ s % 8 → isSide L s ≡ both (within 1 (elements L) f) (within 1 (sides L f) i)
@@ -25,6 +25,14 @@ module _ (L : List ℕ) (s : ℕ) (a : Side L s) {f : ℕ} (ef : f ≡ s / 8) wh
   pub row-there : (1 ≤ f) × (4 * f ≤ length L)
   row-there = omega (arith, side-facts L s a)
 
+  -- the corner where it begins, read from the element's part p
+  pub origin-read : {i x : ℕ} {p : List ℕ} → i ≡ s % 8 → p ≡ row L f → x ≡ cornerOf p i → x ≡ origin L s
+  unfolding origin slot
+  origin-read {i} {p = p} ei ep q =
+      let x = side-facts L s a in
+      q ∙ ap (cornerOf p) ei ∙ ap (λ (t : List ℕ). cornerOf t (s % 8)) (ep ∙ ap (row L) ef)
+      ∙ part-corner L (s / 8) (s % 8) (x .number-from) (x .number-four)
+
   -- sides 1 and 2 are followed alike by every row
   pub early-read : {i : ℕ} → i ≡ s % 8 → i < 3 → (r : List ℕ) {j : ℕ} → j ≡ nextSide r i → j ≡ nextNumber (sides L (s / 8)) (s % 8)
   early-read {i} ei h r q =
@@ -33,7 +41,10 @@ module _ (L : List ℕ) (s : ℕ) (a : Side L s) {f : ℕ} (ef : f ≡ s / 8) wh
       q ∙ next-early r i l h ∙ sym (next-early (rowOf (row L (s / 8))) i l h)
       ∙ ap (nextSide (rowOf (row L (s / 8)))) ei ∙ row-turned L (s / 8) nextNumber (s % 8) (x .number-from) (x .number-to)
 
-  -- what was stepped to is side j of the element
+  -- what was stepped to is side j of the element, one of four at most
+  pub step-four : {j r : ℕ} (turn : ℕ → ℕ → ℕ) → j ≡ turn (sides L (s / 8)) (s % 8) → Numbered L s (turn (sides L (s / 8)) (s % 8)) r → j ≤ 4
+  step-four {r = r} turn e x = omega (arith, e, x .index, side-facts L r (x .side) .number-four)
+
   pub step-read : {j c : ℕ} (turn : ℕ → ℕ → ℕ) → j ≡ turn (sides L (s / 8)) (s % 8) → c ≡ 8 * f + j → c ≡ 8 * (s / 8) + turn (sides L (s / 8)) (s % 8)
   step-read {j} turn e q = q ∙ ap (λ (g : ℕ). 8 * g + j) ef ∙ ap (λ (k : ℕ). 8 * (s / 8) + k) e
 
@@ -47,13 +58,6 @@ module _ (L : List ℕ) (s : ℕ) (a : Side L s) {f : ℕ} (ef : f ≡ s / 8) wh
         let x = side-facts L s a in
         q ∙ ap (turned turn r) ei ∙ ap (λ (p : List ℕ). turned turn p (s % 8)) row-is
         ∙ row-turned L (s / 8) turn (s % 8) (x .number-from) (x .number-to)
-
-    pub origin-read : {x : ℕ} → x ≡ cornerOf r i → x ≡ origin L s
-    unfolding origin slot
-    origin-read q =
-        let x = side-facts L s a in
-        q ∙ ap (cornerOf r) ei ∙ ap (λ (p : List ℕ). cornerOf p (s % 8)) row-is
-        ∙ row-corner L (s / 8) (s % 8) (x .number-from) (x .number-four)
 
     pub destination-read : {j x : ℕ} → j ≡ nextSide r i → x ≡ cornerOf r j → x ≡ destination L s
     unfolding origin slot

@@ -1,5 +1,6 @@
 // What the element list alone says of a side. Elements are read through their rows.
 use halfedge::corner;
+use halfedge::corner_at;
 use halfedge::element_of;
 use halfedge::next_side;
 use halfedge::number_of;
@@ -15,14 +16,22 @@ ghost use Rattle.rules.specs.Elements.{isSide, Side, origin, destination, next,
 ghost use Rattle.rules.specs.Elements.{row as rowIn};
 ghost use Rattle.halfedge.specs.Rows.{rowOf};
 
+// The entries of element f.
+fn part_at(list: &[u32], f: u32) -> &[u32]
+    requires { ⌜ (1 ≤ f) × (4 * f ≤ length (now list)) ⌝ }
+    ensures { λ r. ⌜ now r ≡ rowIn (now (list .entry)) f ⌝ }
+{
+    let a = 4 * wide(f - 1);
+    let e = a + 4;
+    &list[a..e]
+}
+
 // The row of element f.
 pub fn row_at(list: &[u32], f: u32) -> [u32; 4]
     requires { ⌜ (1 ≤ f) × (4 * f ≤ length (now list)) ⌝ }
     ensures { λ r. ⌜ r ≡ rowOf (rowIn (now (list .entry)) f) ⌝ }
 {
-    let a = 4 * wide(f - 1);
-    let e = a + 4;
-    row(&list[a..e])
+    row(part_at(list, f))
 }
 
 pub fn is_side(list: &[u32], code: u32) -> bool
@@ -59,6 +68,15 @@ pub fn next_code(list: &[u32], s: u32) -> u32
     side_code(f, next_side(row_at(list, f), i))
 }
 
+// The same with the row read for every side, for a walk that goes on in that very row: no branch hangs on the side's number.
+pub fn next_by_row(list: &[u32], s: u32) -> u32
+    requires { ⌜ Side (now list) s ⌝ }
+    ensures { λ r. ⌜ r ≡ next (now (list .entry)) s ⌝ }
+{
+    let f = element_of(s);
+    side_code(f, next_side(row_at(list, f), number_of(s)))
+}
+
 pub fn previous_code(list: &[u32], s: u32) -> u32
     requires { ⌜ Side (now list) s ⌝ }
     ensures { λ r. ⌜ r ≡ previous (now (list .entry)) s ⌝ }
@@ -71,7 +89,7 @@ pub fn origin_of(list: &[u32], s: u32) -> u32
     requires { ⌜ Side (now list) s ⌝ }
     ensures { λ r. ⌜ r ≡ origin (now (list .entry)) s ⌝ }
 {
-    corner(row_at(list, element_of(s)), number_of(s))
+    corner_at(part_at(list, element_of(s)), number_of(s))
 }
 
 pub fn destination_of(list: &[u32], s: u32) -> u32

@@ -2,7 +2,7 @@
 -- Assumes nothing.
 use mathlib.Core.Path.{_≡_, ap, sym, _∙_}
 use mathlib.Core.List.{List}
-use Prim.Native.Nat.{ℕ, _+_, _*_, _-_, _/_, _%_, _≤_}
+use Prim.Native.Nat.{ℕ, zero, suc, _+_, _*_, _-_, _/_, _%_, _≤_, _<_}
 use native.Mathlib.Omega.{arith}
 use lib.Dec.{eqb}
 use Rattle.lists.specs.TestLaws.{Test, pass, fail, test, means-not, means-eq}
@@ -65,6 +65,40 @@ next-previous-number k i a b = go (previous-number k i) (next-number k (previous
     go (wraps e f) (grows g h) = absurd (g f)
     go (falls e f) (wraps g h) = omega arith
     go (falls e f) (grows g h) = omega arith
+
+-- x comes back first after exactly k steps of a sequence
+pub record FirstBack (x k : ℕ) (xs : ℕ → ℕ) : Type 0 where
+  pub back : xs k ≡ x
+  pub sooner : (j : ℕ) → 1 ≤ j → j < k → xs j ≡ x → ⊥
+
+-- j steps of next from side i of k count on from i, and after k from 1 again
+data Ahead (k i j r : ℕ) : Type 0 where
+  on : i + j ≤ k → r ≡ i + j → Ahead k i j r
+  round : k < i + j → r + k ≡ i + j → Ahead k i j r
+
+-- so from side i of k, next first comes back after exactly k steps
+module _ (k i : ℕ) (ns : ℕ → ℕ) (from : 1 ≤ i) (to : i ≤ k) (begins : ns 0 ≡ i)
+    (steps : (j : ℕ) → 1 ≤ ns j → ns j ≤ k → ns (suc j) ≡ nextNumber k (ns j)) where
+  ahead : (j : ℕ) → j ≤ k → Ahead k i j (ns j)
+  ahead zero h = on (omega arith) (omega arith)
+  ahead (suc j) h = go (ahead j (omega arith)) (next-number k (ns j))
+    where
+      go : Ahead k i j (ns j) → NextNumber k (ns j) (nextNumber k (ns j)) → Ahead k i (suc j) (ns (suc j))
+      go (on a e) (wraps f g) = let s = steps j (omega arith) (omega arith) in round (omega arith) (omega arith)
+      go (on a e) (grows f g) = let s = steps j (omega arith) (omega arith) in on (omega arith) (omega arith)
+      go (round a e) (wraps f g) = absurd (omega arith)
+      go (round a e) (grows f g) = let s = steps j (omega arith) (omega arith) in round (omega arith) (omega arith)
+
+  pub next-first-back : FirstBack i k ns
+  next-first-back = record { back = go (ahead k (omega arith)); sooner = λ j l h. went j l h (ahead j (omega arith)) }
+    where
+      go : {r : ℕ} → Ahead k i k r → r ≡ i
+      go (on a e) = omega arith
+      go (round a e) = omega arith
+
+      went : (j : ℕ) → 1 ≤ j → j < k → {r : ℕ} → Ahead k i j r → r ≡ i → ⊥
+      went j l h (on a e) f = omega arith
+      went j l h (round a e) f = omega arith
 
 -- r is side i of the element of s
 pub record Numbered (L : List ℕ) (s i r : ℕ) : Type 0 where
@@ -135,3 +169,25 @@ module _ (L : List ℕ) where
       go (wraps f g) (three z h) i = omega arith
       go (wraps f g) (four z h) i = omega arith
       go (grows f g) h i = omega arith
+
+  -- next, taken again and again from side s, first comes back after as many steps as the element has sides
+  pub next-back : (s : ℕ) (cs : ℕ → ℕ) → Side L s → cs 0 ≡ s → ((j : ℕ) → Side L (cs j) → cs (suc j) ≡ next L (cs j)) → FirstBack s (sides L (s / 8)) cs
+  next-back s cs d b steps =
+      record {
+        back = omega (arith, stays (sides L (s / 8)) .1, numbers .back);
+        sooner = λ j l h e. numbers .sooner j l h (ap (λ (c : ℕ). c % 8) e);
+      }
+    where
+      stays : (j : ℕ) → Side L (cs j) × (cs j / 8 ≡ s / 8)
+      stays zero = (rw b d, ap (λ (c : ℕ). c / 8) b)
+      stays (suc j) =
+          let (t, e) = stays j in
+          let n = next-numbered (cs j) t in
+          (rw (steps j t) (n .side), ap (λ (c : ℕ). c / 8) (steps j t) ∙ n .same ∙ e)
+
+      numbers : FirstBack (s % 8) (sides L (s / 8)) (λ j. cs j % 8)
+      numbers =
+          let f = side-facts L s d in
+          next-first-back (sides L (s / 8)) (s % 8) (λ j. cs j % 8) (f .number-from) (f .number-to) (ap (λ (c : ℕ). c % 8) b)
+          (λ j l h. let (t, e) = stays j in
+          ap (λ (c : ℕ). c % 8) (steps j t) ∙ next-numbered (cs j) t .index ∙ ap (λ (f : ℕ). nextNumber (sides L f) (cs j % 8)) e)

@@ -12,6 +12,7 @@ use halfedge::is_border;
 use halfedge::slot_of;
 use halfedge::wide;
 use sides::is_side;
+use sides::next_by_row;
 use sides::next_code;
 
 // Where the walk goes from a side.
@@ -29,7 +30,7 @@ fn turn(e2e: &[u32], s: u32) -> Step
     if !is_side(e2e, t) {
         return Step::Over;
     }
-    Step::On(next_code(e2e, t))
+    Step::On(next_by_row(e2e, t))
 }
 
 // The side where the walk about v begins; 0 where there is none.

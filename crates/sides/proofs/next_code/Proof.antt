@@ -5,8 +5,7 @@ use native.Mathlib.Omega.{arith}
 use Prim.Native.Nat.{ℕ, _/_, _%_}
 use Rattle.rules.specs.Elements.{sides, next, nextNumber}
 use Rattle.theory.specs.Steps.{next-numbered}
-use Rattle.theory.specs.Sides.{side-facts}
-use Rattle.sides.proofs.Sided.{row-there, early-read, turn-read, step-read}
+use Rattle.sides.proofs.Sided.{row-there, early-read, turn-read, step-four, step-read}
 use borrow.Author.Needs.{needs}
 use Rattle.sides.proofs.next_code.Statement.{statement}
 use Rattle.sides.proofs.next_code.Tie as tie
@@ -40,9 +39,9 @@ next-side-requires c κs = search needs
 
 side-code-requires : tie.Need-side-code-requires
 side-code-requires c κs =
-    let s = begun (c .before .before) in
-    let x = next-numbered (s .args .list .now) (s .args .s) (s .pre) in
-    (omega arith, omega (arith, early c, x .index, side-facts (s .args .list .now) _ (x .side) .number-four))
+    let split = c .before .before in
+    let s = begun split in
+    (omega arith, step-four _ _ (s .pre) (split .before .element-of .ensures) nextNumber (early c) (next-numbered _ _ (s .pre)))
 
 returns : tie.Need-returns
 unfolding next
@@ -58,9 +57,9 @@ next-side-requires-2 c κs = search needs
 
 side-code-requires-2 : tie.Need-side-code-requires-2
 side-code-requires-2 c κs =
-    let s = begun (c .before .before .before) in
-    let x = next-numbered (s .args .list .now) (s .args .s) (s .pre) in
-    (omega arith, omega (arith, late c, x .index, side-facts (s .args .list .now) _ (x .side) .number-four))
+    let split = c .before .before .before in
+    let s = begun split in
+    (omega arith, step-four _ _ (s .pre) (split .before .element-of .ensures) nextNumber (late c) (next-numbered _ _ (s .pre)))
 
 returns-2 : tie.Need-returns-2
 unfolding next

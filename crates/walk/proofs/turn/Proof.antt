@@ -32,13 +32,13 @@ returns c =
     let tested = c .before in
     turn-none _ _ (tested .before .before .slot-of .ensures) (tested .is-side .ensures) (not-true _ (c .if1 .taken))
 
-next-code-requires : tie.Need-next-code-requires
-next-code-requires c κs = rw (sym (c .before .is-side .ensures) ∙ not-false _ (c .if1 .left)) tt
+next-by-row-requires : tie.Need-next-by-row-requires
+next-by-row-requires c κs = rw (sym (c .before .is-side .ensures) ∙ not-false _ (c .if1 .left)) tt
 
 returns-2 : tie.Need-returns-2
 returns-2 c =
     let tested = c .before .before in
-    turn-next _ _ (tested .before .before .slot-of .ensures) (tested .is-side .ensures) (not-false _ (c .before .if1 .left)) (c .next-code .ensures)
+    turn-next _ _ (tested .before .before .slot-of .ensures) (tested .is-side .ensures) (not-false _ (c .before .if1 .left)) (c .next-by-row .ensures)
 
 pub turn-spec : {M : Type 1} → statement M
 turn-spec =
@@ -49,5 +49,5 @@ turn-spec =
     shared-slice-read-t
     is-side-requires
     returns
-    next-code-requires
+    next-by-row-requires
     returns-2)
