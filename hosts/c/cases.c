@@ -52,6 +52,12 @@ const struct list_case list_cases[] = {
 };
 const size_t list_case_count = sizeof list_cases / sizeof *list_cases;
 
+const struct figure figures[] = {
+    {"the listing", 1, 3, {2, 3, 1}, {3, 1, 2}},
+    {"one quadrilateral", 1, 4, {2, 3, 4, 1}, {4, 1, 2, 3}},
+};
+const size_t figure_count = sizeof figures / sizeof *figures;
+
 const struct recovery_case recovery_cases[] = {
     {"the listing", 4, 2, {32, 8, 16, 24}, {{8, 16, 17, 0}, {11, 24, 32, 0}}, 0, {{1, 2, 3, 0}, {1, 3, 4, 0}}},
     {"renumbered", 4, 2, {8, 32, 16, 24}, {{8, 16, 17, 0}, {11, 24, 32, 0}}, 0, {{2, 1, 3, 0}, {2, 3, 4, 0}}},

@@ -1,5 +1,6 @@
 /* The worked cases that docs/TRACE.md quotes under "Housings to hold up to the rules", and the sample surface mesh of
-   T. J. Alumbaugh and X. Jiao, "Compact Array-Based Mesh Data Structures", with the values printed there. */
+   T. J. Alumbaugh and X. Jiao, "Compact Array-Based Mesh Data Structures", with the values printed there; and the sides
+   of TRI_3 and QUAD_4 in the figures of CGNS. */
 #ifndef CASES_H
 #define CASES_H
 
@@ -22,6 +23,12 @@ struct list_case {
     uint32_t number, count, list[CASE_BORDERS];
 };
 
+/* The numbers of the sides after and before each side of an element of the case, in the figures of CGNS. */
+struct figure {
+    const char *build_case;
+    uint32_t element, sides, next[4], previous[4];
+};
+
 struct recovery_case {
     const char *name;
     uint32_t n, m, v2e[4], e2e[2][4];
@@ -33,6 +40,8 @@ extern const struct build_case build_cases[];
 extern const size_t build_case_count;
 extern const struct list_case list_cases[];
 extern const size_t list_case_count;
+extern const struct figure figures[];
+extern const size_t figure_count;
 extern const struct recovery_case recovery_cases[];
 extern const size_t recovery_case_count;
 

@@ -64,6 +64,23 @@ static void check_list_case(const struct list_case *c, const struct mesh *t) {
     }
 }
 
+static void check_step(const struct figure *c, const struct mesh *t, const char *query, uint32_t i, uint32_t expected) {
+    for (size_t j = 0; j < CODE_CALLS; j++) {
+        if (strcmp(code_calls[j].name, query) != 0)
+            continue;
+        struct call call = query_of(&code_calls[j], t, borzhanu_side(c->element, i));
+        if (compare(&call, NULL).first != borzhanu_side(c->element, expected))
+            fail_case(c->build_case, query);
+    }
+}
+
+static void check_figure(const struct figure *c, const struct mesh *t) {
+    for (uint32_t i = 1; i <= c->sides; i++) {
+        check_step(c, t, "next", i, c->next[i - 1]);
+        check_step(c, t, "previous", i, c->previous[i - 1]);
+    }
+}
+
 static void check_recovery_case(const struct recovery_case *c) {
     struct slice v2e = {(uint32_t *)c->v2e, c->n}, e2e = {(uint32_t *)c->e2e[0], 4 * c->m}, results[ROLES];
     struct mesh t = {c->n, noise_of(ELEMENTS, 4 * c->m), v2e, e2e, noise_of(B2E, 0)};
@@ -81,6 +98,9 @@ static void printed_cases(struct dice *dice) {
         for (size_t j = 0; j < list_case_count; j++)
             if (strcmp(list_cases[j].build_case, build_cases[i].name) == 0)
                 check_list_case(&list_cases[j], &t);
+        for (size_t j = 0; j < figure_count; j++)
+            if (strcmp(figures[j].build_case, build_cases[i].name) == 0)
+                check_figure(&figures[j], &t);
         drop_tables(&t);
     }
     for (size_t i = 0; i < recovery_case_count; i++)
