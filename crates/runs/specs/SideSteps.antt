@@ -4,9 +4,9 @@
 use mathlib.Core.Path.{_≡_, ap, _∙_}
 use mathlib.Core.List.{List}
 use Prim.Native.Nat.{ℕ, suc, _≤_}
+use borrow.Author.Tests.{ne-eqb}
 use Rattle.lists.specs.Search.{at}
-use Rattle.rules.specs.Elements.{nextNumber, previousNumber}
-use Rattle.theory.specs.Sides.{SidesBy, three, four, sides-by}
+use Rattle.rules.specs.Elements.{sidesBy, nextNumber, previousNumber}
 use Rattle.theory.specs.Steps.{FirstBack, next-in, previous-in, previous-next-number, next-previous-number, next-first-back}
 use Rattle.halfedge.specs.Rows.{sidesOf, turned, nextSide, previousSide, turned-there}
 
@@ -46,16 +46,10 @@ module _ (row : List ℕ) (i : ℕ) (side : SideOf row i) where
 
     -- in a triangle next first comes back after exactly three steps
     pub three-steps : at row 3 ≡ 0 → FirstBack i 3 sides
-    three-steps z = go (sides-by (at row 3)) back-after
-      where
-        go : {k : ℕ} → SidesBy (at row 3) k → FirstBack i k sides → FirstBack i 3 sides
-        go (three _ e) b = rw e at b
-        go (four z′ e) b = absurd (z′ z)
+    unfolding sidesBy
+    three-steps z = let e : sidesOf row ≡ 3 = ap sidesBy z in rw e at back-after
 
     -- in a quadrilateral after exactly four
     pub four-steps : (at row 3 ≡ 0 → ⊥) → FirstBack i 4 sides
-    four-steps n = go (sides-by (at row 3)) back-after
-      where
-        go : {k : ℕ} → SidesBy (at row 3) k → FirstBack i k sides → FirstBack i 4 sides
-        go (three z e) b = absurd (n z)
-        go (four _ e) b = rw e at b
+    unfolding sidesBy
+    four-steps n = let e : sidesOf row ≡ 4 = rw (ne-eqb (at row 3) 0 n, sidesBy) in rw e at back-after
