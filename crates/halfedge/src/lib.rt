@@ -1,6 +1,6 @@
 // Half-edge numbers and element rows, document 01, "Element list and half-edge numbers".
 ghost use mathlib.Core.Path.{_≡_};
-ghost use Prim.Native.Nat.{_+_, _*_, _-_, _≤_, _<_};
+ghost use Prim.Native.Nat.{_+_, _*_, _≤_, _<_};
 ghost use lib.Dec.{eqb};
 ghost use Rattle.lists.specs.Search.{at};
 ghost use Rattle.lists.specs.Tests.{within};
@@ -168,11 +168,12 @@ pub fn code_at(p: usize) -> u32
     side_code((p / 4 + 1) as u32, (p % 4 + 1) as u32)
 }
 
-// The entry of the element list at which a side's origin stands.
-pub fn slot_of(code: u32) -> usize
-    ensures { λ r. ⌜ r ≡ slot code ⌝ }
+// The entry of the element list at which the origin of side s stands.
+pub fn slot_of(s: u32) -> usize
+    requires { ⌜ (1 ≤ element s) × (1 ≤ number s) ⌝ }
+    ensures { λ r. ⌜ r ≡ slot s ⌝ }
 {
-    wide(4 * one_less(element_of(code)) + one_less(number_of(code)))
+    wide(4 * (element_of(s) - 1) + (number_of(s) - 1))
 }
 
 // The first of two numbers for a triangle, the second for a quadrilateral. A fourth entry of 0 makes a triangle.
@@ -202,16 +203,6 @@ fn entry(part: &[u32], i: usize) -> u32
         return part[i];
     }
     0
-}
-
-// x - 1; 0 where x is 0.
-fn one_less(x: u32) -> u32
-    ensures { λ r. ⌜ r ≡ x - 1 ⌝ }
-{
-    if x == 0 {
-        return 0;
-    }
-    x - 1
 }
 
 // x as an index.

@@ -59,6 +59,10 @@ module _ (L : List ℕ) where
       go (three z e) h = omega arith
       go (four z e) h = omega arith
 
+  -- its element and its number count from 1
+  pub side-from : (s : ℕ) → Side L s → (1 ≤ s / 8) × (1 ≤ s % 8)
+  side-from s t = let x = side-facts s t in (x .element-from, x .number-from)
+
   pub side-of : (s : ℕ) → 1 ≤ s / 8 → s / 8 ≤ elements L → 1 ≤ s % 8 → s % 8 ≤ sides L (s / 8) → Side L s
   side-of s a b c d = means-side s .shows ((a, b), (c, d))
 

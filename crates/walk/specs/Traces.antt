@@ -3,7 +3,7 @@
 use mathlib.Core.Path.{_≡_, refl, ap, sym, _∙_}
 use mathlib.Core.Bool.{Bool, true, false}
 use mathlib.Core.List.{List}
-use Prim.Native.Nat.{ℕ, zero, suc, _+_, _*_, _-_, _≤_, _<_}
+use Prim.Native.Nat.{ℕ, zero, suc, _+_, _*_, _-_, _/_, _%_, _≤_, _<_}
 use native.Mathlib.Omega.{arith}
 use lib.Dec.{T, eqb, not-T}
 use lib.ListN.{length, set, length-set, length-drop}
@@ -15,7 +15,7 @@ use Rattle.lists.specs.SearchLaws.{zeros-set}
 use Rattle.lists.specs.Parts.{part, part-take}
 use Rattle.rules.specs.Elements.{isSide, Side, slot}
 use Rattle.rules.specs.Recovery.{turnBy, trace}
-use Rattle.theory.specs.Sides.{side-facts}
+use Rattle.theory.specs.Sides.{side-facts, side-from}
 use Rattle.walk.specs.Layout.{Sizes, tables, written, e2eIn, isOpen, Traced}
 use Rattle.walk.specs.Sides.{lent, slot-in}
 
@@ -59,6 +59,10 @@ module _ (E : List ℕ) (v : ℕ) (positive : v ≡ 0 → ⊥) (s : ℕ) (W : Li
       go (suc k) = rw (e, trace)
 
 -- 0 is no side
+-- what is open is a side
+pub open-from : (E W : List ℕ) (s : ℕ) {r : Bool} → r ≡ isOpen E W s → r ≡ true → (1 ≤ s / 8) × (1 ≤ s % 8)
+open-from E W s e t = side-from E s (passes (isSide E s) (eqb (at W (slot s)) 0) (rw (sym e ∙ t) tt) .0)
+
 none-there : (E W : List ℕ) → isOpen E W 0 ≡ false
 none-there E W =
     let e : isSide E 0 ≡ false = false-of (isSide E 0) (not-T (isSide E 0) (λ a. omega (arith, side-facts E 0 a))) in rw e

@@ -4,7 +4,8 @@ use Prim.Native.Nat.{_+_, _<_}
 use native.Mathlib.Omega.{arith}
 use borrow.Author.Needs.{needs}
 use lib.ListN.{length}
-use Rattle.checks.specs.Maps.{none-crowded, sibling-below, crowded-by}
+use Rattle.theory.specs.Sides.{side-from}
+use Rattle.checks.specs.Maps.{none-crowded, sibling-there, sibling-below, crowded-by}
 use Rattle.checks.proofs.is_crowded.Statement.{statement}
 use Rattle.checks.proofs.is_crowded.Tie as tie
 
@@ -28,7 +29,7 @@ returns : tie.Need-returns
 returns c = none-crowded _ (begun (c .before) .pre) (c .if1 .taken)
 
 slot-of-requires : tie.Need-slot-of-requires
-slot-of-requires c κs = search needs
+slot-of-requires c κs = side-from _ _ (sibling-there _ (begun (c .before) .pre) (c .if1 .left))
 
 add-result : tie.Need-add-result
 add-result c = omega (arith, below c)

@@ -9,8 +9,8 @@ use Rattle.halfedge.proofs.slot_of.Tie as tie
 element-of-requires : tie.Need-element-of-requires
 element-of-requires c κs = search needs
 
-one-less-requires : tie.Need-one-less-requires
-one-less-requires c κs = search needs
+sub-wide : tie.Need-sub-wide
+sub-wide c = search needs
 
 mul-wide : tie.Need-mul-wide
 mul-wide c = search needs
@@ -18,8 +18,8 @@ mul-wide c = search needs
 number-of-requires : tie.Need-number-of-requires
 number-of-requires c κs = search needs
 
-one-less-requires-2 : tie.Need-one-less-requires-2
-one-less-requires-2 c κs = search needs
+sub-wide-2 : tie.Need-sub-wide-2
+sub-wide-2 c = search needs
 
 add-wide : tie.Need-add-wide
 add-wide c = search needs
@@ -36,10 +36,10 @@ slot-of-spec =
     tie.close
     (tie.spec
     element-of-requires
-    one-less-requires
+    sub-wide
     mul-wide
     number-of-requires
-    one-less-requires-2
+    sub-wide-2
     add-wide
     wide-requires
     returns)

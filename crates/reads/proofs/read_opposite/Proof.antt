@@ -4,7 +4,7 @@ use Prim.Native.Nat.{_<_}
 use Rattle.reads.proofs.Readings.{read-as}
 use Rattle.rules.specs.Queries.{isHalfEdge, readOpposite}
 use Rattle.lists.specs.Search.{at}
-use Rattle.theory.specs.Sides.{slot-below}
+use Rattle.theory.specs.Sides.{side-from, slot-below}
 use borrow.Author.Needs.{needs}
 use lib.ListN.{length}
 use mathlib.Core.Path.{ap}
@@ -21,7 +21,7 @@ inside c =
     omega (arith, slot-below (s .args .list .now) (s .args .s) (s .pre .1), s .pre .0 .opposites, c .slot-of .ensures)
 
 slot-of-requires : tie.Need-slot-of-requires
-slot-of-requires c κs = search needs
+slot-of-requires c κs = side-from _ _ (c .before .before .before .before .pre .1)
 
 mul-opposed : tie.Need-mul-opposed
 mul-opposed c = omega (arith, inside c, begun c .good)

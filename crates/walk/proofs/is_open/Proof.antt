@@ -9,6 +9,7 @@ use borrow.Author.Needs.{needs}
 use borrow.Author.Tests.{not-true, not-false}
 use Rattle.lists.specs.Search.{at}
 use Rattle.rules.specs.Elements.{isSide, slot}
+use Rattle.theory.specs.Sides.{side-from}
 use Rattle.walk.specs.Layout.{e2eIn, written}
 use Rattle.walk.specs.Sides.{lent, slot-in}
 use Rattle.walk.specs.Traces.{written-at, shut-side, shut-place, open-place}
@@ -79,7 +80,7 @@ add-if2 : tie.Need-add-if2
 add-if2 c = search needs
 
 slot-of-requires : tie.Need-slot-of-requires
-slot-of-requires c κs = search needs
+slot-of-requires c κs = side-from (E2e (begun (c .before))) _ (rw (a-side c) tt)
 
 add-if2-2 : tie.Need-add-if2-2
 add-if2-2 c = omega (arith, place c)

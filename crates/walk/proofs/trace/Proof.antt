@@ -8,7 +8,7 @@ use lib.ListN.{length-set}
 use Rattle.lists.specs.Search.{zeros}
 use Rattle.walk.specs.Layout.{written}
 use Rattle.walk.specs.Steps.{sideOf}
-use Rattle.walk.specs.Traces.{Tracing, tracing-end, Opened, place-in, next-side, fewer, tracing-on, tracing-over}
+use Rattle.walk.specs.Traces.{open-from, Tracing, tracing-end, Opened, place-in, next-side, fewer, tracing-on, tracing-over}
 use Rattle.walk.proofs.trace.Statement.{statement}
 use Rattle.walk.proofs.trace.Tie as tie
 
@@ -62,7 +62,10 @@ add-p : tie.Need-add-p Inv-loop μ-loop
 add-p c = search needs
 
 slot-of-requires : tie.Need-slot-of-requires Inv-loop μ-loop
-slot-of-requires c κs = search needs
+slot-of-requires c κs =
+    let l = c .before .before .before in
+    let a = l .before .before .args in
+    open-from _ (written (a .n) (a .m) (l .loop .work)) _ (c .before .is-open .ensures) (c .if1 .taken)
 
 add-p-2 : tie.Need-add-p-2 Inv-loop μ-loop
 add-p-2 c = omega (arith, c .slot-of .ensures, place-in (opened c))

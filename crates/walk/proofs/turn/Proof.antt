@@ -6,7 +6,7 @@ use Prim.Native.Nat.{_<_}
 use borrow.Author.Needs.{needs}
 use borrow.Author.Tests.{not-true, not-false}
 use lib.ListN.{length}
-use Rattle.theory.specs.Sides.{slot-below}
+use Rattle.theory.specs.Sides.{side-from, slot-below}
 use Rattle.walk.specs.Sides.{turn-none, turn-next}
 use Rattle.walk.proofs.turn.Statement.{statement}
 use Rattle.walk.proofs.turn.Tie as tie
@@ -16,7 +16,7 @@ place : (c : tie.After-slot-of) → c .slot-of .result < length (c .before .befo
 place c = rw (c .slot-of .ensures) (slot-below (c .before .before .args .e2e .now) _ (c .before .before .pre))
 
 slot-of-requires : tie.Need-slot-of-requires
-slot-of-requires c κs = search needs
+slot-of-requires c κs = side-from _ _ (c .before .pre)
 
 mul-t : tie.Need-mul-t
 mul-t c = omega (arith, place c)
