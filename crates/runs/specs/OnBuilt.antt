@@ -209,7 +209,8 @@ module _ (n : ℕ) (L : List ℕ) (M : Mesh) (x : LeftBy n L M) where
       (previous L s, t, e ∙ previouses s d, λ b h. h ∙ nexts (previous L s) t ∙ ap (λ (y : ℕ). gives y 0) (next-previous L s d))
 
   -- of a side, next asked again and again first comes back after as many steps as its element has sides
-  pub next-comes-back : (s : ℕ) (cs : ℕ → ℕ) → Side L s → cs 0 ≡ s → ((j : ℕ) → gives (cs (suc j)) 0 ≡ nextAnswer M (cs j)) → FirstBack s (sides L (element s)) cs
+  pub next-comes-back : (s : ℕ) (cs : ℕ → ℕ) → Side L s → cs 0 ≡ s → ((j : ℕ) → gives (cs (suc j)) 0 ≡ nextAnswer M (cs j))
+      → FirstBack s (sides L (element s)) cs
   next-comes-back s cs d b runs = next-back L s cs d b (λ j t. cc (runs j, nexts (cs j) t))
 
   -- a walker hands out the ring in order, and then 0 with the record unchanged

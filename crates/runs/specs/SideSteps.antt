@@ -22,8 +22,8 @@ pub record Round (row : List ℕ) (i : ℕ) (sides : ℕ → ℕ) : Type 0 where
 
 module _ (row : List ℕ) (i : ℕ) (side : SideOf row i) where
   -- a step there and the other one back
-  undone : (there back : ℕ → ℕ → ℕ) → ((k i : ℕ) → 1 ≤ i → i ≤ k → (1 ≤ there k i) × (there k i ≤ k)) → ((k i : ℕ) → 1 ≤ i → i ≤ k → back k (there k i) ≡ i)
-      → (j r : ℕ) → j ≡ turned there row i → r ≡ turned back row j → r ≡ i
+  undone : (there back : ℕ → ℕ → ℕ) → ((k i : ℕ) → 1 ≤ i → i ≤ k → (1 ≤ there k i) × (there k i ≤ k))
+      → ((k i : ℕ) → 1 ≤ i → i ≤ k → back k (there k i) ≡ i) → (j r : ℕ) → j ≡ turned there row i → r ≡ turned back row j → r ≡ i
   undone there back stays undoes j r a b =
       let k = sidesOf row in
       let e = a ∙ turned-there there row i (side .from) (side .to) in

@@ -171,7 +171,8 @@ module _ (L : List ℕ) where
       go (grows f g) h i = omega arith
 
   -- next, taken again and again from side s, first comes back after as many steps as the element has sides
-  pub next-back : (s : ℕ) (cs : ℕ → ℕ) → Side L s → cs 0 ≡ s → ((j : ℕ) → Side L (cs j) → cs (suc j) ≡ next L (cs j)) → FirstBack s (sides L (s / 8)) cs
+  pub next-back : (s : ℕ) (cs : ℕ → ℕ) → Side L s → cs 0 ≡ s → ((j : ℕ) → Side L (cs j) → cs (suc j) ≡ next L (cs j))
+      → FirstBack s (sides L (s / 8)) cs
   next-back s cs d b steps =
       record {
         back = omega (arith, stays (sides L (s / 8)) .1, numbers .back);

@@ -14,11 +14,13 @@ abbrev begun : tie.After-element-of → tie.Start
 begun c = c .before .before
 
 -- the side that was stepped to
-stepped : (c : tie.After-next-side) → let a = begun (c .before .before .before) .args in c .next-side .result ≡ nextNumber (sides (a .list .now) (a .s / 8)) (a .s % 8)
+stepped : (c : tie.After-next-side)
+    → let a = begun (c .before .before .before) .args in c .next-side .result ≡ nextNumber (sides (a .list .now) (a .s / 8)) (a .s % 8)
 stepped c =
     let numbered = c .before in
     let split = numbered .before .before in
-    turn-read _ _ (begun split .pre) (split .element-of .ensures) (numbered .number-of .ensures) (numbered .before .row-at .ensures) nextNumber (c .next-side .ensures)
+    turn-read _ _ (begun split .pre) (split .element-of .ensures) (numbered .number-of .ensures) (numbered .before .row-at .ensures)
+    nextNumber (c .next-side .ensures)
 
 element-of-requires : tie.Need-element-of-requires
 element-of-requires c κs = search needs
