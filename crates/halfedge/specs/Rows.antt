@@ -87,19 +87,21 @@ module _ (L : List ℕ) (f : ℕ) where
   pub part-entry : (j : ℕ) → j < 4 → at (row L f) j ≡ at L (4 * (f - 1) + j)
   part-entry j h = rw (getD-take, getD-drop)
 
-  pub part-corner : (i : ℕ) → 1 ≤ i → i ≤ 4 → cornerOf (row L f) i ≡ corner L f i
-  unfolding cornerOf
-  part-corner i l h = let t = within-true l h in let j : i - 1 < 4 = omega arith in simp t (part-entry (i - 1) j)
-
   pub row-at : (j : ℕ) → j < 4 → at (rowOf (row L f)) j ≡ at L (4 * (f - 1) + j)
   row-at j h = row-entry (row L f) j h ∙ part-entry j h
 
   pub row-sides : sidesOf (rowOf (row L f)) ≡ sides L f
   row-sides = ap sidesBy (row-at 3 (omega arith))
 
-  pub row-corner : (i : ℕ) → 1 ≤ i → i ≤ 4 → cornerOf (rowOf (row L f)) i ≡ corner L f i
+  corner-in : (p : List ℕ) → ((j : ℕ) → j < 4 → at p j ≡ at L (4 * (f - 1) + j)) → (i : ℕ) → 1 ≤ i → i ≤ 4 → cornerOf p i ≡ corner L f i
   unfolding cornerOf
-  row-corner i l h = let t = within-true l h in let j : i - 1 < 4 = omega arith in simp t (row-at (i - 1) j)
+  corner-in p entries i l h = let t = within-true l h in let j : i - 1 < 4 = omega arith in simp t (entries (i - 1) j)
+
+  pub part-corner : (i : ℕ) → 1 ≤ i → i ≤ 4 → cornerOf (row L f) i ≡ corner L f i
+  part-corner = corner-in (row L f) part-entry
+
+  pub row-corner : (i : ℕ) → 1 ≤ i → i ≤ 4 → cornerOf (rowOf (row L f)) i ≡ corner L f i
+  row-corner = corner-in (rowOf (row L f)) row-at
 
   pub row-turned : (turn : ℕ → ℕ → ℕ) (i : ℕ) → 1 ≤ i → i ≤ sides L f → turned turn (rowOf (row L f)) i ≡ turn (sides L f) i
   row-turned turn i l h =

@@ -41,10 +41,11 @@ module _ (L : List ℕ) (s : ℕ) (a : Side L s) {f : ℕ} (ef : f ≡ s / 8) wh
       q ∙ next-early r i l h ∙ sym (next-early (rowOf (row L (s / 8))) i l h)
       ∙ ap (nextSide (rowOf (row L (s / 8)))) ei ∙ row-turned L (s / 8) nextNumber (s % 8) (x .number-from) (x .number-to)
 
-  -- what was stepped to is side j of the element, one of four at most
+  -- the number that was stepped to is at most 4
   pub step-four : {j r : ℕ} (turn : ℕ → ℕ → ℕ) → j ≡ turn (sides L (s / 8)) (s % 8) → Numbered L s (turn (sides L (s / 8)) (s % 8)) r → j ≤ 4
   step-four {r = r} turn e x = omega (arith, e, x .index, side-facts L r (x .side) .number-four)
 
+  -- what was stepped to is side j of the element
   pub step-read : {j c : ℕ} (turn : ℕ → ℕ → ℕ) → j ≡ turn (sides L (s / 8)) (s % 8) → c ≡ 8 * f + j → c ≡ 8 * (s / 8) + turn (sides L (s / 8)) (s % 8)
   step-read {j} turn e q = q ∙ ap (λ (g : ℕ). 8 * g + j) ef ∙ ap (λ (k : ℕ). 8 * (s / 8) + k) e
 

@@ -1,4 +1,4 @@
-// What the element list alone says of a side. Elements are read through their rows.
+// What the element list alone says of a side. Elements are read through their parts of the list and their rows.
 use halfedge::corner;
 use halfedge::corner_at;
 use halfedge::element_of;
@@ -68,7 +68,7 @@ pub fn next_code(list: &[u32], s: u32) -> u32
     side_code(f, next_side(row_at(list, f), i))
 }
 
-// The same with the row read for every side, for a walk that goes on in that very row: no branch hangs on the side's number.
+// As next_code, but with the row read for every side and no branch on its number: for a walk that goes on in that very row.
 pub fn next_by_row(list: &[u32], s: u32) -> u32
     requires { ⌜ Side (now list) s ⌝ }
     ensures { λ r. ⌜ r ≡ next (now (list .entry)) s ⌝ }

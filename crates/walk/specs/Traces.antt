@@ -58,11 +58,11 @@ module _ (E : List ℕ) (v : ℕ) (positive : v ≡ 0 → ⊥) (s : ℕ) (W : Li
       go zero = refl
       go (suc k) = rw (e, trace)
 
--- 0 is no side
 -- what is open is a side
 pub open-from : (E W : List ℕ) (s : ℕ) {r : Bool} → r ≡ isOpen E W s → r ≡ true → (1 ≤ s / 8) × (1 ≤ s % 8)
 open-from E W s e t = side-from E s (passes (isSide E s) (eqb (at W (slot s)) 0) (rw (sym e ∙ t) tt) .0)
 
+-- 0 is no side
 none-there : (E W : List ℕ) → isOpen E W 0 ≡ false
 none-there E W =
     let e : isSide E 0 ≡ false = false-of (isSide E 0) (not-T (isSide E 0) (λ a. omega (arith, side-facts E 0 a))) in rw e
