@@ -65,7 +65,7 @@ module _ (L : List ℕ) (v : ℕ) where
       (λ t a k. not-T (into t) (λ u. let (z, d) = means-into t .says u in omega (arith, slot-less L t s a (i .side) k, f t (record { side = a; border = z; ends = d }))))) in
       let d : eqb (borderInto L v) 0 ≡ _ = false-of _ (means-not (means-eq (borderInto L v) 0) .shows (λ z. side-positive L s (i .side) (sym b ∙ z))) in
       rw (d, v2eEntry) (e ∙ ap (λ (t : ℕ). 8 * borderNumber L t) (sym b))
-  entry-is p x h (inner f a e) =
+  entry-is p x h (inner f e) =
       let b : borderInto L v ≡ 0 = first-is L into 0 (First.nobody refl
       (λ t a. not-T (into t) (λ u. let (z, d) = means-into t .says u in f t (record { side = a; border = z; ends = d }) (omega (arith, slot-below L t a))))) in
       let d : eqb (borderInto L v) 0 ≡ true = true-of _ (means-eq (borderInto L v) 0 .shows b) in

@@ -12,11 +12,11 @@ use Rattle.lists.specs.TestLaws.{means-eq}
 use Rattle.lists.specs.Search.{at, count, upto}
 use Rattle.lists.specs.Changes.{blank-length, blank-before, blank-here}
 use Rattle.lists.specs.Parts.{part, length-part}
-use Rattle.rules.specs.Elements.{Side, slot, origin, firstSide}
+use Rattle.rules.specs.Elements.{slot, firstSide}
 use Rattle.rules.specs.Pairing.{alike}
-use Rattle.rules.specs.Refusals.{unusedVertex, alikeSide}
+use Rattle.rules.specs.Refusals.{alikeSide}
 use Rattle.theory.specs.Sides.{slot-below}
-use Rattle.theory.specs.Least.{First, nobody, somebody, first-side, means-none, means-no-vertex}
+use Rattle.theory.specs.Least.{means-none}
 use Rattle.siblings.specs.Uses.{means-sibling-alike, partner-sibling, partner-none}
 use Rattle.checks.specs.Maps.{two-by-two}
 use Rattle.borders.specs.Numbers.{Ready, Matched, inner, Numbering}
@@ -36,17 +36,6 @@ module _ (n : ℕ) (L w : List ℕ) (r : Ready n L w) where
             (means-sibling-alike L s a two .shows (d, o)));
       }
 
-  first-of : (v : ℕ) → 1 ≤ v → v ≤ n → Side L (firstSide L (λ s. eqb (origin L s) v))
-  unfolding unusedVertex
-  first-of v a b = go (first-side L (λ s. eqb (origin L s) v))
-    where
-      go : First L (λ s. eqb (origin L s) v) (firstSide L (λ s. eqb (origin L s) v)) → Side L (firstSide L (λ s. eqb (origin L s) v))
-      go (nobody e f) =
-          absurd
-          (means-no-vertex n (λ u. eqb (firstSide L (λ s. eqb (origin L s) u)) 0) .says (means-eq _ 0 .shows (r .used)) v a b
-          (means-eq _ 0 .shows e))
-      go (somebody c t f) = c
-
   -- w′ is w with B2e's places cleared
   module _ (w′ : List ℕ) (same : length w′ ≡ length w) (kept : (i : ℕ) → i < n + length L → at w′ i ≡ at w i) (clear : (j : ℕ) → j < length L → at w′ (n + length L + j) ≡ 0) where
     unnumbered : Numbering n L 0 0 0 w′
@@ -59,9 +48,7 @@ module _ (n : ℕ) (L w : List ℕ) (r : Ready n L w) where
           ahead = λ s a h. kept (n + slot s) (omega (arith, slot-below L s a)) ∙ r .mapped .siblings s a;
           empty = λ q h i f. kept (n + q) (omega arith) ∙ r .mapped .empty q i f;
           border = clear;
-          vertices = λ v a b.
-              let e : at w′ (v - 1) ≡ firstSide L (λ s. eqb (origin L s) v) = kept (v - 1) (omega arith) ∙ r .firsts v a b in
-              inner (λ s i h. omega arith) (rw e (first-of v a b)) e;
+          vertices = λ v a b. inner (λ s i h. omega arith) (kept (v - 1) (omega arith) ∙ r .firsts v a b);
           long = same ∙ r .long;
         }
 

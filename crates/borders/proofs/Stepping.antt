@@ -7,7 +7,7 @@ use mathlib.Core.List.{List, [], _∷_, _++_}
 use Prim.Native.Nat.{ℕ, suc, _+_, _*_, _-_, _≤_, _<_}
 use native.Mathlib.Omega.{arith}
 use native.Mathlib.Numerals.{add-one}
-use lib.Dec.{T, T-not, not-T}
+use lib.Dec.{T, eqb, T-not, not-T}
 use lib.ListN.{length, set, length-set}
 use lib.Seq.{getD-at}
 use Rattle.lists.specs.TestLaws.{Test, pass, fail, test, decide, passes, both-pass, means-eq}
@@ -15,9 +15,10 @@ use Rattle.lists.specs.Search.{at, count, upto}
 use Rattle.lists.specs.SearchLaws.{lt-or-eq, le-not-lt, count-pass, count-fail, count-bound, upto-pass, upto-fail, length-upto}
 use Rattle.lists.specs.Changes.{at-snoc-other}
 use Rattle.lists.specs.Stores.{at-same, at-other}
-use Rattle.rules.specs.Elements.{maxElement, isSide, Side, slot, destination, next, sideAt, sideWith}
+use Rattle.rules.specs.Elements.{maxElement, isSide, Side, slot, origin, destination, next, sideAt, sideWith, firstSide}
 use Rattle.rules.specs.Tables.{partner, isBorder, borderNumber, e2e}
 use Rattle.theory.specs.Sides.{side-facts, side-positive, sideAt-slot, slot-sideAt, slot-below}
+use Rattle.theory.specs.Least.{First, nobody, somebody, first-side}
 use Rattle.theory.specs.Steps.{next-side}
 use Rattle.theory.specs.Entries.{means-border, e2e-paired, e2e-border, e2e-empty}
 use Rattle.siblings.specs.Siblings.{sibling}
@@ -76,8 +77,8 @@ module _ {n : ℕ} {L : List ℕ} (m : Matched n L) {p k c : ℕ} {w : List ℕ}
   -- the entry of a vertex where no border side from p ends
   later : {v x : ℕ} → ((t : ℕ) → Into L v t → slot t ≡ p → ⊥) → Entry L p v x → Entry L (p + 1) v x
   later g (rim t i h f e) = rim t i (omega arith) f e
-  later g (inner f a e) =
-      inner (λ t i h. elim (lt-or-eq (slot t) p (omega arith)) [ inl l ↦ f t i l | inr q ↦ g t i q ]) a e
+  later g (inner f e) =
+      inner (λ t i h. elim (lt-or-eq (slot t) p (omega arith)) [ inl l ↦ f t i l | inr q ↦ g t i q ]) e
 
   -- no border side begins at p, and its E2e entry stands
   module _ (free : Side L (sideAt p) → partner L (sideAt p) ≡ 0 → ⊥) (entry : at w (n + p) ≡ at (e2e L) p) where
@@ -131,6 +132,16 @@ module _ {n : ℕ} {L : List ℕ} (m : Matched n L) {p k c : ℕ} {w : List ℕ}
     pub ends-fit : (1 ≤ destination L (sideAt p)) × (destination L (sideAt p) ≤ n)
     ends-fit =
         let b = next-side L (sideAt p) a in (m .fit .from (next L (sideAt p)) b, m .fit .to (next L (sideAt p)) b)
+
+    -- a side begins where this one ends, so the least one there is a side
+    least-there : {v : ℕ} → v ≡ destination L (sideAt p) → Side L (firstSide L (λ t. eqb (origin L t) v))
+    least-there {v} e = go (first-side L (λ t. eqb (origin L t) v))
+      where
+        go : {c : ℕ} → First L (λ t. eqb (origin L t) v) c → Side L c
+        go (nobody z f) =
+            let t = next L (sideAt p) in
+            absurd (T-not (eqb (origin L t) v) (f t (next-side L (sideAt p) a)) (means-eq (origin L t) v .shows (sym e)))
+        go (somebody b t f) = b
 
     lone : partner L (sideAt p) ≡ 0
     lone = m .lone (sideAt p) a (sym (sibling-at a) ∙ same)
@@ -207,9 +218,9 @@ module _ {n : ℕ} {L : List ℕ} (m : Matched n L) {p k c : ℕ} {w : List ℕ}
           go : Put (v - 1) (8 * (k + 1)) both-entered w′ → Entry L p v (at w (v - 1)) → Entry L (p + 1) v (at w′ (v - 1))
           go (kept e f) (rim t i h g x) =
               rim t i (omega arith) g (ap (λ (u : List ℕ). at u (v - 1)) f ∙ before ∙ x)
-          go (kept e f) (inner g b x) = absurd (omega (arith, before, side-facts L (at w (v - 1)) b .number-from))
+          go (kept e f) (inner g x) = absurd (omega (arith, x, before, side-facts L _ (least-there at-v) .number-from))
           go (put e f) (rim t i h g x) = absurd (e (omega (arith, before)))
-          go (put e f) (inner g b x) =
+          go (put e f) (inner g x) =
               rim (sideAt p) (record { side = a; border = lone; ends = sym at-v }) (rw (slot-sideAt p) (omega arith))
               (λ t i. rw (slot-sideAt p) (le-not-lt p (slot t) (λ h. g t i h)))
               (ap (λ (u : List ℕ). at u (v - 1)) f

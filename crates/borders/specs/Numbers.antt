@@ -10,7 +10,7 @@ use Rattle.lists.specs.Search.{at, count, upto}
 use Rattle.lists.specs.Parts.{part}
 use Rattle.rules.specs.Elements.{elements, Side, slot, origin, destination, sideAt, sideWith, firstSide, countSides}
 use Rattle.rules.specs.Tables.{partner, isBorder, b2e, borderNumber, borders, e2e, v2e}
-use Rattle.rules.specs.Refusals.{unusedVertex, crowdedSide, alikeSide}
+use Rattle.rules.specs.Refusals.{crowdedSide, alikeSide}
 use Rattle.theory.specs.FitRows.{Fit}
 use Rattle.siblings.specs.Siblings.{sibling}
 use Rattle.checks.specs.Maps.{Mapped}
@@ -21,7 +21,6 @@ use Rattle.walk.specs.Layout.{Linked, v2eIn, e2eIn}
 pub record Ready (n : ℕ) (L w : List ℕ) : Type 0 where
   pub mapped : Mapped n L w
   pub firsts : Firsts n L w
-  pub used : unusedVertex n L ≡ 0
   pub uncrowded : crowdedSide L ≡ 0
   pub apart : alikeSide L ≡ 0
   pub long : length w ≡ n + 12 * elements L
@@ -49,10 +48,11 @@ pub record Into (L : List ℕ) (v s : ℕ) : Type 0 where
   pub border : partner L s ≡ 0
   pub ends : destination L s ≡ v
 
--- x is the entry of vertex v by the border sides before place p: the border of the least one that ends there, or the least side with origin v
+-- x is the entry of vertex v by the border sides before place p: the border of the least one that ends there, or the least side with origin v,
+-- 0 where there is none
 pub data Entry (L : List ℕ) (p v x : ℕ) : Type 0 where
   rim : (s : ℕ) → Into L v s → slot s < p → ((t : ℕ) → Into L v t → slot s ≤ slot t) → x ≡ 8 * borderNumber L s → Entry L p v x
-  inner : ((s : ℕ) → Into L v s → slot s < p → ⊥) → Side L x → x ≡ firstSide L (λ s. eqb (origin L s) v) → Entry L p v x
+  inner : ((s : ℕ) → Into L v s → slot s < p → ⊥) → x ≡ firstSide L (λ s. eqb (origin L s) v) → Entry L p v x
 
 -- the places before p are done, with k border sides and c sides
 pub record Numbering (n : ℕ) (L : List ℕ) (p k c : ℕ) (w : List ℕ) : Type 0 where

@@ -17,7 +17,7 @@ use Rattle.rules.specs.Elements.{maxVertex, maxElement, elements}
 use Rattle.rules.specs.Pairing.{sizesFit, unfitCorner, repeatedCorner}
 use Rattle.rules.specs.Tables.{borders, edges, b2e, e2e, v2e}
 use Rattle.rules.specs.Refusals.{Answer, gives, refused, Buffers, callSizes, callLengths, lengthChecks, workAfter, buildAnswer, buildLeaves}
-use Rattle.rules.specs.Refusals.{roomCheck, listAnswer, after, onto, sideCheck, vertexCheck, unusedVertex, crowdedSide, alikeSide, unorderedVertex}
+use Rattle.rules.specs.Refusals.{roomCheck, listAnswer, after, onto, sideCheck, vertexCheck, crowdedSide, alikeSide, unorderedVertex}
 use Rattle.theory.specs.FitRows.{means-sizes}
 use Rattle.theory.specs.Built.{borders-bound}
 use Rattle.theory.specs.Answers.{room-enough, room-short, side-clear, side-refuses, vertex-clear, vertex-refuses}
@@ -110,8 +110,7 @@ counts-are n L k e g =
     clear-vertex 8 (unorderedVertex n L) k e _
     (clear-side 7 (alikeSide L) k e _
     (clear-side 6 (crowdedSide L) k e _
-    (clear-vertex 5 (unusedVertex n L) k e _
-    (clear-side 4 (repeatedCorner L) k e _ (clear-side 3 (unfitCorner n L) k e _ g))))) in
+    (clear-side 4 (repeatedCorner L) k e _ (clear-side 3 (unfitCorner n L) k e _ g)))) in
     cc
 
 -- checks 1 and 2 found nothing

@@ -1,6 +1,6 @@
 -- The least side of each vertex, found from the last place of the list to the first.
 -- Assumes nothing.
-use mathlib.Core.Path.{_≡_, refl, ap, sym, _∙_}
+use mathlib.Core.Path.{_≡_, ap, sym, _∙_}
 use mathlib.Core.Logic.{_⊎_, inl, inr}
 use mathlib.Core.List.{List}
 use Prim.Native.Nat.{ℕ, _+_, _-_, _≤_, _<_}
@@ -13,9 +13,8 @@ use Rattle.lists.specs.SearchLaws.{lt-or-eq}
 use Rattle.lists.specs.Stores.{at-same, at-other}
 use Rattle.rules.specs.Elements.{Side, slot, origin, sideAt, firstSide}
 use Rattle.rules.specs.Pairing.{SideAt}
-use Rattle.rules.specs.Refusals.{unusedVertex}
 use Rattle.theory.specs.Sides.{sideAt-slot, slot-sideAt, slot-below, slot-less}
-use Rattle.theory.specs.Least.{First, first-is, FirstVertex, vertex-is}
+use Rattle.theory.specs.Least.{First, first-is}
 use Rattle.theory.specs.FitRows.{Fit, side-at, entry-at, no-side-at}
 
 -- c is the least side with origin v whose corner stands at p or later; 0 where there is none
@@ -85,26 +84,6 @@ firsts-all n L w k v a b = sym (first-is L (λ s. eqb (origin L s) v) (at w (v -
     go {c} (some (x, o) h f) =
         First.somebody x (means-eq (origin L c) v .shows o)
         (λ s d l. not-T (eqb (origin L s) v) (λ t. omega (arith, f s (d, means-eq (origin L s) v .says t) (omega arith), slot-less L s c d x l)))
-
--- the first vertex whose entry is 0 is the first with no side
-module _ (n : ℕ) (L w : List ℕ) (firsts : Firsts n L w) where
-  pub unused-found : (v : ℕ) → v < n → at w v ≡ 0 → ((u : ℕ) → u < v → at w u ≡ 0 → ⊥) → v + 1 ≡ unusedVertex n L
-  unfolding unusedVertex
-  unused-found v h e f =
-      let i : v + 1 - 1 ≡ v = omega arith in
-      sym
-      (vertex-is n (λ u. eqb (firstSide L (λ s. eqb (origin L s) u)) 0) (v + 1)
-      (FirstVertex.somebody (omega arith) (omega arith)
-      (means-eq _ 0 .shows (sym (firsts (v + 1) (omega arith) (omega arith)) ∙ ap (at w) i ∙ e))
-      (λ u a b. not-T (eqb (firstSide L (λ s. eqb (origin L s) u)) 0) (λ t. f (u - 1) (omega arith) (firsts u a (omega arith) ∙ means-eq _ 0 .says t)))))
-
-  pub unused-none : ((u : ℕ) → u < n → at w u ≡ 0 → ⊥) → 0 ≡ unusedVertex n L
-  unfolding unusedVertex
-  unused-none f =
-      sym
-      (vertex-is n (λ u. eqb (firstSide L (λ s. eqb (origin L s) u)) 0) 0
-      (FirstVertex.nobody refl
-      (λ u a b. not-T (eqb (firstSide L (λ s. eqb (origin L s) u)) 0) (λ t. f (u - 1) (omega arith) (firsts u a b ∙ means-eq _ 0 .says t)))))
 
 -- an entry that isn't 0 is a vertex
 pub entry-vertex : (n : ℕ) (L : List ℕ) → Fit n L → (p x : ℕ) → p < length L → x ≡ at L p → (x ≡ 0 → ⊥) → (1 ≤ x) × (x ≤ n)

@@ -1,12 +1,11 @@
-// Checks 5 to 7 over a list of fit rows: the least side of each vertex, and what the sibling map tells.
+// Checks 6 and 7 over a list of fit rows, by what the sibling map tells, and the least side of each vertex.
 ghost use mathlib.Core.Path.{_≡_};
-ghost use mathlib.Core.List.{List};
-ghost use Prim.Native.Nat.{ℕ, _+_, _≤_, _<_};
+ghost use Prim.Native.Nat.{_+_, _≤_, _<_};
 ghost use lib.ListN.{length};
 ghost use Rattle.lists.specs.Search.{at};
 ghost use Rattle.lists.specs.Stores.{Kept};
 ghost use Rattle.lists.specs.TestLaws.{Means};
-ghost use Rattle.rules.specs.Refusals.{unusedVertex, crowdedSide, alikeSide};
+ghost use Rattle.rules.specs.Refusals.{crowdedSide, alikeSide};
 ghost use Rattle.theory.specs.FitRows.{Fit};
 ghost use Rattle.checks.specs.Firsts.{FirstsFrom, Firsts};
 ghost use Rattle.checks.specs.Maps.{Mapped, CrowdedAt, AlikeAt};
@@ -59,21 +58,6 @@ pub fn first_sides(n: usize, list: &[u32], work: &mut [u32])
 {
     clear_first(n, work);
     put_rows(n, list, work);
-}
-
-// Check 5: the least vertex with no side; 0 where there is none.
-pub fn unused_vertex(n: u32, work: &[u32]) -> u32
-    requires { ⌜ n ≤ length (now work) ⌝ }
-    ensures { λ r. ⌜ ((L : List ℕ) → Firsts n L (now (work .entry)) → r ≡ unusedVertex n L) ⌝ }
-{
-    let mut v: u32 = 0;
-    while v < n {
-        if work[wide(v)] == 0 {
-            return v + 1;
-        }
-        v += 1;
-    }
-    0
 }
 
 // Three or more sides join the vertices of the side that begins at place p.

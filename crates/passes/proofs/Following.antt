@@ -1,18 +1,17 @@
 -- Laws of a walk: its steps, its length, and the list that it leaves.
 -- Assumes nothing.
 use borrow.Author.Tests.{ne-eqb}
-use mathlib.Core.Bool.{Bool, true, false}
 use mathlib.Core.Logic.{_⊎_, inl, inr}
 use mathlib.Core.Option.{Option, none, some}
 use mathlib.Core.List.{List, [], _∷_}
 use mathlib.Core.Path.{_≡_, refl, ap, sym, _∙_}
 use Prim.Native.Nat.{ℕ, zero, suc, _+_, _≤_}
 use native.Mathlib.Omega.{arith}
-use lib.Dec.{eqb}
 use lib.ListN.{length}
 use Rattle.lists.specs.TestLaws.{zero-or}
 use Rattle.rules.specs.Queries.{andThen, prepend, readAll, follow, over}
 use Rattle.passes.specs.Walks.{sizeOf, listOf}
+use Rattle.theory.specs.Follows.{follow-none}
 use Rattle.theory.specs.Reads.{and-then}
 use Rattle.reads.proofs.Readings.{and-none, nothing}
 
@@ -34,47 +33,36 @@ module _ (step shown : ℕ → Option ℕ) where
   abbrev walk : ℕ → ℕ → Option (List ℕ)
   walk j x = over shown (follow step j x)
 
-  -- what is left of a walk at x; nothing where it has stopped
-  unfoldable pub left : ℕ → ℕ → Option (List ℕ)
-  left j x = elim (eqb x 0) [ true ↦ some [] | false ↦ walk j x ]
-
-  pub left-stopped : (j x : ℕ) → x ≡ 0 → left j x ≡ some []
-  unfolding left
-  left-stopped j x z = rw (z, left)
-
-  pub left-on : (j x : ℕ) → (x ≡ 0 → ⊥) → left j x ≡ walk j x
-  unfolding left
-  left-on j x d = rw (ne-eqb x 0 d, left)
+  -- a walk from 0 has stopped
+  pub walk-stopped : (j x : ℕ) → x ≡ 0 → walk j x ≡ some []
+  unfolding over readAll
+  walk-stopped j x z = ap (λ (y : ℕ). walk j y) z ∙ ap (over shown) (follow-none step j)
 
   over-prepend : (x : ℕ) (o : Option (List ℕ)) → over shown (prepend x o) ≡ andThen (shown x) (λ e. prepend e (over shown o))
   unfolding over prepend readAll
   over-prepend x (some xs) = refl
   over-prepend x none = sym (and-nothing (shown x))
 
-  -- a walk is its first step and what is left after it
-  pub walk-step : (j x : ℕ) → walk (suc j) x ≡ andThen (step x) (λ y. andThen (shown x) (λ e. prepend e (left j y)))
-  unfolding follow left over readAll andThen
-  walk-step j x = go (step x)
-    where
-      by : (b : Bool) (y : ℕ) → over shown (elim b as (λ _. Option (List ℕ)) [ true ↦ some (x ∷ []) | false ↦ prepend x (follow step j y) ])
-          ≡ andThen (shown x) (λ e. prepend e (elim b as (λ _. Option (List ℕ)) [ true ↦ some [] | false ↦ walk j y ]))
-      by true y = refl
-      by false y = over-prepend x (follow step j y)
+  module _ (x : ℕ) (d : x ≡ 0 → ⊥) where
+    -- any other is its first step and the walk after it
+    walk-step : (j : ℕ) → walk (suc j) x ≡ andThen (step x) (λ y. andThen (shown x) (λ e. prepend e (walk j y)))
+    unfolding follow over andThen
+    walk-step j = rw (ne-eqb x 0 d, follow) (go (step x))
+      where
+        go : (o : Option ℕ) → over shown (andThen o (λ y. prepend x (follow step j y))) ≡ andThen o (λ y. andThen (shown x) (λ e. prepend e (walk j y)))
+        go (some y) = over-prepend x (follow step j y)
+        go none = refl
 
-      go : (o : Option ℕ) → over shown (andThen o (λ y. elim (eqb y 0) [ true ↦ some (x ∷ []) | false ↦ prepend x (follow step j y) ])) ≡ andThen o (λ y. andThen (shown x) (λ e. prepend e (left j y)))
-      go (some y) = by (eqb y 0) y
-      go none = refl
+    pub walk-to : (j e y : ℕ) → shown x ≡ some e → step x ≡ some y → walk (suc j) x ≡ prepend e (walk j y)
+    walk-to j e y p q = walk-step j ∙ and-then _ q ∙ and-then _ p
 
-  pub walk-to : (j x e y : ℕ) → shown x ≡ some e → step x ≡ some y → walk (suc j) x ≡ prepend e (left j y)
-  walk-to j x e y p q = walk-step j x ∙ and-then _ q ∙ and-then _ p
+    pub walk-lost : (j : ℕ) → (shown x ≡ none) ⊎ (step x ≡ none) → walk (suc j) x ≡ none
+    walk-lost j (inl p) = walk-step j ∙ and-lost (step x) (λ y e. prepend e (walk j y)) p
+    walk-lost j (inr q) = walk-step j ∙ and-none _ q
 
-  pub walk-lost : (j x : ℕ) → (shown x ≡ none) ⊎ (step x ≡ none) → walk (suc j) x ≡ none
-  walk-lost j x (inl p) = walk-step j x ∙ and-lost (step x) (λ y e. prepend e (left j y)) p
-  walk-lost j x (inr q) = walk-step j x ∙ and-none _ q
-
-  pub walk-none : (x : ℕ) → walk 0 x ≡ none
-  unfolding follow over
-  walk-none x = refl
+    pub walk-none : walk 0 x ≡ none
+    unfolding follow over
+    walk-none = rw (ne-eqb x 0 d, follow)
 
 -- lengths
 pub raised-none : (o : Option ℕ) → raised 0 o ≡ o
@@ -119,38 +107,37 @@ module _ (step shown : ℕ → Option ℕ) where
   abbrev Short : ℕ → ℕ → List ℕ → Type 0
   Short j x zs = (length zs ≤ j) × (walk step shown (length zs) x ≡ some zs)
 
-  -- what is left after a step is short where walks of j steps are
-  rest-short : (j y : ℕ) (zs : List ℕ) → (walk step shown j y ≡ some zs → Short j y zs) → left step shown j y ≡ some zs → (length zs ≤ j) × (left step shown (length zs) y ≡ some zs)
-  rest-short j y zs more q = by (zero-or y)
-    where
-      by : (y ≡ 0) ⊎ (y ≡ 0 → ⊥) → (length zs ≤ j) × (left step shown (length zs) y ≡ some zs)
-      by (inl z) =
-          let e : some [] ≡ some zs = sym (left-stopped step shown j y z) ∙ q in
-          let g : [] ≡ zs = cc in
-          let f : 0 ≡ length zs = ap length g in
-          ((omega arith), left-stopped step shown (length zs) y z ∙ e)
-      by (inr d) =
-          let (h, r) = more (sym (left-on step shown j y d) ∙ q) in (h, left-on step shown (length zs) y d ∙ r)
-
-  to-short : (j x e y : ℕ) (zs : List ℕ) → ((zs : List ℕ) → walk step shown j y ≡ some zs → Short j y zs) → shown x ≡ some e → step x ≡ some y → prepend e (left step shown j y) ≡ some zs →
-      Short (suc j) x zs
+  to-short : (j x e y : ℕ) (zs : List ℕ) → (x ≡ 0 → ⊥) → ((ys : List ℕ) → walk step shown j y ≡ some ys → Short j y ys) → shown x ≡ some e → step x ≡ some y →
+      prepend e (walk step shown j y) ≡ some zs → Short (suc j) x zs
   unfolding prepend
-  to-short j x e y zs more a b q =
-      let (ys, p, f) = prepend-some e (left step shown j y) zs q in
-      let (h, r) = rest-short j y ys (more ys) p in
-      rw f ((omega arith), walk-to step shown (length ys) x e y a b ∙ ap (prepend e) r)
+  to-short j x e y zs d more a b q =
+      let (ys, p, f) = prepend-some e (walk step shown j y) zs q in
+      let (h, r) = more ys p in
+      rw f ((omega arith), walk-to step shown x d (length ys) e y a b ∙ ap (prepend e) r)
 
-  step-short : (j x : ℕ) (zs : List ℕ) → ((y : ℕ) (zs : List ℕ) → walk step shown j y ≡ some zs → Short j y zs) → walk step shown (suc j) x ≡ some zs → Short (suc j) x zs
-  step-short j x zs more p = go (step x) (shown x) refl refl
+  step-short : (j x : ℕ) (zs : List ℕ) → (x ≡ 0 → ⊥) → ((y : ℕ) (ys : List ℕ) → walk step shown j y ≡ some ys → Short j y ys) → walk step shown (suc j) x ≡ some zs → Short (suc j) x zs
+  step-short j x zs d more p = go (step x) (shown x) refl refl
     where
       go : (o s : Option ℕ) → step x ≡ o → shown x ≡ s → Short (suc j) x zs
-      go (some y) (some e) a b = to-short j x e y zs (more y) b a (sym (walk-to step shown j x e y b a) ∙ p)
-      go none s a b = absurd (nothing (sym (walk-lost step shown j x (inr a)) ∙ p))
-      go (some y) none a b = absurd (nothing (sym (walk-lost step shown j x (inl b)) ∙ p))
+      go (some y) (some e) a b = to-short j x e y zs d (more y) b a (sym (walk-to step shown x d j e y b a) ∙ p)
+      go none s a b = absurd (nothing (sym (walk-lost step shown x d j (inr a)) ∙ p))
+      go (some y) none a b = absurd (nothing (sym (walk-lost step shown x d j (inl b)) ∙ p))
+
+  stop-short : (j x : ℕ) (zs : List ℕ) → x ≡ 0 → walk step shown j x ≡ some zs → Short j x zs
+  stop-short j x zs z p =
+      let e : some [] ≡ some zs = sym (walk-stopped step shown j x z) ∙ p in
+      let g : [] ≡ zs = cc in
+      let f : 0 ≡ length zs = ap length g in
+      ((omega arith), walk-stopped step shown (length zs) x z ∙ e)
 
   pub walk-short : (j x : ℕ) (zs : List ℕ) → walk step shown j x ≡ some zs → Short j x zs
-  walk-short zero x zs p = absurd (nothing (sym (walk-none step shown x) ∙ p))
-  walk-short (suc j) x zs p = step-short j x zs (walk-short j) p
+  walk-short zero x zs p =
+      elim (zero-or x) [
+        | inl z ↦ stop-short 0 x zs z p
+        | inr d ↦ absurd (nothing (sym (walk-none step shown x d) ∙ p))
+      ]
+  walk-short (suc j) x zs p =
+      elim (zero-or x) [ inl z ↦ stop-short (suc j) x zs z p | inr d ↦ step-short j x zs d (walk-short j) p ]
 
   -- a walk whose size is known
   pub record Sized (j x k : ℕ) : Type 0 where

@@ -32,6 +32,10 @@ Stands Elements M x = Side (M .list) x
 Stands Ends M x = Side (M .list) x
 Stands Borders M x = (1 ≤ x) × (x ≤ length (M .border))
 
+-- a walk can begin at x, or nowhere
+abbrev pub Begins : Walk → Mesh → ℕ → Type 0
+Begins w M x = (x ≡ 0 → ⊥) → Stands w M x
+
 -- the list of a walk of at most j steps
 abbrev pub walked : Walk → Mesh → ℕ → ℕ → ℕ → Option (List ℕ)
 walked w M start j x = over (shownBy w M) (follow (nextBy w M start) j x)

@@ -18,7 +18,7 @@ ghost use Rattle.answer.specs.Numbers.{numbers};
 ghost use Rattle.rules.specs.Elements.{maxBorder};
 ghost use Rattle.reads.specs.Meshes.{mesh, Fit};
 ghost use Rattle.reads.specs.Readings.{readOf};
-ghost use Rattle.passes.specs.Walks.{nextBy, shownBy, Stands, Stepped, walked, sizeOf, listOf, leading, preceded, Lists};
+ghost use Rattle.passes.specs.Walks.{nextBy, shownBy, Stands, Begins, Stepped, walked, sizeOf, listOf, leading, preceded, Lists};
 
 // What is listed: the elements about a vertex, their sides' ends, or border numbers.
 pub enum Walk {
@@ -88,7 +88,7 @@ fn visit(
     Step::To { shown, next }
 }
 
-// How many entries a walk of at most `limit` steps lists.
+// How many entries a walk of at most `limit` steps lists; none from 0.
 fn count(
     walk: Walk,
     n: u32,
@@ -99,7 +99,7 @@ fn count(
     limit: u32,
     start: u32,
 ) -> Read
-    requires { ⌜ (let M = mesh n (now list) (now v2e) (now e2e) (now b2e) in Fit M × Stands walk M start) ⌝ }
+    requires { ⌜ (let M = mesh n (now list) (now v2e) (now e2e) (now b2e) in Fit M × Begins walk M start) ⌝ }
     ensures { λ r. ⌜ readOf r ≡ sizeOf (walked walk (mesh n (now (list .entry)) (now (v2e .entry)) (now (e2e .entry)) (now (b2e .entry))) start limit start) ⌝ }
 {
     let mut x = start;
@@ -131,7 +131,7 @@ fn write(
     size: usize,
     out: &mut [u32],
 )
-    requires { ⌜ (let M = mesh n (now list) (now v2e) (now e2e) (now b2e) in Fit M × Stands walk M start) ⌝ }
+    requires { ⌜ (let M = mesh n (now list) (now v2e) (now e2e) (now b2e) in Fit M × Begins walk M start) ⌝ }
     requires { ⌜ (sizeOf (walked walk (mesh n (now list) (now v2e) (now e2e) (now b2e)) start size start) ≡ some size) × (from + size ≤ length (now out)) ⌝ }
     ensures { λ _. ⌜ now (out .exit) ≡ sets (now (out .entry)) from (listOf (walked walk (mesh n (now (list .entry)) (now (v2e .entry)) (now (e2e .entry)) (now (b2e .entry))) start size start)) ⌝ }
 {
@@ -182,7 +182,7 @@ pub fn list_walk(
     prior: u32,
     out: &mut [u32],
 ) -> Answer
-    requires { ⌜ (let M = mesh n (now list) (now v2e) (now e2e) (now b2e) in Fit M × Stands walk M start) ⌝ }
+    requires { ⌜ (let M = mesh n (now list) (now v2e) (now e2e) (now b2e) in Fit M × Begins walk M start) ⌝ }
     requires { ⌜ limit ≤ maxBorder ⌝ }
     ensures { λ r. ⌜ Lists (preceded prior (walked walk (mesh n (now (list .entry)) (now (v2e .entry)) (now (e2e .entry)) (now (b2e .entry))) start limit start)) (now (out .entry)) (numbers r) (now (out .exit)) ⌝ }
 {

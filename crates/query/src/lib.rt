@@ -21,7 +21,7 @@ use sides::previous_code;
 ghost use mathlib.Core.Path.{_≡_};
 ghost use Rattle.answer.specs.Numbers.{numbers};
 ghost use Rattle.rules.specs.Refusals.{gives};
-ghost use Rattle.rules.specs.Queries.{bySide, oppositeAnswer, nextAnswer, previousAnswer, elementAnswer, originAnswer, destinationAnswer, acrossAnswer, halfEdgeBorderAnswer, vertexBorderAnswer};
+ghost use Rattle.rules.specs.Queries.{bySide, byEntry, oppositeAnswer, nextAnswer, previousAnswer, elementAnswer, originAnswer, destinationAnswer, acrossAnswer, halfEdgeBorderAnswer, vertexBorderAnswer};
 ghost use Rattle.rules.specs.Queries.{found as foundIn};
 ghost use Rattle.reads.specs.Meshes.{mesh};
 ghost use Rattle.reads.specs.Readings.{readOf};
@@ -34,6 +34,16 @@ fn border_answer(c: u32) -> Answer
         return give(1);
     }
     give(0)
+}
+
+// What a vertex is by its V2e entry: 0 inner, 1 rim, 2 unused.
+fn kind_answer(entry: u32) -> Answer
+    ensures { λ r. ⌜ numbers r ≡ gives (byEntry entry 2 0 1) 0 ⌝ }
+{
+    if entry == 0 {
+        return give(2);
+    }
+    border_answer(entry)
 }
 
 // The answer to a question for one number.
@@ -160,7 +170,7 @@ pub fn halfedge_is_border(
     border_answer(code)
 }
 
-// 1 for a vertex whose V2e entry is a border, 0 for another.
+// 1 for a vertex whose V2e entry is a border, 2 for one whose entry is 0, 0 for another.
 pub fn vertex_is_border(
     n: u32,
     list: &[u32],
@@ -179,5 +189,5 @@ pub fn vertex_is_border(
     let Read::Value(code) = entry else {
         return refuse(12);
     };
-    border_answer(code)
+    kind_answer(code)
 }

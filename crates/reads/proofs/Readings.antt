@@ -12,7 +12,7 @@ use Rattle.lists.specs.Search.{at}
 use Rattle.rules.specs.Elements.{number}
 use Rattle.halfedge.specs.Codes.{of-border, of-side}
 use Rattle.theory.specs.Reads.{and-then}
-use Rattle.rules.specs.Queries.{read, andThen, bySide}
+use Rattle.rules.specs.Queries.{read, andThen, bySide, byEntry}
 use Rattle.reads.specs.declared.Read.{Read}
 use Rattle.reads.specs.declared.Read.the-variants.{Value, Broken}
 use Rattle.reads.specs.Readings.{readOf}
@@ -74,6 +74,20 @@ at-border c x y z = rw (eq-eqb (c % 8) 0 z, bySide)
 
 pub at-side {ℓ} : {A : Type ℓ} (c : ℕ) (x y : A) → (c % 8 ≡ 0 → ⊥) → bySide c x y ≡ x
 at-side c x y d = rw (ne-eqb (c % 8) 0 d, bySide)
+
+-- by the V2e entry of a vertex
+pub at-unused {ℓ} : {A : Type ℓ} (c : ℕ) (x y z : A) → c ≡ 0 → byEntry c x y z ≡ x
+at-unused c x y z e = rw (eq-eqb c 0 e, byEntry)
+
+pub at-used {ℓ} : {A : Type ℓ} (c : ℕ) (x y z : A) → (c ≡ 0 → ⊥) → byEntry c x y z ≡ bySide c y z
+at-used c x y z d = rw (ne-eqb c 0 d, byEntry)
+
+module _ {ℓ} {A : Type ℓ} (c : ℕ) (x y z : A) {r : A} where
+  pub unused-then : c ≡ 0 → r ≡ x → r ≡ byEntry c x y z
+  unused-then e q = q ∙ sym (at-unused c x y z e)
+
+  pub used-then : (c ≡ 0 → ⊥) → r ≡ bySide c y z → r ≡ byEntry c x y z
+  used-then d q = q ∙ sym (at-used c x y z d)
 
 -- by the code's test for a border
 module _ {ℓ} {A : Type ℓ} (c : ℕ) (x y : A) {b : Bool} (e : b ≡ eqb (number c) 0) {z : A} where

@@ -3,13 +3,14 @@
 use mathlib.Core.Option.{Option, some}
 use mathlib.Core.Path.{_≡_}
 use mathlib.Core.Logic.{_⊎_, inl, inr}
-use Prim.Native.Nat.{ℕ, _*_, _/_, _%_, _≤_}
+use Prim.Native.Nat.{ℕ, _*_, _-_, _/_, _%_, _≤_}
 use native.Mathlib.Omega.{arith}
 use lib.Dec.{T}
 use lib.ListN.{length}
 use Rattle.lists.specs.TestLaws.{means-itself, means-both, means-either, means-eq, means-within}
+use Rattle.lists.specs.Search.{at}
 use Rattle.rules.specs.Elements.{isSide, Side, number}
-use Rattle.rules.specs.Queries.{Mesh, isBorderCode, isHalfEdge, isVertex, andThen, read, readBorderSide, readVertexEntry}
+use Rattle.rules.specs.Queries.{Mesh, isBorderCode, isHalfEdge, isEntry, isVertex, andThen, read, readBorderSide, readVertexEntry}
 use Rattle.theory.specs.Sides.{side-facts}
 use Rattle.reads.proofs.Readings.{was-valid, and-some}
 
@@ -58,7 +59,18 @@ pub border-side : (M : Mesh) (c s : ℕ) → readBorderSide M c ≡ some s → S
 unfolding readBorderSide
 border-side M c s e = was-valid (isSide (M .list)) _ s e
 
--- what V2e holds of a vertex: a side or a border half-edge
-pub entry-border : (M : Mesh) (v c : ℕ) → readVertexEntry M v ≡ some c → number c ≡ 0 → T (isBorderCode M c)
+-- what V2e holds of a vertex: 0, a side or a border half-edge
+entry-used : (M : Mesh) (c : ℕ) → T (isEntry M c) → (c ≡ 0 → ⊥) → T (isHalfEdge M c)
+unfolding isEntry
+entry-used M c t d = go (means-either (means-eq c 0) (means-itself (isHalfEdge M c)) .says t)
+  where
+    go : (c ≡ 0) ⊎ T (isHalfEdge M c) → T (isHalfEdge M c)
+    go (inl z) = absurd (d z)
+    go (inr h) = h
+
+pub entry-half : (M : Mesh) (v c : ℕ) → readVertexEntry M v ≡ some c → (c ≡ 0 → ⊥) → T (isHalfEdge M c)
 unfolding readVertexEntry
-entry-border M v c e z = half-border M c (was-valid (isHalfEdge M) _ c e) z
+entry-half M v c e d = entry-used M c (was-valid (isEntry M) (at (M .vertices) (v - 1)) c e) d
+
+pub entry-border : (M : Mesh) (v c : ℕ) → readVertexEntry M v ≡ some c → (c ≡ 0 → ⊥) → number c ≡ 0 → T (isBorderCode M c)
+entry-border M v c e d z = half-border M c (entry-half M v c e d) z

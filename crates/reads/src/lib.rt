@@ -14,7 +14,7 @@ ghost use lib.Dec.{T};
 ghost use lib.ListN.{length};
 ghost use Rattle.lists.specs.Tests.{within};
 ghost use Rattle.rules.specs.Elements.{Side};
-ghost use Rattle.rules.specs.Queries.{read, andThen, isBorderCode, isHalfEdge, isVertex, readOpposite, readBorderSide, readVertexEntry, readOrigin};
+ghost use Rattle.rules.specs.Queries.{read, andThen, isBorderCode, isHalfEdge, isEntry, isVertex, readOpposite, readBorderSide, readVertexEntry, readOrigin};
 ghost use Rattle.rules.specs.Queries.{readDestination, borderNext, startSide, onward, loopNext};
 ghost use Rattle.reads.specs.Meshes.{mesh, Fit};
 ghost use Rattle.reads.specs.Readings.{readOf, priorVertex};
@@ -70,6 +70,16 @@ pub fn is_half_edge(n: u32, list: &[u32], v2e: &[u32], e2e: &[u32], b2e: &[u32],
     is_border_code(n, list, v2e, e2e, b2e, code)
 }
 
+// What V2e may hold of a vertex: 0 where it is unused, or a half-edge.
+fn is_entry(n: u32, list: &[u32], v2e: &[u32], e2e: &[u32], b2e: &[u32], code: u32) -> bool
+    ensures { λ r. ⌜ r ≡ isEntry (mesh n (now (list .entry)) (now (v2e .entry)) (now (e2e .entry)) (now (b2e .entry))) code ⌝ }
+{
+    if code == 0 {
+        return true;
+    }
+    is_half_edge(n, list, v2e, e2e, b2e, code)
+}
+
 pub fn read_opposite(n: u32, list: &[u32], v2e: &[u32], e2e: &[u32], b2e: &[u32], s: u32) -> Read
     requires { ⌜ Fit (mesh n (now list) (now v2e) (now e2e) (now b2e)) × Side (now list) s ⌝ }
     ensures { λ r. ⌜ readOf r ≡ readOpposite (mesh n (now (list .entry)) (now (v2e .entry)) (now (e2e .entry)) (now (b2e .entry))) s ⌝ }
@@ -107,7 +117,7 @@ pub fn read_vertex_entry(
     ensures { λ r. ⌜ readOf r ≡ readVertexEntry (mesh n (now (list .entry)) (now (v2e .entry)) (now (e2e .entry)) (now (b2e .entry))) v ⌝ }
 {
     let code = v2e[wide(v) - 1];
-    let valid = is_half_edge(n, list, v2e, e2e, b2e, code);
+    let valid = is_entry(n, list, v2e, e2e, b2e, code);
     checked(valid, code)
 }
 
@@ -173,7 +183,7 @@ pub fn border_next(n: u32, list: &[u32], v2e: &[u32], e2e: &[u32], b2e: &[u32], 
     checked(valid, following)
 }
 
-// The side with which the ring of a vertex begins.
+// The side with which the ring of a vertex begins; 0 where the vertex is unused.
 pub fn start_side(n: u32, list: &[u32], v2e: &[u32], e2e: &[u32], b2e: &[u32], v: u32) -> Read
     requires { ⌜ (let M = mesh n (now list) (now v2e) (now e2e) (now b2e) in Fit M × T (isVertex M v)) ⌝ }
     ensures { λ r. ⌜ readOf r ≡ startSide (mesh n (now (list .entry)) (now (v2e .entry)) (now (e2e .entry)) (now (b2e .entry))) v ⌝ }
@@ -182,6 +192,9 @@ pub fn start_side(n: u32, list: &[u32], v2e: &[u32], e2e: &[u32], b2e: &[u32], v
     let Read::Value(first) = entry else {
         return Read::Broken;
     };
+    if first == 0 {
+        return Read::Value(0);
+    }
     if !is_border(first) {
         return Read::Value(first);
     }
@@ -254,6 +267,9 @@ pub fn prior_vertex(n: u32, list: &[u32], v2e: &[u32], e2e: &[u32], b2e: &[u32],
     let Read::Value(code) = entry else {
         return Read::Broken;
     };
+    if code == 0 {
+        return Read::Value(0);
+    }
     if !is_border(code) {
         return Read::Value(0);
     }

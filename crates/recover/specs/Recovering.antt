@@ -16,7 +16,7 @@ use Rattle.rules.specs.Elements.{elements, maxVertex, maxElement}
 use Rattle.rules.specs.Pairing.{sizesFit, unfitCorner, repeatedCorner, rowsFit}
 use Rattle.rules.specs.Tables.{borders, e2e, v2e}
 use Rattle.rules.specs.Recovery.{walkTo, walk}
-use Rattle.rules.specs.Refusals.{Answer, gives, refused, sideCheck, vertexCheck, unusedVertex, crowdedSide, alikeSide, unorderedVertex, listAnswer, accepts}
+use Rattle.rules.specs.Refusals.{Answer, gives, refused, sideCheck, vertexCheck, crowdedSide, alikeSide, unorderedVertex, listAnswer, accepts}
 use Rattle.rules.specs.Refusals.{recovers, callSizes, callLengths, lengthChecks, workAfter, after, onto, recoverAnswer, recoverList, recoverWork}
 use Rattle.theory.specs.Answers.{side-clear, side-refuses, vertex-clear, vertex-refuses, ordered-answer}
 use Rattle.theory.specs.FitRows.{means-sizes}
@@ -60,15 +60,13 @@ module _ (n : ℕ) (L : List ℕ) where
   counts-accepted t k e g =
       let (a, g₁) = zero-side 3 (unfitCorner n L) k e _ g in
       let (b, g₂) = zero-side 4 (repeatedCorner L) k e _ g₁ in
-      let (c, g₃) = zero-vertex 5 (unusedVertex n L) k e _ g₂ in
-      let (d, g₄) = zero-side 6 (crowdedSide L) k e _ g₃ in
-      let (f, g₅) = zero-side 7 (alikeSide L) k e _ g₄ in
-      let (h, g₆) = zero-vertex 8 (unorderedVertex n L) k e _ g₅ in
+      let (d, g₃) = zero-side 6 (crowdedSide L) k e _ g₂ in
+      let (f, g₄) = zero-side 7 (alikeSide L) k e _ g₃ in
+      let (h, g₅) = zero-vertex 8 (unorderedVertex n L) k e _ g₄ in
       both-pass (both (sizesFit n L) (both (eqb (unfitCorner n L) 0) (eqb (repeatedCorner L) 0))) _
       (both-pass (sizesFit n L) _ t (both-pass (eqb (unfitCorner n L) 0) (eqb (repeatedCorner L) 0) (means-eq _ 0 .shows a) (means-eq _ 0 .shows b)))
-      (both-pass (eqb (unusedVertex n L) 0) _ (means-eq _ 0 .shows c)
       (both-pass (eqb (crowdedSide L) 0) _ (means-eq _ 0 .shows d)
-      (both-pass (eqb (alikeSide L) 0) (eqb (unorderedVertex n L) 0) (means-eq _ 0 .shows f) (means-eq _ 0 .shows h))))
+      (both-pass (eqb (alikeSide L) 0) (eqb (unorderedVertex n L) 0) (means-eq _ 0 .shows f) (means-eq _ 0 .shows h)))
 
   pub refusal-unaccepted : (r a b : ℕ) → listAnswer n L ≡ refused r a b → accepts n L ≡ false
   refusal-unaccepted r a b g =

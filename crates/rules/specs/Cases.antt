@@ -13,10 +13,10 @@ use Rattle.rules.specs.Elements.{elements, sidesBy, isSide, slot, origin
 use Rattle.rules.specs.Pairing.{alike, opposed, joins, sizesFit, unfitCorner, repeatedCorner, rowsFit}
 use Rattle.rules.specs.Tables.{partner, isBorder, b2e, borderNumber, borders, e2eEntry, e2e, borderInto, v2eEntry, v2e, edges}
 use Rattle.rules.specs.Recovery.{sideOfBorder, walkStart, turnBy, trace, walkTo, walk}
-use Rattle.rules.specs.Refusals.{Answer, gives, refused, unusedVertex, crowdedSide, alikeSide, missed, unorderedVertex, sideCheck, vertexCheck, listAnswer, accepts}
+use Rattle.rules.specs.Refusals.{Answer, gives, refused, crowdedSide, alikeSide, missed, unorderedVertex, sideCheck, vertexCheck, listAnswer, accepts}
 use Rattle.rules.specs.Refusals.{Buffers, callSizes, callLengths, lengthChecks, roomCheck, buildAnswer, after, onto, buildLeaves, recovers, recoverAnswer, recoverList}
-use Rattle.rules.specs.Queries.{Mesh, asked, defined, listed, listLeaves, andThen, prepend, readAll, follow, over, isBorderCode, isHalfEdge, isVertex}
-use Rattle.rules.specs.Queries.{readOpposite, readBorderSide, readVertexEntry, readOrigin, readDestination, borderNext, startSide, onward, ringSides}
+use Rattle.rules.specs.Queries.{Mesh, asked, defined, found, listed, listLeaves, andThen, prepend, readAll, follow, over, isBorderCode, isHalfEdge, isEntry, isVertex}
+use Rattle.rules.specs.Queries.{readOpposite, readBorderSide, readVertexEntry, readOrigin, readDestination, borderNext, vertexBorderAnswer, startSide, onward, ringSides}
 use Rattle.rules.specs.Queries.{ring, neighbours, loopNext, borderLoop, listedAnswer}
 use Rattle.rules.specs.Queries.{ringAnswer, ringLeaves, neighboursAnswer, neighboursLeaves, borderLoopAnswer, borderLoopLeaves}
 
@@ -57,6 +57,8 @@ pub data Case : Type 0 where
   v2eIs e2eIs e2eBegins b2eIs : ℕ → List ℕ → List ℕ → Case
   -- on built tables, of the vertex or the border after the list
   ringIs neighboursAre loopIs : ℕ → List ℕ → ℕ → List ℕ → Case
+  -- on built tables, what the border test says of the vertex
+  vertexIs : ℕ → List ℕ → ℕ → ℕ → Case
   -- of n, V2e and E2e; `none` for 10
   recovered : ℕ → List ℕ → List ℕ → Option (List ℕ) → Case
 
@@ -80,6 +82,7 @@ holds (e2eBegins n L xs) = same (take 4 (left n L .opposites)) xs
 holds (e2eIs n L xs) = same (left n L .opposites) xs
 holds (ringIs n L v xs) = gave (ringAnswer (built n L) v) (ringLeaves (built n L) v) xs
 holds (neighboursAre n L v xs) = gave (neighboursAnswer (built n L) v) (neighboursLeaves (built n L) v) xs
+holds (vertexIs n L v x) = sameAnswer (vertexBorderAnswer (built n L) v) (gives x 0)
 holds (loopIs n L b xs) = gave (borderLoopAnswer (built n L) b) (borderLoopLeaves (built n L) b) xs
 holds (recovered n V2e E2e (some L)) =
     let w = room n E2e in
@@ -106,8 +109,6 @@ unfoldable pub cases : List Case
 cases =
     -- "n = 0, m = 0: accepted, all empty"
     answers 0 [] (gives 0 0) ∷ v2eIs 0 [] [] ∷ e2eIs 0 [] [] ∷ b2eIs 0 [] [] ∷
-    -- "n = 1, m = 0: 5 at 1,0"
-    answers 1 [] (refused 5 1 0) ∷
     -- "the listing: 5 edges, k = 4; ring of 1 is 2,1; its neighbours 4,3,2; border loop of 1 is 1,4,3,2"; the tables that it prints
     answers 4 listing (gives 4 5) ∷
     v2eIs 4 listing (32 ∷ 8 ∷ 16 ∷ 24 ∷ []) ∷
@@ -140,6 +141,22 @@ cases =
     recovered 4 (32 ∷ 8 ∷ 16 ∷ 16 ∷ []) listingE2e none ∷
     -- of "Pairing and turn order": "Two triangles back to back, (1,2,3) and (1,3,2), are accepted"
     answers 3 (tri 1 2 3 ++ tri 1 3 2) (gives 0 3) ∷
+    -- document 02, point 2: "the case of one vertex and no element is accepted with V2e 0"
+    answers 1 [] (gives 0 0) ∷ v2eIs 1 [] (0 ∷ []) ∷ e2eIs 1 [] [] ∷ b2eIs 1 [] [] ∷
+    -- "vertices that no plate uses. Accept them, with V2e entry 0": the listing with a fifth vertex
+    answers 5 listing (gives 4 5) ∷
+    v2eIs 5 listing (32 ∷ 8 ∷ 16 ∷ 24 ∷ 0 ∷ []) ∷
+    -- "Their ring and neighbours are empty, and the vertex border test now says inner, rim or unused"
+    ringIs 5 listing 5 [] ∷
+    neighboursAre 5 listing 5 [] ∷
+    vertexIs 4 tetrahedron 1 0 ∷ vertexIs 5 listing 1 1 ∷ vertexIs 5 listing 5 2 ∷
+    -- "A list with spare vertices must also come back from recovery"; not with 0 for a vertex that has sides, nor with a side or a border
+    -- for one that gets none
+    recovered 1 (0 ∷ []) [] (some []) ∷
+    recovered 5 (32 ∷ 8 ∷ 16 ∷ 24 ∷ 0 ∷ []) listingE2e (some listing) ∷
+    recovered 4 (0 ∷ 8 ∷ 16 ∷ 24 ∷ []) listingE2e none ∷
+    recovered 5 (32 ∷ 8 ∷ 16 ∷ 24 ∷ 9 ∷ []) listingE2e none ∷
+    recovered 5 (32 ∷ 8 ∷ 16 ∷ 24 ∷ 32 ∷ []) listingE2e none ∷
     []
 
 -- the rules give every row of the table
@@ -147,9 +164,9 @@ pub cases-hold : T (every holds cases)
 unfolding quad tri blank room left built sameAnswer gave holds every listing listingE2e tetrahedron cases least count upto tab zeros same
     sidesBy isSide slot origin nextNumber next sideAt firstSide countSides firstVertex alike opposed joins sizesFit unfitCorner
     repeatedCorner rowsFit partner isBorder b2e borderNumber borders e2eEntry e2e borderInto v2eEntry v2e edges sideOfBorder walkStart
-    turnBy trace walkTo walk unusedVertex crowdedSide alikeSide missed unorderedVertex sideCheck vertexCheck listAnswer accepts callSizes
-    callLengths lengthChecks roomCheck buildAnswer after onto buildLeaves recovers recoverAnswer recoverList asked defined listed listLeaves
-    andThen prepend readAll follow over isBorderCode isHalfEdge isVertex readOpposite readBorderSide readVertexEntry readOrigin
-    readDestination borderNext startSide onward ringSides ring neighbours loopNext borderLoop listedAnswer ringAnswer ringLeaves
+    turnBy trace walkTo walk crowdedSide alikeSide missed unorderedVertex sideCheck vertexCheck listAnswer accepts callSizes
+    callLengths lengthChecks roomCheck buildAnswer after onto buildLeaves recovers recoverAnswer recoverList asked defined found listed listLeaves
+    andThen prepend readAll follow over isBorderCode isHalfEdge isEntry isVertex readOpposite readBorderSide readVertexEntry readOrigin
+    readDestination borderNext vertexBorderAnswer startSide onward ringSides ring neighbours loopNext borderLoop listedAnswer ringAnswer ringLeaves
     neighboursAnswer neighboursLeaves borderLoopAnswer borderLoopLeaves
 cases-hold = tt

@@ -47,16 +47,16 @@ pub record TurnOrder (L : List ℕ) (π : ℕ → ℕ) (v : ℕ) (o : List ℕ) 
   pub once : (i j : ℕ) → i < length o → j < length o → at o i ≡ at o j → i ≡ j
   -- "each the turn of the one before"
   pub turns : (i : ℕ) → suc i < length o → Turn L π (at o i) (at o (suc i))
-  -- "Either the first is the turn of the last, or the last is a border side and the first is nobody's turn"
+  -- "Either the first is the turn of the last, or the last is a border side and the first is nobody's turn"; document 02, point 2: "an
+  -- empty turn order counts", that of a vertex without sides
   pub ends :
+      0 < length o →
       Turn L π (at o (length o - 1)) (at o 0)
       ⊎ ((π (at o (length o - 1)) ≡ 0) × ((s : ℕ) → Side L s → Turn L π s (at o 0) → ⊥))
 
 -- a pairing with a turn order about every vertex
 pub record Ordered (n : ℕ) (L : List ℕ) (π : ℕ → ℕ) : Type 0 where
   pub pairing : Pairing L π
-  -- "Every vertex needs at least one side"
-  pub used : (v : ℕ) → 1 ≤ v → v ≤ n → (s : ℕ) × SideAt L v s
   pub orders : (v : ℕ) → 1 ≤ v → v ≤ n → (o : List ℕ) × TurnOrder L π v o
 
 -- check 1, as far as it concerns n and the element list: "n or m over its maximum, or element list .. not in fours"

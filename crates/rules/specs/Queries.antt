@@ -68,11 +68,15 @@ read valid x = elim (valid x) [ true ↦ some x | false ↦ none ]
 abbrev pub bySide {ℓ} : {A : Type ℓ} → ℕ → A → A → A
 bySide c side border = elim (eqb (number c) 0) [ true ↦ border | false ↦ side ]
 
--- x, then what follows it, and so on until 0 follows; `none` "when m are listed and neither has come"
+-- by what the V2e entry of a vertex is: 0, a side or a border
+abbrev pub byEntry {ℓ} : {A : Type ℓ} → ℕ → A → A → A → A
+byEntry c unused side border = elim (eqb c 0) [ true ↦ unused | false ↦ bySide c side border ]
+
+-- x, then what follows it, and so on until 0 comes; `none` "when m are listed and neither has come"
 unfoldable pub follow : (ℕ → Option ℕ) → ℕ → ℕ → Option (List ℕ)
-follow step zero x = none
+follow step zero x = elim (eqb x 0) [ true ↦ some [] | false ↦ none ]
 follow step (suc j) x =
-    andThen (step x) (λ y. elim (eqb y 0) [ true ↦ some (x ∷ []) | false ↦ prepend x (follow step j y) ])
+    elim (eqb x 0) [ true ↦ some [] | false ↦ andThen (step x) (λ y. prepend x (follow step j y)) ]
 
 -- f of each entry of what was listed
 unfoldable pub over : (ℕ → Option ℕ) → Option (List ℕ) → Option (List ℕ)
@@ -87,6 +91,10 @@ module _ (M : Mesh) where
   unfoldable pub isHalfEdge : ℕ → Bool
   isHalfEdge c = either (isSide (M .list) c) (isBorderCode c)
 
+  -- document 02, point 2: "A V2e entry of 0 is no longer a broken table", but that of an unused vertex
+  unfoldable pub isEntry : ℕ → Bool
+  isEntry c = either (eqb c 0) (isHalfEdge c)
+
   unfoldable pub isVertex : ℕ → Bool
   isVertex v = within 1 (M .n) v
 
@@ -97,7 +105,7 @@ module _ (M : Mesh) where
   readBorderSide c = read (isSide (M .list)) (at (M .border) (element c - 1))
 
   unfoldable pub readVertexEntry : ℕ → Option ℕ
-  readVertexEntry v = read isHalfEdge (at (M .vertices) (v - 1))
+  readVertexEntry v = read isEntry (at (M .vertices) (v - 1))
 
   unfoldable pub readOrigin : ℕ → Option ℕ
   readOrigin s = read isVertex (origin (M .list) s)
@@ -145,13 +153,15 @@ module _ (M : Mesh) where
   unfoldable pub halfEdgeBorderAnswer : ℕ → Answer
   halfEdgeBorderAnswer c = asked M (defined (isHalfEdge c) (gives (bySide c 0 1) 0))
 
+  -- document 02, point 2: "the vertex border test now says inner, rim or unused": 0, 1 or 2
   unfoldable pub vertexBorderAnswer : ℕ → Answer
-  vertexBorderAnswer v = asked M (defined (isVertex v) (found (andThen (readVertexEntry v) (λ c. some (bySide c 0 1)))))
+  vertexBorderAnswer v = asked M (defined (isVertex v) (found (andThen (readVertexEntry v) (λ c. some (byEntry c 2 0 1)))))
 
-  -- "Ring of v: start with V2e of v, or for a border with the side following its B2e side"
+  -- "Ring of v: start with V2e of v, or for a border with the side following its B2e side"; 0 for an unused vertex
   unfoldable pub startSide : ℕ → Option ℕ
   startSide v =
-      andThen (readVertexEntry v) (λ c. bySide c (some c) (andThen (readBorderSide c) (λ s. some (next (M .list) s))))
+      andThen (readVertexEntry v)
+      (λ c. byEntry c (some 0) (some c) (andThen (readBorderSide c) (λ s. some (next (M .list) s))))
 
   -- "go to the turn by E2e, stop at a border or on return to the start": the side after s; 0 where the ring stops
   unfoldable pub onward : ℕ → ℕ → Option ℕ
@@ -160,7 +170,7 @@ module _ (M : Mesh) where
       (λ t.
       bySide t (elim (eqb (next (M .list) t) start) [ true ↦ some 0 | false ↦ some (next (M .list) t) ]) (some 0))
 
-  -- the sides of the ring of v
+  -- the sides of the ring of v; document 02, point 2, of an unused vertex: "ring and neighbours are empty"
   unfoldable pub ringSides : ℕ → Option (List ℕ)
   ringSides v = andThen (startSide v) (λ s. follow (onward s) (elements (M .list)) s)
 
@@ -173,7 +183,7 @@ module _ (M : Mesh) where
   neighbours v =
       let ends = over readDestination (ringSides v) in
       andThen (readVertexEntry v)
-      (λ c. bySide c ends (andThen (readBorderSide c) (λ s. andThen (readOrigin s) (λ u. prepend u ends))))
+      (λ c. byEntry c (some []) ends (andThen (readBorderSide c) (λ s. andThen (readOrigin s) (λ u. prepend u ends))))
 
   -- "Border loop of b: b and then next, and next, until b returns; when k are listed and b hasn't come, 12", "as border numbers"
   unfoldable pub loopNext : ℕ → ℕ → Option ℕ
@@ -222,7 +232,8 @@ walked (gives a b) new old = record { answer = gives a b; walker = new }
 walked (refused r a b) new old = record { answer = refused r a b; walker = old }
 
 module _ (M : Mesh) where
-  -- "Starting at v gives that start side twice and 0, or the refusal that finding it meets"
+  -- "Starting at v gives that start side twice and 0, or the refusal that finding it meets"; document 02, point 2, at an unused vertex: "a
+  -- walker there gives 0"
   unfoldable pub started : Option ℕ → Walker → Walker
   started (some s) w = record { start = s; following = s; handed = 0 }
   started none w = w

@@ -27,7 +27,8 @@ unfoldable pub sideOfBorder : List ℕ → ℕ → ℕ
 sideOfBorder E2e c =
     elim (within 1 (length E2e) (element c)) [ true ↦ firstSide E2e (λ t. eqb (at E2e (e2eSlot t)) c) | false ↦ 0 ]
 
--- the side where the walk about a vertex begins: its V2e entry, or for a border the side following the one with this border
+-- the side where the walk about a vertex begins: its V2e entry, or for a border the side following the one with this border; 0, no walk,
+-- where there is none, so for the entry 0 of an unused vertex
 unfoldable pub walkStart : List ℕ → ℕ → ℕ
 walkStart E2e c =
     elim (eqb (number c) 0)

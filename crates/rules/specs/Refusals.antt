@@ -17,9 +17,7 @@ pub data Answer : Type 0 where
   gives : ℕ → ℕ → Answer
   refused : ℕ → ℕ → ℕ → Answer
 
--- 5: "vertex with no side"; "least vertex"
-unfoldable pub unusedVertex : ℕ → List ℕ → ℕ
-unusedVertex n L = firstVertex n (λ v. eqb (firstSide L (λ s. eqb (origin L s) v)) 0)
+-- 5: document 02, point 2: "Refusal 5 no longer occurs"
 
 -- 6: "three or more sides join the same two vertices"; "least such side"
 unfoldable pub crowdedSide : List ℕ → ℕ
@@ -49,20 +47,18 @@ unfoldable pub listAnswer : ℕ → List ℕ → Answer
 listAnswer n L =
     sideCheck 3 (unfitCorner n L)
     (sideCheck 4 (repeatedCorner L)
-    (vertexCheck 5 (unusedVertex n L)
     (sideCheck 6 (crowdedSide L)
     (sideCheck 7 (alikeSide L)
     (vertexCheck 8 (unorderedVertex n L)
-    (gives (borders L) (edges L)))))))
+    (gives (borders L) (edges L))))))
 
 -- an accepted list, as a test
 unfoldable pub accepts : ℕ → List ℕ → Bool
 accepts n L =
     both (rowsFit n L)
-    (both (eqb (unusedVertex n L) 0)
     (both (eqb (crowdedSide L) 0)
     (both (eqb (alikeSide L) 0)
-    (eqb (unorderedVertex n L) 0))))
+    (eqb (unorderedVertex n L) 0)))
 
 -- the buffers of build
 pub record Buffers : Type 0 where

@@ -16,9 +16,9 @@ use Rattle.rules.specs.Elements.{maxVertex, maxElement, elements, element, numb
 use Rattle.rules.specs.Elements.{firstVertex}
 use Rattle.rules.specs.Pairing.{sizesFit, unfitCorner, repeatedCorner}
 use Rattle.rules.specs.Tables.{borders, edges}
-use Rattle.rules.specs.Refusals.{Answer, gives, refused, Buffers, unusedVertex, crowdedSide, alikeSide, unorderedVertex, sideCheck, vertexCheck}
+use Rattle.rules.specs.Refusals.{Answer, gives, refused, Buffers, crowdedSide, alikeSide, unorderedVertex, sideCheck, vertexCheck}
 use Rattle.rules.specs.Refusals.{listAnswer, callSizes, lengthChecks, roomCheck, buildAnswer, recovers, recoverAnswer}
-use Rattle.rules.specs.Queries.{Mesh, asked, defined, found, listed, andThen, prepend, readAll, read, bySide, follow, over, isBorderCode, isHalfEdge}
+use Rattle.rules.specs.Queries.{Mesh, asked, defined, found, listed, andThen, prepend, readAll, read, bySide, byEntry, follow, over, isBorderCode, isHalfEdge, isEntry}
 use Rattle.rules.specs.Queries.{isVertex, readOpposite, readBorderSide, readVertexEntry, readOrigin, readDestination, opposite, borderNext, startSide}
 use Rattle.rules.specs.Queries.{onward, ringSides, ring, neighbours, loopNext, borderLoop, listedAnswer, oppositeAnswer, nextAnswer, previousAnswer}
 use Rattle.rules.specs.Queries.{elementAnswer, originAnswer, destinationAnswer, acrossAnswer, halfEdgeBorderAnswer, vertexBorderAnswer, ringAnswer}
@@ -99,14 +99,13 @@ module _ (n : ℕ) (L : List ℕ) (z : Sized n L) where
   )
 
   list-fits : Fits (listAnswer n L)
-  unfolding listAnswer unfitCorner repeatedCorner unusedVertex crowdedSide alikeSide unorderedVertex
+  unfolding listAnswer unfitCorner repeatedCorner crowdedSide alikeSide unorderedVertex
   list-fits =
       side-fits 3 _ _ (omega arith) (omega arith) (side _)
       (side-fits 4 _ _ (omega arith) (omega arith) (side _)
-      (vertex-fits 5 _ _ (omega arith) (omega arith) (vertex _)
       (side-fits 6 _ _ (omega arith) (omega arith) (side _)
       (side-fits 7 _ _ (omega arith) (omega arith) (side _)
-      (vertex-fits 8 _ _ (omega arith) (omega arith) (vertex _) counts-fit)))))
+      (vertex-fits 8 _ _ (omega arith) (omega arith) (vertex _) counts-fit))))
 
 pub build-fits : (n : ℕ) (L : List ℕ) (w : Buffers) → Fits (buildAnswer n L w)
 unfolding buildAnswer
@@ -174,12 +173,17 @@ prepend-short j x (some xs) h = omega arith
 
 follow-short : (step : ℕ → Option ℕ) (j x : ℕ) → Short j (follow step j x)
 unfolding follow
-follow-short step zero x = tt
-follow-short step (suc j) x = then-short (suc j) (step x) _ (λ y. go y (follow-short step j y) (test (eqb y 0)))
+follow-short step zero x = go (eqb x 0)
   where
-    go : (y : ℕ) → Short j (follow step j y) → Test (eqb y 0) → Short (suc j) (elim (eqb y 0) [ true ↦ some (x ∷ []) | false ↦ prepend x (follow step j y) ])
-    go y h (pass t e) = rw e (omega arith)
-    go y h (fail t e) = rw e (prepend-short j x (follow step j y) h)
+    go : (b : Bool) → Short 0 (elim b as (λ _. Option (List ℕ)) [ true ↦ some [] | false ↦ none ])
+    go true = omega arith
+    go false = tt
+follow-short step (suc j) x = go (eqb x 0) (λ y. follow-short step j y)
+  where
+    go : (b : Bool) → ((y : ℕ) → Short j (follow step j y)) →
+        Short (suc j) (elim b as (λ _. Option (List ℕ)) [ true ↦ some [] | false ↦ andThen (step x) (λ y. prepend x (follow step j y)) ])
+    go true h = omega arith
+    go false h = then-short (suc j) (step x) _ (λ y. prepend-short j x (follow step j y) (h y))
 
 all-short : (f : ℕ → Option ℕ) (xs : List ℕ) → Short (length xs) (readAll f xs)
 unfolding readAll
@@ -235,6 +239,14 @@ module _ (M : Mesh) where
         go : Side (M .list) c ⊎ T (isBorderCode M c) → c < 200_000_000
         go (inl a) = omega (arith, side-facts (M .list) c a, k .size)
         go (inr u) = border-small c u
+
+    entry-small : (c : ℕ) → T (isEntry M c) → c < 200_000_000
+    unfolding isEntry
+    entry-small c t = go (means-either (means-eq c 0) (means-itself (isHalfEdge M c)) .says t)
+      where
+        go : (c ≡ 0) ⊎ T (isHalfEdge M c) → c < 200_000_000
+        go (inl z) = omega arith
+        go (inr u) = half-small c u
 
     side-code : (c : ℕ) → Side (M .list) c → c < 200_000_000
     side-code c a = omega (arith, side-facts (M .list) c a, k .size)
@@ -351,8 +363,11 @@ module _ (M : Mesh) where
   vertex-border-fits v =
       one-fits (isVertex M v) _
       (λ k t.
-      then-small (readVertexEntry M v) _ (read-small (isHalfEdge M) _ (half-small k _))
-      (λ c h. kind-small c 0 1 (omega arith) (omega arith)))
+      then-small (readVertexEntry M v) _ (read-small (isEntry M) _ (entry-small k _)) (λ c h. go c (test (eqb c 0))))
+    where
+      go : (c : ℕ) → Test (eqb c 0) → byEntry c 2 0 1 < 200_000_000
+      go c (pass t e) = rw (e, byEntry) (omega arith)
+      go c (fail t e) = rw (e, byEntry) (kind-small c 0 1 (omega arith) (omega arith))
 
   sides-short : (v : ℕ) → Short (elements (M .list)) (ringSides M v)
   unfolding ringSides
@@ -371,7 +386,7 @@ module _ (M : Mesh) where
       let ends = over (readDestination M) (ringSides M v) in
       let short = over-short j (readDestination M) (ringSides M v) (sides-short v) in
       lists-fit (isVertex M v) (suc j) _ out (λ k. omega (arith, k .size))
-      (then-short (suc j) (readVertexEntry M v) _ (λ c. by-kind c (test (eqb (number c) 0)) ends short))
+      (then-short (suc j) (readVertexEntry M v) _ (λ c. by-entry c (test (eqb c 0)) ends short))
     where
       by-kind : (c : ℕ) → Test (eqb (number c) 0) → (ends : Option (List ℕ)) → Short (elements (M .list)) ends
           → Short (suc (elements (M .list))) (bySide c ends (andThen (readBorderSide M c) (λ s. andThen (readOrigin M s) (λ u. prepend u ends))))
@@ -380,6 +395,11 @@ module _ (M : Mesh) where
           (then-short _ (readBorderSide M c) _ (λ s. then-short _ (readOrigin M s) _ (λ u. prepend-short _ u ends h)))
       by-kind c (fail t e) none h = rw (e, bySide) tt
       by-kind c (fail t e) (some xs) h = rw (e, bySide) (omega arith)
+
+      by-entry : (c : ℕ) → Test (eqb c 0) → (ends : Option (List ℕ)) → Short (elements (M .list)) ends
+          → Short (suc (elements (M .list))) (byEntry c (some []) ends (andThen (readBorderSide M c) (λ s. andThen (readOrigin M s) (λ u. prepend u ends))))
+      by-entry c (pass t e) ends h = rw (e, byEntry) (omega arith)
+      by-entry c (fail t e) ends h = rw (e, byEntry) (by-kind c (test (eqb (number c) 0)) ends h)
 
   pub border-loop-fits : (b : ℕ) (out : List ℕ) → Fits (borderLoopAnswer M b out)
   unfolding borderLoopAnswer borderLoop

@@ -4,24 +4,28 @@
 -- one entry. Whatever element list is handed to building, when lengths and rows are fit, building gives one of the refusals 5 to 8 exactly
 -- when no pairing of its sides with a turn order about every vertex exists; where one exists, it refuses only a B2e shorter than k. Whatever
 -- entries V2e and E2e hold, when lengths are fit, recovery gives 10 exactly when no accepted list has these tables, and otherwise writes an
--- accepted list that has exactly these tables."
+-- accepted list that has exactly these tables." Of the refusals 5 to 8, "Refusal 5 no longer occurs" (document 02, point 2): 6 to 8 remain.
 -- Assumes nothing.
-use mathlib.Core.Path.{_≡_, ap, sym, subst, _∙_}
+use mathlib.Core.Path.{_≡_, refl, ap, sym, subst, _∙_}
 use mathlib.Core.Bool.{Bool, true, false}
 use mathlib.Core.Logic.{_↔_}
 use mathlib.Core.List.{List}
-use Prim.Native.Nat.{ℕ, _≤_}
+use Prim.Native.Nat.{ℕ, _-_, _≤_}
 use native.Mathlib.Omega.{arith}
 use lib.Dec.{T, T-not}
 use lib.ListN.{length}
 use Rattle.lists.specs.TestLaws.{Test, pass, fail, test, true-of}
+use Rattle.lists.specs.Search.{at}
+use Rattle.rules.specs.Elements.{element}
 use Rattle.rules.specs.Pairing.{Ordered, Accepted, sizesFit, rowsFit}
 use Rattle.rules.specs.Tables.{borders, edges, e2e, v2e}
 use Rattle.rules.specs.Recovery.{HasTables, walk}
 use Rattle.rules.specs.Refusals.{Answer, gives, refused, Buffers, callSizes, callLengths, roomCheck, listAnswer, after, buildAnswer, buildLeaves}
 use Rattle.rules.specs.Refusals.{recovers, recoverAnswer}
 use Rattle.theory.specs.Deciding.{means-accepted}
-use Rattle.theory.specs.Answers.{past-lengths, past-room, Late, ordered-answer, build-late, build-ordered}
+use Rattle.theory.specs.Answers.{past-lengths, past-room, Late, Never, ordered-answer, build-late, build-ordered, build-never-five}
+use Rattle.theory.specs.Described.{described}
+use Rattle.theory.specs.Rings.{About}
 use Rattle.theory.specs.Recovering.{tables-equal, means-recovers, means-some-list, recover-gives, recover-none}
 use Rattle.build.specs.Building.{sizes-known}
 use Rattle.recover.specs.Recovering.{counts-accepted}
@@ -71,11 +75,15 @@ different-lists-different-tables n n′ L L′ w u w′ u′ a b k e k′ e′ x
     (rw (p, q) at (writes-tables n L w a w′ k e x g))
     (writes-tables n′ L′ u b u′ k′ e′ y h)
 
+-- no run of build answers 5
+pub never-five : (n : ℕ) (L : List ℕ) (w w′ : Buffers) (a : Answer) → BuildRun n L w a w′ → Never 5 a
+never-five n L w w′ a run p q e = build-never-five n L w p q (sym (run .answer) ∙ e)
+
 -- (b) with fit lengths and rows
 module _ (n : ℕ) (L : List ℕ) (w w′ : Buffers) (a : Answer) (run : BuildRun n L w a w′)
     (sizes : T (callSizes n L (w .opposites))) (lengths : T (callLengths n L (w .opposites) (w .vertices) (w .work))) (rows : T (rowsFit n L)) where
-  pub five-to-eight : Late a ↔ (((π : ℕ → ℕ) × Ordered n L π) → ⊥)
-  five-to-eight =
+  pub six-to-eight : Late a ↔ (((π : ℕ → ℕ) × Ordered n L π) → ⊥)
+  six-to-eight =
       let x = build-late n L rows w sizes lengths in
       ((λ l. x .0 (subst Late (run .answer) l)), (λ f. subst Late (sym (run .answer)) (x .1 f)))
 
@@ -97,6 +105,14 @@ module _ (n : ℕ) (V2e E2e list work : List ℕ) (a : Answer) (list′ work′ 
       gave : (p q : ℕ) (found : Bool) → elim found [ true ↦ gives 0 0 | false ↦ refused 10 0 0 ] ≡ gives p q → T found
       gave p q true e = tt
       gave p q false e = let z : _≡_ {A = ℕ} 0 1 = cc in absurd (omega arith)
+
+  -- in that list a vertex is unused exactly where its entry is 0: a 0 for a vertex with sides, and anything else for one without, is 10
+  pub unused-where-zero : (p q : ℕ) → a ≡ gives p q → (v : ℕ) → 1 ≤ v → v ≤ n → (at V2e (v - 1) ≡ 0) ↔ ((f : ℕ) → About list′ v f → ⊥)
+  unused-where-zero p q g v from to =
+      let h = answered p q g .1 in
+      let e : at (v2e n list′) (v - 1) ≡ at V2e (v - 1) = ap (λ (X : List ℕ). at X (v - 1)) (h .vertices) in
+      let (zero, none) = described n list′ (h .accepted) .unused-entry v from to in
+      ((λ z f (s, b, w). zero (e ∙ z) s b), (λ f. sym e ∙ none (λ s b. f (element s) (s, b, refl))))
 
   -- with fit lengths it gives 10 exactly when there is none, and otherwise answers
   module _ (sizes : T (callSizes n E2e list)) (lengths : T (callLengths n E2e list V2e work)) where

@@ -10,7 +10,7 @@ use mathlib.Core.Bool.{Bool, true, false}
 use mathlib.Core.Logic.{_⊎_, inl, inr}
 use mathlib.Core.Option.{Option, some}
 use mathlib.Core.List.{List, _++_}
-use Prim.Native.Nat.{ℕ, zero, suc, _≤_, _<_}
+use Prim.Native.Nat.{ℕ, zero, suc, _-_, _≤_, _<_}
 use native.Mathlib.Omega.{arith}
 use lib.Dec.{T, leb}
 use lib.ListN.{length, take, drop}
@@ -24,15 +24,17 @@ use Rattle.rules.specs.Tables.{b2e, e2e, v2e}
 use Rattle.rules.specs.Refusals.{Answer, gives, refused, Buffers, callSizes, callLengths, after, onto, workAfter, buildLeaves}
 use Rattle.rules.specs.Queries.{Mesh, asked, defined, found, listed, listLeaves, listedAnswer, bySide, isHalfEdge, isVertex, opposite, borderNext, ring}
 use Rattle.rules.specs.Queries.{neighbours, borderLoop, Walker, started, startSide, walkerStart, walkerStep, oppositeAnswer, nextAnswer, previousAnswer}
-use Rattle.rules.specs.Queries.{ringAnswer}
+use Rattle.rules.specs.Queries.{vertexBorderAnswer, ringAnswer}
 use Rattle.rules.specs.Queries.{ringLeaves, neighboursAnswer, neighboursLeaves, borderLoopAnswer, borderLoopLeaves, startAnswer}
 use Rattle.theory.specs.Steps.{FirstBack, next-side, previous-side, previous-next, next-previous, next-back}
 use Rattle.theory.specs.Entries.{length-b2e}
 use Rattle.theory.specs.Built.{built, by-side}
-use Rattle.theory.specs.Rings.{ListsOnce}
+use Rattle.theory.specs.Described.{described}
+use Rattle.theory.specs.Rings.{About, ListsOnce}
 use Rattle.theory.specs.Loops.{LoopOf}
 use Rattle.theory.specs.Neighbours.{ListsJoined}
 use Rattle.theory.specs.Walkers.{stepped}
+use Rattle.theory.specs.Vertices.{Tells}
 use Rattle.theory.specs.Sound.{Sound}
 use Rattle.theory.specs.Served.{Served, served}
 use Rattle.runs.specs.Runs.{RingRun, NeighboursRun, BorderLoopRun, StartRun, StepRun, LeftBy, walked-answers}
@@ -55,6 +57,43 @@ pub record Handed (es : List ℕ) (a : Answer) (ws : ℕ → Walker) (given : �
   pub hands : (i : ℕ) → i < length es → given i ≡ gives (at es i) 0
   pub over : (i : ℕ) → length es ≤ i → given i ≡ gives 0 0
   pub rests : (i : ℕ) → length es ≤ i → ws (suc i) ≡ ws i
+
+-- where checks 1 and 2 pass
+module _ (M : Mesh) (checks : (a : Answer) → asked M a ≡ a) where
+  -- an answer that passes the checks
+  pub passed : (there : Bool) (a : Answer) → T there → asked M (defined there a) ≡ a
+  unfolding defined
+  passed there a t = checks (defined there a) ∙ (rw (true-of there t, defined) refl)
+
+  pub written : (there : Bool) (r : Option (List ℕ)) (xs out : List ℕ) (a : Answer) (out′ : List ℕ) → T there → r ≡ some xs
+      → a ≡ listedAnswer M there r out → out′ ≡ listLeaves (listedAnswer M there r out) r out → Written xs out a out′
+  unfolding listedAnswer listed listLeaves after onto
+  written there r xs out a out′ t e f g = record { fits = fits; short = short }
+    where
+      plain : listedAnswer M there r out ≡ listed (length out) (some xs)
+      plain = passed there (listed (length out) r) t ∙ ap (listed (length out)) e
+
+      left : (p : Answer) → listedAnswer M there r out ≡ p → out′ ≡ listLeaves p (some xs) out
+      left p q = g ∙ ap (λ (y : Answer). listLeaves y r out) q ∙ ap (λ (y : Option (List ℕ)). listLeaves p y out) e
+
+      fits : length xs ≤ length out → (a ≡ gives (length xs) 0) × (out′ ≡ xs ++ drop (length xs) out)
+      fits h =
+          let c : leb (length xs) (length out) ≡ true = true-of (leb (length xs) (length out)) (means-le (length xs) (length out) .shows h) in
+          let q : listedAnswer M there r out ≡ gives (length xs) 0 = plain ∙ (rw (c, listed) refl) in
+          (f ∙ q, left (gives (length xs) 0) q)
+
+      short : length out < length xs → (a ≡ refused 13 (length xs) 0) × (out′ ≡ out)
+      short h =
+          let no = means-not (means-le (length xs) (length out)) .shows (λ k. omega arith) in
+          let c : leb (length xs) (length out) ≡ false = false-of (leb (length xs) (length out)) no in
+          let q : listedAnswer M there r out ≡ refused 13 (length xs) 0 = plain ∙ (rw (c, listed) refl) in
+          (f ∙ q, left (refused 13 (length xs) 0) q)
+
+-- checks 1 and 2 pass, and the V2e entry of the vertex v is 0; whatever else the tables hold
+pub record Unused (M : Mesh) (v : ℕ) : Type 0 where
+  pub checks : (a : Answer) → asked M a ≡ a
+  pub there : T (isVertex M v)
+  pub entry : at (M .vertices) (v - 1) ≡ 0
 
 gives-sound : (p q : ℕ) → Sound (gives p q)
 gives-sound p q x y e = let z : _≡_ {A = ℕ} 0 1 = cc in omega arith
@@ -95,42 +134,13 @@ module _ (n : ℕ) (L : List ℕ) (M : Mesh) (x : LeftBy n L M) where
   on : Served n L M
   on = subst (Served n L) (sym left-built) (served n L left-accepted)
 
-  -- an answer that passes the checks
-  passed : (there : Bool) (a : Answer) → T there → asked M (defined there a) ≡ a
-  unfolding defined
-  passed there a t = on .checks (defined there a) ∙ (rw (true-of there t, defined) refl)
-
-  written : (there : Bool) (r : Option (List ℕ)) (xs out : List ℕ) (a : Answer) (out′ : List ℕ) → T there → r ≡ some xs
-      → a ≡ listedAnswer M there r out → out′ ≡ listLeaves (listedAnswer M there r out) r out → Written xs out a out′
-  unfolding listedAnswer listed listLeaves after onto
-  written there r xs out a out′ t e f g = record { fits = fits; short = short }
-    where
-      plain : listedAnswer M there r out ≡ listed (length out) (some xs)
-      plain = passed there (listed (length out) r) t ∙ ap (listed (length out)) e
-
-      left : (p : Answer) → listedAnswer M there r out ≡ p → out′ ≡ listLeaves p (some xs) out
-      left p q = g ∙ ap (λ (y : Answer). listLeaves y r out) q ∙ ap (λ (y : Option (List ℕ)). listLeaves p y out) e
-
-      fits : length xs ≤ length out → (a ≡ gives (length xs) 0) × (out′ ≡ xs ++ drop (length xs) out)
-      fits h =
-          let c : leb (length xs) (length out) ≡ true = true-of (leb (length xs) (length out)) (means-le (length xs) (length out) .shows h) in
-          let q : listedAnswer M there r out ≡ gives (length xs) 0 = plain ∙ (rw (c, listed) refl) in
-          (f ∙ q, left (gives (length xs) 0) q)
-
-      short : length out < length xs → (a ≡ refused 13 (length xs) 0) × (out′ ≡ out)
-      short h =
-          let no = means-not (means-le (length xs) (length out)) .shows (λ k. omega arith) in
-          let c : leb (length xs) (length out) ≡ false = false-of (leb (length xs) (length out)) no in
-          let q : listedAnswer M there r out ≡ refused 13 (length xs) 0 = plain ∙ (rw (c, listed) refl) in
-          (f ∙ q, left (refused 13 (length xs) 0) q)
-
   -- ring lists every element at v exactly once
   pub ring-on-built : (v : ℕ) (out : List ℕ) (a : Answer) (out′ : List ℕ) → RingRun M v out a out′ → 1 ≤ v → v ≤ n
       → (es : List ℕ) × (ring M v ≡ some es) × ListsOnce L v es × Written es out a out′
   unfolding ringAnswer ringLeaves
   ring-on-built v out a out′ run h k =
       let (es, e, l) = on .rings v h k in
-      (es, e, l, written (isVertex M v) (ring M v) es out a out′ (on .vertices v .shows (h, k)) e (run .answer) (run .leaves))
+      (es, e, l, written M (on .checks) (isVertex M v) (ring M v) es out a out′ (on .vertices v .shows (h, k)) e (run .answer) (run .leaves))
 
   -- neighbours lists the vertices joined to v, each once
   pub neighbours-on-built : (v : ℕ) (out : List ℕ) (a : Answer) (out′ : List ℕ) → NeighboursRun M v out a out′ → 1 ≤ v → v ≤ n
@@ -138,7 +148,7 @@ module _ (n : ℕ) (L : List ℕ) (M : Mesh) (x : LeftBy n L M) where
   unfolding neighboursAnswer neighboursLeaves
   neighbours-on-built v out a out′ run h k =
       let (us, e, l) = on .joined v h k in
-      (us, e, l, written (isVertex M v) (neighbours M v) us out a out′ (on .vertices v .shows (h, k)) e (run .answer) (run .leaves))
+      (us, e, l, written M (on .checks) (isVertex M v) (neighbours M v) us out a out′ (on .vertices v .shows (h, k)) e (run .answer) (run .leaves))
 
   -- a border loop lists b and on, at most k borders and none twice
   pub border-loop-on-built : (b : ℕ) (out : List ℕ) (a : Answer) (out′ : List ℕ) → BorderLoopRun M b out a out′ → 1 ≤ b → b ≤ x .k
@@ -147,7 +157,7 @@ module _ (n : ℕ) (L : List ℕ) (M : Mesh) (x : LeftBy n L M) where
   border-loop-on-built b out a out′ run h k =
       let (bs, e, l) = on .loops b (h, omega (arith, k, counts .borders-are)) in
       let there = means-within 1 (length (M .border)) b .shows (h, omega (arith, on .number, counts .borders-are)) in
-      (bs, e, l, written (within 1 (length (M .border)) b) (borderLoop M b) bs out a out′ there e (run .answer) (run .leaves))
+      (bs, e, l, written M (on .checks) (within 1 (length (M .border)) b) (borderLoop M b) bs out a out′ there e (run .answer) (run .leaves))
 
   start-answers : (v : ℕ) (w : Walker) → walkerStart M v w .answer ≡ startAnswer M v
   unfolding walkerStart
@@ -174,14 +184,14 @@ module _ (n : ℕ) (L : List ℕ) (M : Mesh) (x : LeftBy n L M) where
   unfolding nextAnswer found
   nexts s d =
       let here = some (next (M .list) s) in
-      passed (isHalfEdge M s) (found (bySide s here (borderNext M s))) (on .reads .half-edges s .shows (inl d))
+      passed M (on .checks) (isHalfEdge M s) (found (bySide s here (borderNext M s))) (on .reads .half-edges s .shows (inl d))
       ∙ ap found (by-side L s here (borderNext M s) d)
       ∙ ap (λ (X : List ℕ). gives (next X s) 0) (on .list)
 
   previouses : (s : ℕ) → Side L s → previousAnswer M s ≡ gives (previous L s) 0
   unfolding previousAnswer
   previouses s d =
-      passed (isSide (M .list) s) (gives (previous (M .list) s) 0) (subst (λ (X : List ℕ). Side X s) (sym (on .list)) d)
+      passed M (on .checks) (isSide (M .list) s) (gives (previous (M .list) s) 0) (subst (λ (X : List ℕ). Side X s) (sym (on .list)) d)
       ∙ ap (λ (X : List ℕ). gives (previous X s) 0) (on .list)
 
   -- opposite of a half-edge answers a half-edge, whose opposite is the first
@@ -191,8 +201,8 @@ module _ (n : ℕ) (L : List ℕ) (M : Mesh) (x : LeftBy n L M) where
   opposite-undoes c a t e =
       let (d, u, f, g) = on .undone c t in (
         d,
-        e ∙ passed (isHalfEdge M c) (found (opposite M c)) t ∙ ap found f,
-        λ b h. h ∙ passed (isHalfEdge M d) (found (opposite M d)) u ∙ ap found g,
+        e ∙ passed M (on .checks) (isHalfEdge M c) (found (opposite M c)) t ∙ ap found f,
+        λ b h. h ∙ passed M (on .checks) (isHalfEdge M d) (found (opposite M d)) u ∙ ap found g,
       )
 
   -- of a side, previous of next and next of previous are the side
@@ -212,6 +222,21 @@ module _ (n : ℕ) (L : List ℕ) (M : Mesh) (x : LeftBy n L M) where
   pub next-comes-back : (s : ℕ) (cs : ℕ → ℕ) → Side L s → cs 0 ≡ s → ((j : ℕ) → gives (cs (suc j)) 0 ≡ nextAnswer M (cs j))
       → FirstBack s (sides L (element s)) cs
   next-comes-back s cs d b runs = next-back L s cs d b (λ j t. cc (runs j, nexts (cs j) t))
+
+  -- the border test of a vertex says unused exactly where no element has it, rim where a border side ends, inner elsewhere
+  pub vertex-told : (v : ℕ) (a : Answer) → a ≡ vertexBorderAnswer M v → 1 ≤ v → v ≤ n → Tells L v a
+  vertex-told v a e h k = subst (Tells L v) (sym e) (on .tells v h k)
+
+  -- an unused vertex has V2e entry 0: what `Unused` says of it holds
+  pub spare-entry : (v : ℕ) → 1 ≤ v → v ≤ n → ((f : ℕ) → About L v f → ⊥) → Unused M v
+  spare-entry v h k none =
+      record {
+        checks = on .checks;
+        there = on .vertices v .shows (h, k);
+        entry =
+            ap (λ (N : Mesh). at (N .vertices) (v - 1)) left-built
+            ∙ described n L left-accepted .unused-entry v h k .1 (λ s a. none (element s) (s, a, refl));
+      }
 
   -- a walker hands out the ring in order, and then 0 with the record unchanged
   pub walk-on-built : (v : ℕ) (w : Walker) (a : Answer) (ws : ℕ → Walker) (given : ℕ → Answer) → Walk M v w a ws given → 1 ≤ v → v ≤ n

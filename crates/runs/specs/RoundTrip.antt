@@ -11,16 +11,15 @@ use lib.Dec.{T}
 use lib.ListN.{length}
 use Rattle.lists.specs.TestLaws.{means-both, means-eq, means-le, zero-or}
 use Rattle.rules.specs.Elements.{elements}
-use Rattle.rules.specs.Pairing.{sizesFit, unfitCorner, repeatedCorner}
+use Rattle.rules.specs.Pairing.{sizesFit}
 use Rattle.rules.specs.Recovery.{HasTables}
-use Rattle.rules.specs.Refusals.{Answer, gives, refused, Buffers, callSizes, callLengths, lengthChecks, roomCheck, sideCheck, vertexCheck}
-use Rattle.rules.specs.Refusals.{unusedVertex, crowdedSide, alikeSide, unorderedVertex, listAnswer, buildAnswer}
+use Rattle.rules.specs.Refusals.{Answer, gives, refused, Buffers, callSizes, callLengths, lengthChecks, roomCheck, listAnswer, buildAnswer}
 use Rattle.theory.specs.FitRows.{Fit, means-sizes}
 use Rattle.theory.specs.Entries.{length-e2e, length-v2e}
 use Rattle.theory.specs.Turns.{elements-e2e}
 use Rattle.theory.specs.Orders.{good}
 use Rattle.theory.specs.Rims.{borders-few}
-use Rattle.theory.specs.Answers.{side-clear, side-refuses, vertex-clear, vertex-refuses, room-enough}
+use Rattle.theory.specs.Answers.{room-enough, list-never}
 use Rattle.theory.specs.Recovering.{tables-equal, recover-gives}
 use Rattle.build.specs.Building.{sizes-known}
 use Rattle.runs.specs.Runs.{BuildRun, RecoverRun}
@@ -80,33 +79,6 @@ builds-back n V2e E2e list work list′ work′ b p q run g w w′ a k e built c
     let t = writes-tables n list′ w a w′ k e built counts in
     (sym (t .vertices) ∙ h .vertices, sym (t .opposites) ∙ h .opposites)
 
--- checks 3 to 8 don't give 9
-side-past : (r s p q : ℕ) (rest : Answer) → (r ≡ 9 → ⊥) → sideCheck r s rest ≡ refused 9 p q → rest ≡ refused 9 p q
-side-past r s p q rest d g = go (zero-or s)
-  where
-    go : (s ≡ 0) ⊎ (s ≡ 0 → ⊥) → rest ≡ refused 9 p q
-    go (inl z) = sym (side-clear r s rest z) ∙ g
-    go (inr z) = let f = sym (side-refuses r s rest z) ∙ g in let i : r ≡ 9 = cc in absurd (d i)
-
-vertex-past : (r v p q : ℕ) (rest : Answer) → (r ≡ 9 → ⊥) → vertexCheck r v rest ≡ refused 9 p q → rest ≡ refused 9 p q
-vertex-past r v p q rest d g = go (zero-or v)
-  where
-    go : (v ≡ 0) ⊎ (v ≡ 0 → ⊥) → rest ≡ refused 9 p q
-    go (inl z) = sym (vertex-clear r v rest z) ∙ g
-    go (inr z) = let f = sym (vertex-refuses r v rest z) ∙ g in let i : r ≡ 9 = cc in absurd (d i)
-
-no-nine : (n : ℕ) (L : List ℕ) (p q : ℕ) → listAnswer n L ≡ refused 9 p q → ⊥
-unfolding listAnswer
-no-nine n L p q g =
-    let g₃ = side-past 3 (unfitCorner n L) p q _ (λ z. omega arith) g in
-    let g₄ = side-past 4 (repeatedCorner L) p q _ (λ z. omega arith) g₃ in
-    let g₅ = vertex-past 5 (unusedVertex n L) p q _ (λ z. omega arith) g₄ in
-    let g₆ = side-past 6 (crowdedSide L) p q _ (λ z. omega arith) g₅ in
-    let g₇ = side-past 7 (alikeSide L) p q _ (λ z. omega arith) g₆ in
-    let g₈ = vertex-past 8 (unorderedVertex n L) p q _ (λ z. omega arith) g₇ in
-    let z : _≡_ {A = ℕ} 0 1 = cc in
-    omega arith
-
 module _ (n : ℕ) (L : List ℕ) (w w′ : Buffers) (a : Answer) (run : BuildRun n L w a w′) where
   -- k is at most n
   pub few-borders : (k e : ℕ) → a ≡ gives k e → k ≤ n
@@ -114,13 +86,13 @@ module _ (n : ℕ) (L : List ℕ) (w w′ : Buffers) (a : Answer) (run : BuildRu
       let c = counted n L w k e (sym (run .answer) ∙ g) in
       omega (arith, c .borders-are, borders-few n L (good n L (c .accepted)))
 
-  -- so n entries of B2e are always enough: with them no list whatever is refused by 9
+  -- so n entries of B2e are always enough, with spare vertices too, since border sides end at different vertices: with them no list whatever is refused by 9
   pub never-nine : n ≤ length (w .border) → (p q : ℕ) → a ≡ refused 9 p q → ⊥
   unfolding buildAnswer lengthChecks roomCheck
   never-nine long p q g = go (callSizes n L (w .opposites)) (callLengths n L (w .opposites) (w .vertices) (w .work)) refl (sym (run .answer) ∙ g)
     where
       past : T (sizesFit n L) → (x : Answer) → listAnswer n L ≡ x → roomCheck (length (w .border)) x ≡ refused 9 p q → ⊥
-      past s (refused r i j) e f = no-nine n L p q (e ∙ f)
+      past s (refused r i j) e f = list-never n L 9 (λ r from to d z. omega arith) p q (e ∙ f)
       past s (gives k j) e f =
           let (x, b) = list-counted n L s k j e in
           let h : k ≤ length (w .border) = omega (arith, b .0, borders-few n L (good n L x)) in

@@ -16,7 +16,7 @@ use Rattle.rules.specs.Elements.{maxElement, elements, element, number, sideAt,
 use Rattle.rules.specs.Pairing.{sizesFit, unfitCorner, repeatedCorner, rowsFit}
 use Rattle.rules.specs.Tables.{borders, edges, b2e, e2e, v2e}
 use Rattle.rules.specs.Recovery.{walkTo, walk}
-use Rattle.rules.specs.Refusals.{Answer, gives, refused, unusedVertex, crowdedSide, alikeSide, missed, unorderedVertex, sideCheck, vertexCheck, listAnswer}
+use Rattle.rules.specs.Refusals.{Answer, gives, refused, crowdedSide, alikeSide, missed, unorderedVertex, sideCheck, vertexCheck, listAnswer}
 use Rattle.theory.specs.Sides.{sideAt-slot}
 use Rattle.theory.specs.FitRows.{Fit, means-fit, no-side-at}
 use Rattle.theory.specs.Pairings.{the-pairing}
@@ -41,8 +41,7 @@ abbrev pub pairedAnswer : ℕ → List ℕ → Answer
 pairedAnswer n L = vertexCheck 8 (unorderedVertex n L) (gives (borders L) (edges L))
 
 abbrev pub fitAnswer : ℕ → List ℕ → Answer
-fitAnswer n L =
-    vertexCheck 5 (unusedVertex n L) (sideCheck 6 (crowdedSide L) (sideCheck 7 (alikeSide L) (pairedAnswer n L)))
+fitAnswer n L = sideCheck 6 (crowdedSide L) (sideCheck 7 (alikeSide L) (pairedAnswer n L))
 
 -- V2e, E2e and B2e stand one after another
 pub record Holds (n : ℕ) (L w : List ℕ) : Type 0 where
@@ -190,37 +189,29 @@ module _ {n a : ℕ} {L w : List ℕ} (here : Fit n L × (length w ≡ n + 12 * 
           same = same;
         }
 
--- checks 5 to 7, each by what its search found
+-- checks 6 and 7, each by what its search found
 module _ {n a : ℕ} {L w₀ w : List ℕ} (p : Prepared n a L w₀ w) where
-  pub refuses-5 : {v : ℕ} {r : Answer} → v ≡ unusedVertex n L → (v ≡ 0 → ⊥) → r ≡ refused 5 v 0 → Tabulated n L (fitAnswer n L) r w₀ w
-  refuses-5 e d f = refuses f (rw e (vertex-refuses 5 (unusedVertex n L) _ (λ z. d (e ∙ z)))) (p .same)
+  pub refuses-6 : {s : ℕ} {r : Answer} → s ≡ crowdedSide L → (s ≡ 0 → ⊥) → r ≡ refused 6 (element s) (number s) → Tabulated n L (fitAnswer n L) r w₀ w
+  refuses-6 e d f = refuses f (rw e (side-refuses 6 (crowdedSide L) _ (λ z. d (e ∙ z)))) (p .same)
 
-  module _ (used : unusedVertex n L ≡ 0) where
-    pub refuses-6 : {s : ℕ} {r : Answer} → s ≡ crowdedSide L → (s ≡ 0 → ⊥) → r ≡ refused 6 (element s) (number s) → Tabulated n L (fitAnswer n L) r w₀ w
-    refuses-6 e d f =
-        refuses f (vertex-clear 5 _ _ used ∙ rw e (side-refuses 6 (crowdedSide L) _ (λ z. d (e ∙ z)))) (p .same)
+  module _ (uncrowded : crowdedSide L ≡ 0) where
+    pub refuses-7 : {s : ℕ} {r : Answer} → s ≡ alikeSide L → (s ≡ 0 → ⊥) → r ≡ refused 7 (element s) (number s) → Tabulated n L (fitAnswer n L) r w₀ w
+    refuses-7 e d f =
+        refuses f (side-clear 6 _ _ uncrowded ∙ rw e (side-refuses 7 (alikeSide L) _ (λ z. d (e ∙ z)))) (p .same)
 
-    module _ (uncrowded : crowdedSide L ≡ 0) where
-      clear : {rest : Answer} → vertexCheck 5 (unusedVertex n L) (sideCheck 6 (crowdedSide L) rest) ≡ rest
-      clear = vertex-clear 5 _ _ used ∙ side-clear 6 _ _ uncrowded
+    module _ (apart : alikeSide L ≡ 0) where
+      pub ready : Ready n L w
+      ready =
+          record {
+            mapped = rw (p .index) at (p .mapped);
+            firsts = p .firsts;
+            uncrowded = uncrowded;
+            apart = apart;
+            long = p .long;
+          }
 
-      pub refuses-7 : {s : ℕ} {r : Answer} → s ≡ alikeSide L → (s ≡ 0 → ⊥) → r ≡ refused 7 (element s) (number s) → Tabulated n L (fitAnswer n L) r w₀ w
-      refuses-7 e d f = refuses f (clear ∙ rw e (side-refuses 7 (alikeSide L) _ (λ z. d (e ∙ z)))) (p .same)
-
-      module _ (apart : alikeSide L ≡ 0) where
-        pub ready : Ready n L w
-        ready =
-            record {
-              mapped = rw (p .index) at (p .mapped);
-              firsts = p .firsts;
-              used = used;
-              uncrowded = uncrowded;
-              apart = apart;
-              long = p .long;
-            }
-
-        pub fit-on : {r : Answer} {w′ : List ℕ} → Tabulated n L (pairedAnswer n L) r w w′ → Tabulated n L (fitAnswer n L) r w₀ w′
-        fit-on x = restated (clear ∙ side-clear 7 _ _ apart) (p .same) x
+      pub fit-on : {r : Answer} {w′ : List ℕ} → Tabulated n L (pairedAnswer n L) r w w′ → Tabulated n L (fitAnswer n L) r w₀ w′
+      fit-on x = restated (side-clear 6 _ _ uncrowded ∙ side-clear 7 _ _ apart) (p .same) x
 
 -- checks 3 and 4, each by the corner that the search found
 module _ {n : ℕ} {L w : List ℕ} {r : Answer} where

@@ -15,7 +15,6 @@ use borders::number_borders;
 use checks::alike_side;
 use checks::crowded_side;
 use checks::first_sides;
-use checks::unused_vertex;
 use corners::Fault;
 use corners::first_fault;
 use halfedge::element_of;
@@ -50,7 +49,7 @@ fn tabulate_paired(n: u32, list: &[u32], work: &mut [u32]) -> Answer
     give_two(k, (sides + k) / 2)
 }
 
-// Checks 5 to 8 and the tables, where checks 3 and 4 found nothing.
+// Checks 6 to 8 and the tables, where checks 3 and 4 found nothing.
 fn tabulate_fit(n: u32, list: &[u32], work: &mut [u32]) -> Answer
     requires { ⌜ Fit n (now list) × (length (now work) ≡ n + 12 * elements (now list)) ⌝ }
     ensures { λ r. ⌜ Tabulated n (now (list .entry)) (fitAnswer n (now (list .entry))) (numbers r) (now (work .entry)) (now (work .exit)) ⌝ }
@@ -58,10 +57,6 @@ fn tabulate_fit(n: u32, list: &[u32], work: &mut [u32]) -> Answer
     let vertices = wide(n);
     siblings(vertices, list, work);
     first_sides(vertices, list, work);
-    let v = unused_vertex(n, work);
-    if v != 0 {
-        return refuse_at(5, v, 0);
-    }
     let s = crowded_side(vertices, list, work);
     if s != 0 {
         return refusal_at(6, s);

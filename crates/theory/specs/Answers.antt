@@ -1,4 +1,4 @@
--- What build answers, with fit lengths and rows: one of the refusals 5 to 8 exactly when no pairing of the sides with a turn order about
+-- What build answers, with fit lengths and rows: one of the refusals 6 to 8 exactly when no pairing of the sides with a turn order about
 -- every vertex exists; where one exists, only 9 remains, exactly when B2e is shorter than k.
 -- Assumes nothing.
 use mathlib.Core.Path.{_≡_, ap, sym, subst, _∙_}
@@ -14,12 +14,12 @@ use Rattle.lists.specs.SearchLaws.{le-or-lt}
 use Rattle.rules.specs.Elements.{element, number}
 use Rattle.rules.specs.Pairing.{Ordered, unfitCorner, repeatedCorner, rowsFit, sizesFit}
 use Rattle.rules.specs.Tables.{partner, borders, edges}
-use Rattle.rules.specs.Refusals.{Answer, gives, refused, unusedVertex, crowdedSide, alikeSide, unorderedVertex, sideCheck, vertexCheck, listAnswer, Buffers}
+use Rattle.rules.specs.Refusals.{Answer, gives, refused, crowdedSide, alikeSide, unorderedVertex, sideCheck, vertexCheck, listAnswer, Buffers}
 use Rattle.rules.specs.Refusals.{callSizes, callLengths, lengthChecks, roomCheck, buildAnswer}
 use Rattle.theory.specs.FitRows.{means-fit}
 use Rattle.theory.specs.Pairings.{pairing-exists, the-pairing}
 use Rattle.theory.specs.Orders.{good}
-use Rattle.theory.specs.Deciding.{means-used, means-ordered}
+use Rattle.theory.specs.Deciding.{means-ordered}
 
 -- a check that found nothing goes on to the later ones; else it refuses
 pub side-clear : (r s : ℕ) (rest : Answer) → s ≡ 0 → sideCheck r s rest ≡ rest
@@ -63,18 +63,18 @@ past-room room k e (gives i j) g = go (le-or-lt i room)
     go (inl h) = let f = sym (room-enough room i j h) ∙ g in let c : i ≡ k = cc in (f, omega arith)
     go (inr h) = let f = sym (room-short room i j h) ∙ g in let z : _≡_ {A = ℕ} 0 1 = cc in absurd (omega arith)
 
--- one of the refusals 5 to 8
+-- one of the refusals 6 to 8
 abbrev pub Late : Answer → Type 0
-Late x = (r : ℕ) × (a : ℕ) × (b : ℕ) × (5 ≤ r) × (r ≤ 8) × (x ≡ refused r a b)
+Late x = (r : ℕ) × (a : ℕ) × (b : ℕ) × (6 ≤ r) × (r ≤ 8) × (x ≡ refused r a b)
 
-late-side : (r s : ℕ) (rest : Answer) → 5 ≤ r → r ≤ 8 → (s ≡ 0 → Late rest) → Late (sideCheck r s rest)
+late-side : (r s : ℕ) (rest : Answer) → 6 ≤ r → r ≤ 8 → (s ≡ 0 → Late rest) → Late (sideCheck r s rest)
 late-side r s rest from to f = go (zero-or s)
   where
     go : (s ≡ 0) ⊎ (s ≡ 0 → ⊥) → Late (sideCheck r s rest)
     go (inl e) = rw (side-clear r s rest e) (f e)
     go (inr d) = (r, element s, number s, from, to, side-refuses r s rest d)
 
-late-vertex : (r v : ℕ) (rest : Answer) → 5 ≤ r → r ≤ 8 → (v ≡ 0 → Late rest) → Late (vertexCheck r v rest)
+late-vertex : (r v : ℕ) (rest : Answer) → 6 ≤ r → r ≤ 8 → (v ≡ 0 → Late rest) → Late (vertexCheck r v rest)
 late-vertex r v rest from to f = go (zero-or v)
   where
     go : (v ≡ 0) ⊎ (v ≡ 0 → ⊥) → Late (vertexCheck r v rest)
@@ -98,29 +98,25 @@ module _ (n : ℕ) (L : List ℕ) (rows : T (rowsFit n L)) where
       let g = good n L (record { rows = rows; pairing = π; ordered = x }) in
       let (c, d) = pairing-exists n L (g .fit) .0 (partner L, g .pairing) in
       rows-clear _
-      ∙ vertex-clear 5 (unusedVertex n L) _ (means-eq (unusedVertex n L) 0 .says (means-used n L .shows (g .used)))
       ∙ side-clear 6 (crowdedSide L) _ c
       ∙ side-clear 7 (alikeSide L) _ d
-      ∙ vertex-clear 8 (unorderedVertex n L) _ (means-eq (unorderedVertex n L) 0 .says (means-ordered n L (g .pairing) (g .used) .shows (g .orders)))
+      ∙ vertex-clear 8 (unorderedVertex n L) _ (means-eq (unorderedVertex n L) 0 .says (means-ordered n L (g .pairing) .shows (g .orders)))
 
-  -- where none exists, one of the checks 5 to 8 finds something
+  -- where none exists, one of the checks 6 to 8 finds something
   pub unordered-answer : (((π : ℕ → ℕ) × Ordered n L π) → ⊥) → Late (listAnswer n L)
   unfolding listAnswer
   unordered-answer none =
       let fit = means-fit n L .says rows in
       subst Late (sym (rows-clear _))
-      (late-vertex 5 (unusedVertex n L) _ (omega arith) (omega arith)
-      (λ u.
-      late-side 6 (crowdedSide L) _ (omega arith) (omega arith)
+      (late-side 6 (crowdedSide L) _ (omega arith) (omega arith)
       (λ c.
       late-side 7 (alikeSide L) _ (omega arith) (omega arith)
       (λ a.
       late-vertex 8 (unorderedVertex n L) _ (omega arith) (omega arith)
       (λ o.
       let p = the-pairing n L fit a in
-      let used = means-used n L .says (means-eq (unusedVertex n L) 0 .shows u) in
-      let orders = means-ordered n L p used .says (means-eq (unorderedVertex n L) 0 .shows o) in
-      absurd (none (partner L, record { pairing = p; used = used; orders = orders })))))))
+      let orders = means-ordered n L p .says (means-eq (unorderedVertex n L) 0 .shows o) in
+      absurd (none (partner L, record { pairing = p; orders = orders }))))))
 
   module _ (w : Buffers) (sizes : T (callSizes n L (w .opposites))) (lengths : T (callLengths n L (w .opposites) (w .vertices) (w .work))) where
     -- with fit lengths the answer is that of checks 3 to 9
@@ -133,7 +129,7 @@ module _ (n : ℕ) (L : List ℕ) (rows : T (rowsFit n L)) where
     pub build-ordered : (π : ℕ → ℕ) → Ordered n L π → buildAnswer n L w ≡ roomCheck (length (w .border)) (gives (borders L) (edges L))
     build-ordered π x = fit-answer ∙ ap (roomCheck (length (w .border))) (ordered-answer π x)
 
-    -- theorem 2: one of the refusals 5 to 8 exactly when no pairing with turn orders exists
+    -- theorem 2: one of the refusals 6 to 8 exactly when no pairing with turn orders exists
     pub build-late : Late (buildAnswer n L w) ↔ (((π : ℕ → ℕ) × Ordered n L π) → ⊥)
     unfolding roomCheck
     build-late = (
@@ -143,10 +139,73 @@ module _ (n : ℕ) (L : List ℕ) (rows : T (rowsFit n L)) where
           (r, a, b, from, to, fit-answer ∙ ap (roomCheck (length (w .border))) e)),
     )
       where
-        not-late : (r a b : ℕ) → 5 ≤ r → r ≤ 8 → (borders L ≤ length (w .border)) ⊎ (length (w .border) < borders L) → roomCheck (length (w .border)) (gives (borders L) (edges L)) ≡ refused r a b → ⊥
+        not-late : (r a b : ℕ) → 6 ≤ r → r ≤ 8 → (borders L ≤ length (w .border)) ⊎ (length (w .border) < borders L) → roomCheck (length (w .border)) (gives (borders L) (edges L)) ≡ refused r a b → ⊥
         not-late r a b from to (inl h) e =
             let g = room-enough (length (w .border)) (borders L) (edges L) h in
             let z : _≡_ {A = ℕ} 0 1 = cc in omega arith
         not-late r a b from to (inr h) e =
             let g = room-short (length (w .border)) (borders L) (edges L) h in
             let z : r ≡ 9 = cc in omega arith
+
+-- the answer x isn't refusal q
+abbrev pub Never : ℕ → Answer → Type 0
+Never q x = (a b : ℕ) → x ≡ refused q a b → ⊥
+
+never-gives : (q k e : ℕ) → Never q (gives k e)
+never-gives q k e a b p = let z : _≡_ {A = ℕ} 0 1 = cc in omega arith
+
+never-refused : (q r c d : ℕ) → (r ≡ q → ⊥) → Never q (refused r c d)
+never-refused q r c d f a b p = let z : r ≡ q = cc in f z
+
+module _ (q r : ℕ) (rest : Answer) (other : r ≡ q → ⊥) (f : Never q rest) where
+  never-side : (s : ℕ) → Never q (sideCheck r s rest)
+  never-side s a b p = go (zero-or s)
+    where
+      go : (s ≡ 0) ⊎ (s ≡ 0 → ⊥) → ⊥
+      go (inl e) = f a b (sym (side-clear r s rest e) ∙ p)
+      go (inr d) = never-refused q r (element s) (number s) other a b (sym (side-refuses r s rest d) ∙ p)
+
+  never-vertex : (v : ℕ) → Never q (vertexCheck r v rest)
+  never-vertex v a b p = go (zero-or v)
+    where
+      go : (v ≡ 0) ⊎ (v ≡ 0 → ⊥) → ⊥
+      go (inl e) = f a b (sym (vertex-clear r v rest e) ∙ p)
+      go (inr d) = never-refused q r v 0 other a b (sym (vertex-refuses r v rest d) ∙ p)
+
+-- checks 3 to 8 give their own numbers but 5, and no other
+pub list-never : (n : ℕ) (L : List ℕ) (q : ℕ) → ((r : ℕ) → 3 ≤ r → r ≤ 8 → (r ≡ 5 → ⊥) → r ≡ q → ⊥) → Never q (listAnswer n L)
+unfolding listAnswer
+list-never n L q other =
+    never-side q 3 _ (other 3 (omega arith) (omega arith) (λ z. omega arith))
+    (never-side q 4 _ (other 4 (omega arith) (omega arith) (λ z. omega arith))
+    (never-side q 6 _ (other 6 (omega arith) (omega arith) (λ z. omega arith))
+    (never-side q 7 _ (other 7 (omega arith) (omega arith) (λ z. omega arith))
+    (never-vertex q 8 _ (other 8 (omega arith) (omega arith) (λ z. omega arith))
+    (never-gives q (borders L) (edges L))
+    (unorderedVertex n L))
+    (alikeSide L))
+    (crowdedSide L))
+    (repeatedCorner L))
+    (unfitCorner n L)
+
+never-room : (q room : ℕ) (x : Answer) → (9 ≡ q → ⊥) → Never q x → Never q (roomCheck room x)
+unfolding roomCheck
+never-room q room (refused r c d) other f a b p = f a b p
+never-room q room (gives k e) other f a b p = go (le-or-lt k room)
+  where
+    go : (k ≤ room) ⊎ (room < k) → ⊥
+    go (inl h) = f a b (sym (room-enough room k e h) ∙ p)
+    go (inr h) = never-refused q 9 k 0 other a b (sym (room-short room k e h) ∙ p)
+
+never-lengths : (q : ℕ) (sizes lengths : Bool) (x : Answer) → 2 < q → Never q x → Never q (lengthChecks sizes lengths x)
+unfolding lengthChecks
+never-lengths q true true x h f = f
+never-lengths q true false x h f = never-refused q 2 0 0 (λ z. omega arith)
+never-lengths q false lengths x h f = never-refused q 1 0 0 (λ z. omega arith)
+
+-- document 02, point 2: "Refusal 5 no longer occurs", whatever build is given
+pub build-never-five : (n : ℕ) (L : List ℕ) (w : Buffers) → Never 5 (buildAnswer n L w)
+unfolding buildAnswer
+build-never-five n L w =
+    never-lengths 5 (callSizes n L (w .opposites)) (callLengths n L (w .opposites) (w .vertices) (w .work)) _ (omega arith)
+    (never-room 5 (length (w .border)) _ (λ z. omega arith) (list-never n L 5 (λ r from to d. d)))

@@ -7,7 +7,7 @@ use mathlib.Core.Option.{some}
 use mathlib.Core.List.{List}
 use Prim.Native.Nat.{ℕ, _*_, _-_, _/_, _%_, _≤_}
 use native.Mathlib.Omega.{arith}
-use lib.Dec.{T, eqb, T-not}
+use lib.Dec.{T, eqb}
 use lib.ListN.{length}
 use Rattle.lists.specs.Tests.{both}
 use Rattle.lists.specs.TestLaws.{true-of, false-of, Means, passes, both-pass, means-itself, means-both, means-either, means-not, means-eq, means-le, means-within}
@@ -17,15 +17,13 @@ use Rattle.rules.specs.Elements.{elements, isSide, Side, origin, destination, s
 use Rattle.rules.specs.Pairing.{SideAt, rowsFit, sizesFit, unfitCorner, repeatedCorner}
 use Rattle.rules.specs.Tables.{partner, isBorder, b2e, borderNumber, borders, e2e, v2e}
 use Rattle.rules.specs.Refusals.{Answer, callSizes, lengthChecks}
-use Rattle.rules.specs.Queries.{Mesh, asked, read, bySide, isBorderCode, isHalfEdge, isVertex, readOpposite, readBorderSide, readVertexEntry, readOrigin, readDestination}
-use Rattle.theory.specs.Sides.{side-facts}
-use Rattle.theory.specs.Least.{nobody, somebody}
+use Rattle.rules.specs.Queries.{Mesh, asked, read, bySide, byEntry, isBorderCode, isHalfEdge, isEntry, isVertex, readOpposite, readBorderSide, readVertexEntry, readOrigin, readDestination}
+use Rattle.theory.specs.Sides.{side-facts, side-positive}
 use Rattle.theory.specs.Steps.{next-side}
 use Rattle.theory.specs.FitRows.{Fit, means-fit}
 use Rattle.theory.specs.Pairings.{partner-opposed}
 use Rattle.theory.specs.Entries.{length-e2e, length-v2e, length-b2e, e2e-paired, e2e-border, b2e-border, number-from, number-to, numbered-border, VertexEntry, vertex-entry}
 use Rattle.theory.specs.Turns.{elements-e2e}
-use Rattle.theory.specs.Orders.{Good}
 
 -- "Built tables are a list and what build writes for it, B2e cut to k"
 abbrev pub built : ℕ → List ℕ → Mesh
@@ -73,6 +71,17 @@ by-side L c x y a = rw (false-of (eqb (c % 8) 0) (means-not (means-eq (c % 8) 0)
 
 pub by-border {ℓ} : {A : Type ℓ} (b : ℕ) (x y : A) → bySide (8 * b) x y ≡ y
 by-border b x y = let e : 8 * b % 8 ≡ 0 = omega arith in rw (true-of (eqb (8 * b % 8) 0) (means-eq (8 * b % 8) 0 .shows e), bySide)
+
+-- the entry of a vertex that is a side, or a border
+pub by-entry-side {ℓ} : {A : Type ℓ} (L : List ℕ) (c : ℕ) (x y z : A) → Side L c → byEntry c x y z ≡ y
+by-entry-side L c x y z a =
+    rw (false-of (eqb c 0) (means-not (means-eq c 0) .shows (side-positive L c a)), byEntry) (by-side L c y z a)
+
+pub by-entry-border {ℓ} : {A : Type ℓ} (L : List ℕ) (s : ℕ) (x y z : A) → byEntry (8 * borderNumber L s) x y z ≡ z
+by-entry-border L s x y z =
+    let b = borderNumber L s in
+    let d : 8 * b ≡ 0 → ⊥ = λ e. omega (arith, number-from L s) in
+    rw (false-of (eqb (8 * b) 0) (means-not (means-eq (8 * b) 0) .shows d), byEntry) (by-border b y z)
 
 pub read-valid : (valid : ℕ → Bool) (x : ℕ) → T (valid x) → read valid x ≡ some x
 read-valid valid x t = rw (true-of (valid x) t, read)
@@ -140,23 +149,26 @@ module _ (n : ℕ) (L : List ℕ) where
         let b = next-side L s a in
         read-valid (isVertex (built n L)) (destination L s) (means-vertex (destination L s) .shows (fit .from _ b, fit .to _ b))
 
--- the read V2e entry of vertex v: opposite the border side that ends there, or a side with origin v where none does
+-- the read V2e entry of vertex v: opposite the border side that ends there, or a side with origin v where none does, or 0 without sides
 pub data ReadEntry (n : ℕ) (L : List ℕ) (v : ℕ) : Type 0 where
   rim : (r : ℕ) → Side L r → partner L r ≡ 0 → destination L r ≡ v → readVertexEntry (built n L) v ≡ some (8 * borderNumber L r) → ReadEntry n L v
   inner : ((r : ℕ) → Side L r → partner L r ≡ 0 → destination L r ≡ v → ⊥) → (s : ℕ) → SideAt L v s → readVertexEntry (built n L) v ≡ some s → ReadEntry n L v
+  unused : ((s : ℕ) → SideAt L v s → ⊥) → readVertexEntry (built n L) v ≡ some 0 → ReadEntry n L v
 
-module _ (n : ℕ) (L : List ℕ) (g : Good n L) where
+module _ (n : ℕ) (L : List ℕ) where
+  -- an entry is 0 or a half-edge
+  means-entry : (c : ℕ) → Means (isEntry (built n L) c) ((c ≡ 0) ⊎ HalfEdge L c)
+  unfolding isEntry
+  means-entry c = means-either (means-eq c 0) (means-half n L c)
+
   pub read-entry : (v : ℕ) → 1 ≤ v → v ≤ n → ReadEntry n L v
   unfolding readVertexEntry
   read-entry v h k = go (vertex-entry n L v h k)
     where
+      reads : (c : ℕ) → (c ≡ 0) ⊎ HalfEdge L c → read (isEntry (built n L)) c ≡ some c
+      reads c x = read-valid (isEntry (built n L)) c (means-entry c .shows x)
+
       go : VertexEntry L v (at (v2e n L) (v - 1)) → ReadEntry n L v
-      go (VertexEntry.rim r a z d e) =
-          rim r a z d
-          (rw e (read-valid (isHalfEdge (built n L)) (8 * borderNumber L r) (means-half n L (8 * borderNumber L r) .shows (border r a z refl))))
-      go (VertexEntry.inner f (nobody e q)) =
-          let (s, (a, o)) = g .used v h k in absurd (T-not (eqb (origin L s) v) (q s a) (means-eq _ _ .shows o))
-      go (VertexEntry.inner f (somebody a t q)) =
-          let s = at (v2e n L) (v - 1) in
-          inner f s (a, means-eq (origin L s) v .says t)
-          (read-valid (isHalfEdge (built n L)) s (means-half n L s .shows (side a)))
+      go (VertexEntry.rim r a z d e) = rim r a z d (rw e (reads (8 * borderNumber L r) (inr (border r a z refl))))
+      go (VertexEntry.inner f a q) = let s = at (v2e n L) (v - 1) in inner f s a (reads s (inr (side (a .0))))
+      go (VertexEntry.unused f e) = unused f (rw e (reads 0 (inl refl)))

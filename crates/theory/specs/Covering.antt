@@ -63,7 +63,7 @@ module _ (L : List ℕ) (p : Pairing L (partner L)) (v c : ℕ) (o : List ℕ) (
       go : Start L v c → Met o s
       go (nowhere f e) = absurd (f s a)
       go (after r b z d e) = from-start q x (0, some, fan .first some ∙ e ∙ sym (first-after L p v q x r b z d)) s a
-      go (side f b) = from-start q x (closed (x .ends)) s a
+      go (side f b) = from-start q x (closed (x .ends length-q)) s a
         where
           length-q : 0 < length q
           length-q = let (i, h, e) = x .all s a in omega arith
@@ -79,16 +79,16 @@ module _ (L : List ℕ) (p : Pairing L (partner L)) (v c : ℕ) (o : List ℕ) (
               let (r, d, w, k, e) = begins L p v q x length-q g in absurd (f r d w k)
 
   -- a fan of all sides at the vertex is a turn order
-  pub fan-order : ((s : ℕ) → SideAt L v s → Met o s) → 0 < length o → TurnOrder L (partner L) v o
-  fan-order all some =
-      record { sides = fan .sides; all = all; once = fan .once; turns = fan .turns; ends = ends (fan .last some) }
+  pub fan-order : ((s : ℕ) → SideAt L v s → Met o s) → TurnOrder L (partner L) v o
+  fan-order all =
+      record { sides = fan .sides; all = all; once = fan .once; turns = fan .turns; ends = λ some. ends some (fan .last some) }
     where
       last : ℕ
       last = at o (length o - 1)
 
       -- nobody's turn is the first where the last is a border side: it would be met before it
-      nobodys : partner L last ≡ 0 → (s : ℕ) → Side L s → Turn L (partner L) s (at o 0) → ⊥
-      nobodys z s a t =
+      nobodys : 0 < length o → partner L last ≡ 0 → (s : ℕ) → Side L s → Turn L (partner L) s (at o 0) → ⊥
+      nobodys some z s a t =
           let (b, e) = turn-origin L p s (at o 0) a t in
           let (i, h, g) = all s (a, sym e ∙ fan .sides 0 some .1) in
           go i h g (lt-or-eq (suc i) (length o) (omega arith))
@@ -108,10 +108,10 @@ module _ (L : List ℕ) (p : Pairing L (partner L)) (v c : ℕ) (o : List ℕ) (
           let e = fan .once i (length o - 1) (omega arith) (omega arith) (turn-inj L p (at o i) last (at o (suc i)) a b (fan .turns i h) t) in
           absurd (omega arith)
 
-      ends : (partner L last ≡ 0) ⊎ ((i : ℕ) × (i < length o) × Turn L (partner L) last (at o i))
+      ends : 0 < length o → (partner L last ≡ 0) ⊎ ((i : ℕ) × (i < length o) × Turn L (partner L) last (at o i))
           → Turn L (partner L) last (at o 0) ⊎ ((partner L last ≡ 0) × ((s : ℕ) → Side L s → Turn L (partner L) s (at o 0) → ⊥))
-      ends (inl z) = inr (z, nobodys z)
-      ends (inr (i, h, t)) = inl (back i h t)
+      ends some (inl z) = inr (z, nobodys some z)
+      ends some (inr (i, h, t)) = inl (back i h t)
 
 module _ (n : ℕ) (L : List ℕ) (p : Pairing L (partner L)) (v : ℕ) (from : 1 ≤ v) (to : v ≤ n) where
   -- a turn order exactly where the walk writes every side
@@ -121,14 +121,10 @@ module _ (n : ℕ) (L : List ℕ) (p : Pairing L (partner L)) (v : ℕ) (from : 
       let (i, h, e) = order-all-met L p v _ o fan (start-at n L v from to) q x s a in
       ap (λ (t : ℕ). at (walk (v2e n L) (e2e L)) (slot t)) (sym e) ∙ written i h
 
-  pub covered-order : (s : ℕ) → SideAt L v s → Covered L (walk (v2e n L) (e2e L)) v → (o : List ℕ) × TurnOrder L (partner L) v o
-  covered-order s a all =
-      let (o, fan, written, reached) = walk-walked n L p .fans v from to in (
-        o,
-        fan-order L p v _ o fan
-            (λ t b. elim (reached t b) [ inl z ↦ absurd (omega (arith, all t b)) | inr m ↦ m ])
-            (fan .some s a),
-      )
+  pub covered-order : Covered L (walk (v2e n L) (e2e L)) v → (o : List ℕ) × TurnOrder L (partner L) v o
+  covered-order all =
+      let (o, fan, written, reached) = walk-walked n L p .fans v from to in
+      (o, fan-order L p v _ o fan (λ t b. elim (reached t b) [ inl z ↦ absurd (omega (arith, all t b)) | inr m ↦ m ]))
 
 -- theorem 4: the walk gives every accepted list back from its tables
 pub walk-back : (n : ℕ) (L : List ℕ) → Good n L → walk (v2e n L) (e2e L) ≡ L

@@ -1,4 +1,4 @@
--- `accepted` is decided by a function that computes, and build gives one of the refusals 5 to 8 exactly when no pairing of the sides with a
+-- `accepted` is decided by a function that computes, and build gives one of the refusals 6 to 8 exactly when no pairing of the sides with a
 -- turn order about every vertex exists.
 -- Assumes nothing.
 use mathlib.Core.Path.{_≡_}
@@ -12,10 +12,10 @@ use Rattle.lists.specs.Tests.{both}
 use Rattle.lists.specs.TestLaws.{Test, pass, fail, test, Means, decide, passes, means-both, means-not, means-eq}
 use Rattle.lists.specs.Search.{at}
 use Rattle.rules.specs.Elements.{slot, origin, firstSide, firstVertex}
-use Rattle.rules.specs.Pairing.{Pairing, SideAt, TurnOrder, Accepted, rowsFit}
+use Rattle.rules.specs.Pairing.{Pairing, TurnOrder, Accepted, rowsFit}
 use Rattle.rules.specs.Tables.{partner, e2e, v2e}
 use Rattle.rules.specs.Recovery.{walk}
-use Rattle.rules.specs.Refusals.{unusedVertex, crowdedSide, alikeSide, missed, unorderedVertex, accepts}
+use Rattle.rules.specs.Refusals.{crowdedSide, alikeSide, missed, unorderedVertex, accepts}
 use Rattle.theory.specs.Least.{means-some, means-none, means-no-vertex, FirstVertex, nobody, somebody, first-vertex}
 use Rattle.theory.specs.FitRows.{means-fit}
 use Rattle.theory.specs.Pairings.{pairing-exists, the-pairing}
@@ -23,26 +23,6 @@ use Rattle.theory.specs.Orders.{good, accepted-of}
 use Rattle.theory.specs.Covering.{Covered, order-covered, covered-order}
 
 module _ (n : ℕ) (L : List ℕ) where
-  -- check 5 finds nothing exactly when every vertex has a side
-  pub means-used : Means (eqb (unusedVertex n L) 0) ((v : ℕ) → 1 ≤ v → v ≤ n → (s : ℕ) × SideAt L v s)
-  unfolding unusedVertex
-  means-used = record { says = says; shows = shows }
-    where
-      from : ℕ → ℕ → Bool
-      from v s = eqb (origin L s) v
-
-      says : T (eqb (unusedVertex n L) 0) → (v : ℕ) → 1 ≤ v → v ≤ n → (s : ℕ) × SideAt L v s
-      says z v a b = go (test (eqb (firstSide L (from v)) 0))
-        where
-          go : Test (eqb (firstSide L (from v)) 0) → (s : ℕ) × SideAt L v s
-          go (pass t e) = absurd (means-no-vertex n (λ u. eqb (firstSide L (from u)) 0) .says z v a b t)
-          go (fail t e) = let (s, c, o) = means-some L (from v) .says t in (s, (c, means-eq (origin L s) v .says o))
-
-      shows : ((v : ℕ) → 1 ≤ v → v ≤ n → (s : ℕ) × SideAt L v s) → T (eqb (unusedVertex n L) 0)
-      shows f =
-          means-no-vertex n (λ u. eqb (firstSide L (from u)) 0) .shows
-          (λ v a b t. let (s, (c, o)) = f v a b in means-none L (from v) .says t s c (means-eq (origin L s) v .shows o))
-
   -- a vertex is missed exactly where the walk doesn't write every side
   means-missed : (W : List ℕ) (v : ℕ) → Means (missed L W v) (Covered L W v → ⊥)
   unfolding missed
@@ -87,12 +67,12 @@ module _ (n : ℕ) (L : List ℕ) where
         shows = λ f. means-no-vertex n (missed L W) .shows (λ v a b t. means-missed W v .says t (f v a b));
       }
 
-  module _ (p : Pairing L (partner L)) (used : (v : ℕ) → 1 ≤ v → v ≤ n → (s : ℕ) × SideAt L v s) where
+  module _ (p : Pairing L (partner L)) where
     -- ... which is that every vertex has a turn order
     pub means-ordered : Means (eqb (unorderedVertex n L) 0) ((v : ℕ) → 1 ≤ v → v ≤ n → (o : List ℕ) × TurnOrder L (partner L) v o)
     means-ordered =
         record {
-          says = λ z v a b. let (s, c) = used v a b in covered-order n L p v a b s c (means-covered .says z v a b);
+          says = λ z v a b. covered-order n L p v a b (means-covered .says z v a b);
           shows = λ f. means-covered .shows (λ v a b. let (o, x) = f v a b in order-covered n L p v a b o x);
         }
 
@@ -112,9 +92,7 @@ module _ (n : ℕ) (L : List ℕ) where
         go (nobody e f) = absurd (d e)
         go (somebody a b t f) = (
           (λ o x. means-missed W u .says t (order-covered n L p u a b o x)),
-          (λ v c h.
-              let (s, y) = used v c (omega arith) in
-              covered-order n L p v c (omega arith) s y (covered-or W v (f v c h))),
+          (λ v c h. covered-order n L p v c (omega arith) (covered-or W v (f v c h))),
         )
 
   -- theorem 2: "accepted" is decided by a function that computes
@@ -125,20 +103,17 @@ module _ (n : ℕ) (L : List ℕ) where
       says : T (accepts n L) → Accepted n L
       says t =
           let (a, t₁) = passes (rowsFit n L) _ t in
-          let (b, t₂) = passes (eqb (unusedVertex n L) 0) _ t₁ in
-          let (c, t₃) = passes (eqb (crowdedSide L) 0) _ t₂ in
-          let (d, e) = passes (eqb (alikeSide L) 0) (eqb (unorderedVertex n L) 0) t₃ in
+          let (c, t₂) = passes (eqb (crowdedSide L) 0) _ t₁ in
+          let (d, e) = passes (eqb (alikeSide L) 0) (eqb (unorderedVertex n L) 0) t₂ in
           let fit = means-fit n L .says a in
           let p = the-pairing n L fit (means-eq (alikeSide L) 0 .says d) in
-          let used = means-used .says b in
-          accepted-of n L (record { fit = fit; pairing = p; used = used; orders = means-ordered p used .says e })
+          accepted-of n L (record { fit = fit; pairing = p; orders = means-ordered p .says e })
 
       shows : Accepted n L → T (accepts n L)
       shows x =
           let g = good n L x in
           let (c, d) = pairing-exists n L (g .fit) .0 (partner L, g .pairing) in
           means-both (means-fit n L)
-          (means-both means-used
           (means-both (means-eq (crowdedSide L) 0)
-          (means-both (means-eq (alikeSide L) 0) (means-ordered (g .pairing) (g .used))))) .shows
-          (g .fit, (g .used, (c, (d, g .orders))))
+          (means-both (means-eq (alikeSide L) 0) (means-ordered (g .pairing)))) .shows
+          (g .fit, (c, (d, g .orders)))

@@ -1,22 +1,21 @@
 -- The computed tables of an accepted list are the ones that document 01 describes, for any pairing of its sides.
 -- Assumes nothing.
 use mathlib.Core.Path.{_≡_, ap, sym, _∙_}
-use mathlib.Core.Logic.{_⊎_, inl, inr}
+use mathlib.Core.Logic.{_⊎_, inl, inr, _↔_}
 use mathlib.Core.List.{List}
 use Prim.Native.Nat.{ℕ, suc, _+_, _*_, _-_, _≤_, _<_}
 use native.Mathlib.Omega.{arith}
-use lib.Dec.{eqb, T-not}
 use lib.ListN.{length}
-use Rattle.lists.specs.TestLaws.{means-eq}
 use Rattle.lists.specs.Search.{at}
 use Rattle.lists.specs.SearchLaws.{le-not-lt, lt-or-eq}
-use Rattle.rules.specs.Elements.{elements, corner, Side, slot, origin, destination}
+use Rattle.rules.specs.Elements.{elements, corner, Side, slot, destination, next}
 use Rattle.rules.specs.Pairing.{SideAt, Accepted}
 use Rattle.rules.specs.Tables.{partner, borderNumber, borders, b2e, e2e, v2e}
-use Rattle.theory.specs.Least.{nobody, somebody}
+use Rattle.theory.specs.Sides.{side-positive}
+use Rattle.theory.specs.Steps.{next-side}
 use Rattle.theory.specs.Pairings.{pairing-unique}
 use Rattle.theory.specs.Entries.{length-e2e, length-v2e, length-b2e, e2e-paired, e2e-border, e2e-empty, b2e-border, number-from, number-to, number-less}
-use Rattle.theory.specs.Entries.{numbered-border, VertexEntry, rim, inner, vertex-entry}
+use Rattle.theory.specs.Entries.{numbered-border, VertexEntry, rim, inner, unused, vertex-entry}
 use Rattle.theory.specs.Turns.{fourth, fourth-none}
 use Rattle.theory.specs.Orders.{Good, good, one-border-into}
 
@@ -44,8 +43,10 @@ pub record Described (n : ℕ) (L : List ℕ) (π : ℕ → ℕ) : Type 0 where
   -- origin there"
   pub vertex-entries : length (v2e n L) ≡ n
   pub rim-entry : (b s v : ℕ) → 1 ≤ v → v ≤ n → Entry L b s → destination L s ≡ v → at (v2e n L) (v - 1) ≡ 8 * b
-  pub inner-entry : (v : ℕ) → 1 ≤ v → v ≤ n → ((s : ℕ) → Border L π s → destination L s ≡ v → ⊥)
+  pub inner-entry : (v : ℕ) → 1 ≤ v → v ≤ n → ((s : ℕ) × SideAt L v s) → ((s : ℕ) → Border L π s → destination L s ≡ v → ⊥)
       → SideAt L v (at (v2e n L) (v - 1)) × ((s : ℕ) → SideAt L v s → at (v2e n L) (v - 1) ≤ s)
+  -- document 02, point 2: "vertices that no plate uses", "with V2e entry 0"
+  pub unused-entry : (v : ℕ) → 1 ≤ v → v ≤ n → (at (v2e n L) (v - 1) ≡ 0) ↔ ((s : ℕ) → SideAt L v s → ⊥)
   -- "that side" is one: at most one border side ends at a vertex
   pub one-border : (s t v : ℕ) → 1 ≤ v → v ≤ n → Border L π s → destination L s ≡ v → Border L π t → destination L t ≡ v → s ≡ t
 
@@ -56,14 +57,17 @@ entry-number L b s (from, to, e) =
     let h : t ≡ s = sym (b2e-border L t a z) ∙ ap (λ (x : ℕ). at (b2e L) (x - 1)) g ∙ e in
     rw (← h) ((a, z), g)
 
--- the V2e entry of a vertex where no border side ends
+-- the V2e entry of a vertex where no border side ends, and of one without sides
 inner-least : (L : List ℕ) (v c s : ℕ) → SideAt L v s → ((r : ℕ) → Border L (partner L) r → destination L r ≡ v → ⊥) → VertexEntry L v c → SideAt L v c × ((t : ℕ) → SideAt L v t → c ≤ t)
 inner-least L v c s y f (rim r a z d e) = absurd (f r (a, z) d)
-inner-least L v c s (a, o) f (inner h (nobody e k)) = absurd (T-not (eqb (origin L s) v) (k s a) (means-eq (origin L s) v .shows o))
-inner-least L v c s y f (inner h (somebody a t k)) = (
-  (a, means-eq (origin L c) v .says t),
-  (λ u (b, o). le-not-lt c u (λ l. T-not (eqb (origin L u) v) (k u b l) (means-eq (origin L u) v .shows o))),
-)
+inner-least L v c s y f (inner h a k) = (a, k)
+inner-least L v c s y f (unused k e) = absurd (k s y)
+
+unused-zero : (L : List ℕ) (v c : ℕ) → VertexEntry L v c → (c ≡ 0) ↔ ((s : ℕ) → SideAt L v s → ⊥)
+unused-zero L v c (rim r a z d e) =
+    ((λ i. absurd (omega (arith, number-from L r))), (λ f. absurd (f (next L r) (next-side L r a, d))))
+unused-zero L v c (inner h a k) = ((λ i. absurd (side-positive L c (a .0) i)), (λ f. absurd (f c a)))
+unused-zero L v c (unused k e) = ((λ i. k), (λ f. e))
 
 -- theorem 3
 pub described : (n : ℕ) (L : List ℕ) (x : Accepted n L) → Described n L (x .pairing)
@@ -80,9 +84,8 @@ described n L x =
       fourth-entry = λ f from z. e2e-empty L (4 * (f - 1) + 3) (rw (fourth L f from) (fourth-none L f z));
       vertex-entries = length-v2e L n;
       rim-entry = λ b s v from to h d. let (k, e) = entry-number L b s h in rim-at s v from to k d (vertex-entry n L v from to) ∙ ap (8 *_) e;
-      inner-entry = λ v from to f.
-          let (s, y) = g .used v from to in
-          inner-least L v _ s y (λ r (a, z). f r (a, same r a ∙ z)) (vertex-entry n L v from to);
+      inner-entry = λ v from to (s, y) f. inner-least L v _ s y (λ r (a, z). f r (a, same r a ∙ z)) (vertex-entry n L v from to);
+      unused-entry = λ v from to. unused-zero L v _ (vertex-entry n L v from to);
       one-border = λ s t v from to (a, z) d (b, w) e. one s t v from to (a, sym (same s a) ∙ z) d (b, sym (same t b) ∙ w) e;
     }
   where
@@ -109,4 +112,5 @@ described n L x =
 
     rim-at : (s v : ℕ) → 1 ≤ v → v ≤ n → Border L (partner L) s → destination L s ≡ v → {c : ℕ} → VertexEntry L v c → c ≡ 8 * borderNumber L s
     rim-at s v from to k d (rim r a z e q) = q ∙ ap (λ (i : ℕ). 8 * borderNumber L i) (one r s v from to (a, z) e k d)
-    rim-at s v from to (a, z) d (inner f q) = absurd (f s a z d)
+    rim-at s v from to (a, z) d (inner f b q) = absurd (f s a z d)
+    rim-at s v from to (a, z) d (unused f e) = absurd (f (next L s) (next-side L s a, d))

@@ -13,6 +13,7 @@ use Rattle.lists.specs.TestLaws.{true-of, false-of, Means, decide, passes, both
 use Rattle.lists.specs.Search.{at, count}
 use Rattle.lists.specs.SearchLaws.{length-tab, at-tab, length-upto, at-upto, count-lt, count-inj, count-find, count-bound, le-not-lt}
 use Rattle.rules.specs.Elements.{elements, isSide, Side, slot, origin, destination, sideAt, sideWith, countSides}
+use Rattle.rules.specs.Pairing.{SideAt}
 use Rattle.rules.specs.Tables.{partner, isBorder, b2e, borderNumber, borders, e2eEntry, e2e, borderInto, v2eEntry, v2e}
 use Rattle.theory.specs.Sides.{side-facts, sideAt-slot, slot-sideAt, slot-below, slot-less, slot-inj, side-positive}
 use Rattle.theory.specs.Least.{First, nobody, somebody, first-side}
@@ -129,7 +130,8 @@ module _ (L : List ℕ) where
 -- the V2e entry c of vertex v: of a vertex with a border side ending there, and of any other
 pub data VertexEntry (L : List ℕ) (v c : ℕ) : Type 0 where
   rim : (s : ℕ) → Side L s → partner L s ≡ 0 → destination L s ≡ v → c ≡ 8 * borderNumber L s → VertexEntry L v c
-  inner : ((s : ℕ) → Side L s → partner L s ≡ 0 → destination L s ≡ v → ⊥) → First L (λ s. eqb (origin L s) v) c → VertexEntry L v c
+  inner : ((s : ℕ) → Side L s → partner L s ≡ 0 → destination L s ≡ v → ⊥) → SideAt L v c → ((s : ℕ) → SideAt L v s → c ≤ s) → VertexEntry L v c
+  unused : ((s : ℕ) → SideAt L v s → ⊥) → c ≡ 0 → VertexEntry L v c
 
 module _ (n : ℕ) (L : List ℕ) where
   ending : ℕ → ℕ → Bool
@@ -139,11 +141,18 @@ module _ (n : ℕ) (L : List ℕ) where
   unfolding ending
   means-ending v s = means-both (means-border L s) (means-eq (destination L s) v)
 
+  -- the least side with origin v, where no border side ends
+  least-at : (v : ℕ) {c : ℕ} → ((s : ℕ) → Side L s → partner L s ≡ 0 → destination L s ≡ v → ⊥) → First L (λ s. eqb (origin L s) v) c → VertexEntry L v c
+  least-at v f (nobody e g) = unused (λ s (a, o). T-not (eqb (origin L s) v) (g s a) (means-eq (origin L s) v .shows o)) e
+  least-at v {c} f (somebody a t g) =
+      inner f (a, means-eq (origin L c) v .says t)
+      (λ s (b, o). le-not-lt c s (λ l. T-not (eqb (origin L s) v) (g s b l) (means-eq (origin L s) v .shows o)))
+
   entry-of : (v : ℕ) → First L (ending v) (borderInto L v) → VertexEntry L v (v2eEntry L v)
   unfolding v2eEntry
   entry-of v (nobody e f) =
       rw (true-of (eqb (borderInto L v) 0) (means-eq (borderInto L v) 0 .shows e), v2eEntry)
-      (inner (λ s a z d. T-not (ending v s) (f s a) (means-ending v s .shows (z, d))) (first-side L (λ s. eqb (origin L s) v)))
+      (least-at v (λ s a z d. T-not (ending v s) (f s a) (means-ending v s .shows (z, d))) (first-side L (λ s. eqb (origin L s) v)))
   entry-of v (somebody a t f) =
       let (z, d) = means-ending v (borderInto L v) .says t in
       rw (false-of (eqb (borderInto L v) 0) (means-not (means-eq (borderInto L v) 0) .shows (side-positive L (borderInto L v) a)), v2eEntry)

@@ -8,15 +8,15 @@ use Prim.Native.Nat.{ℕ, zero, suc, _-_, _≤_, _<_}
 use native.Mathlib.Omega.{arith}
 use lib.Dec.{eqb}
 use lib.ListN.{length}
-use Rattle.lists.specs.TestLaws.{true-of, false-of, means-eq, means-not, zero-or}
+use Rattle.lists.specs.TestLaws.{false-of, means-eq, means-not, zero-or}
 use Rattle.lists.specs.Search.{at}
 use Rattle.lists.specs.SearchLaws.{le-not-lt}
 use Rattle.lists.specs.Distinct.{crowded}
-use Rattle.rules.specs.Queries.{andThen, prepend, follow}
+use Rattle.rules.specs.Queries.{prepend, follow}
+use Rattle.theory.specs.Reads.{and-then}
 
--- o begins at x, and each entry is what follows the one before it
+-- o begins at x, and each entry is what follows the one before it. Past the end of a list stands 0: an empty one begins at 0
 pub record Trail (P : ℕ → Type 0) (step : ℕ → Option ℕ) (x : ℕ) (o : List ℕ) : Type 0 where
-  pub nonempty : 0 < length o
   pub first : at o 0 ≡ x
   pub inside : (i : ℕ) → i < length o → P (at o i)
   pub steps : (i : ℕ) → suc i < length o → step (at o i) ≡ some (at o (suc i))
@@ -34,31 +34,47 @@ pub record Steady (P : ℕ → Type 0) (step : ℕ → Option ℕ) (m start : �
 -- what following gives
 pub record Followed (P : ℕ → Type 0) (step : ℕ → Option ℕ) (m start : ℕ) (o : List ℕ) : Type 0 where
   pub trail : Trail P step start o
-  pub stops : step (at o (length o - 1)) ≡ some 0
+  pub stops : 0 < length o → step (at o (length o - 1)) ≡ some 0
   pub once : (i j : ℕ) → i < length o → j < length o → at o i ≡ at o j → i ≡ j
   pub short : length o ≤ m
 
-module _ (step : ℕ → Option ℕ) (j x y : ℕ) (e : step x ≡ some y) where
-  follow-stop : y ≡ 0 → follow step (suc j) x ≡ some (x ∷ [])
-  unfolding follow andThen
-  follow-stop z = rw (e, follow, andThen) (rw (true-of (eqb y 0) (means-eq y 0 .shows z)) refl)
+-- following from 0 gives nothing, from elsewhere something
+pub follow-none : (step : ℕ → Option ℕ) (j : ℕ) → follow step j 0 ≡ some []
+unfolding follow
+follow-none step zero = refl
+follow-none step (suc j) = refl
 
-  follow-on : (y ≡ 0 → ⊥) → (o : List ℕ) → follow step j y ≡ some o → follow step (suc j) x ≡ some (x ∷ o)
-  unfolding follow andThen prepend
-  follow-on z o f = rw (e, follow, andThen) (rw (false-of (eqb y 0) (means-not (means-eq y 0) .shows z)) (ap (prepend x) f))
+module _ (P : ℕ → Type 0) (step : ℕ → Option ℕ) (m : ℕ) where
+  pub followed-none : Followed P step m 0 []
+  followed-none =
+      record {
+        trail = record { first = refl; inside = λ i h. absurd (omega arith); steps = λ i h. absurd (omega arith) };
+        stops = λ h. absurd (omega arith);
+        once = λ i j h k e. absurd (omega arith);
+        short = omega arith;
+      }
+
+  pub nonempty : (start : ℕ) (o : List ℕ) → Followed P step m start o → (start ≡ 0 → ⊥) → 0 < length o
+  nonempty start [] f d = absurd (d (sym (f .trail .first)))
+  nonempty start (x ∷ o) f d = omega arith
+
+module _ (step : ℕ → Option ℕ) (j x y : ℕ) (d : x ≡ 0 → ⊥) (e : step x ≡ some y) where
+  follow-on : (o : List ℕ) → follow step j y ≡ some o → follow step (suc j) x ≡ some (x ∷ o)
+  unfolding follow prepend
+  follow-on o f =
+      rw (false-of (eqb x 0) (means-not (means-eq x 0) .shows d), follow) (and-then _ e ∙ ap (prepend x) f)
 
 module _ (P : ℕ → Type 0) (step : ℕ → Option ℕ) where
   trail-one : (x : ℕ) → P x → Trail P step x (x ∷ [])
   trail-one x p =
       record {
-        nonempty = omega arith;
         first = refl;
         inside = λ i h. let e : i ≡ 0 = omega arith in rw e p;
         steps = λ i h. absurd (omega arith);
       }
 
   trail-more : (x y : ℕ) (o : List ℕ) → P x → step x ≡ some y → Trail P step y o → Trail P step x (x ∷ o)
-  trail-more x y o p e t = record { nonempty = omega arith; first = refl; inside = inside; steps = steps }
+  trail-more x y o p e t = record { first = refl; inside = inside; steps = steps }
     where
       inside : (i : ℕ) → i < suc (length o) → P (at (x ∷ o) i)
       inside zero h = p
@@ -70,23 +86,26 @@ module _ (P : ℕ → Type 0) (step : ℕ → Option ℕ) where
 
   -- with j steps allowed, either the end comes, or there are j + 1 entries without an end
   data Outcome (j x : ℕ) : Type 0 where
-    ended : (o : List ℕ) → follow step j x ≡ some o → Trail P step x o → step (at o (length o - 1)) ≡ some 0 → Outcome j x
+    ended : (o : List ℕ) → 0 < length o → follow step j x ≡ some o → Trail P step x o → step (at o (length o - 1)) ≡ some 0 → Outcome j x
     going : (o : List ℕ) → length o ≡ suc j → Trail P step x o → Outcome j x
 
   outcome : (m start : ℕ) (key : ℕ → ℕ) → Steady P step m start key → (j x : ℕ) → P x → Outcome j x
   outcome m start key s zero x p = going (x ∷ []) refl (trail-one x p)
   outcome m start key s (suc j) x p =
-      let (y, e, q) = s .goes x p in go y e (zero-or y) (λ d. q d) (λ d. outcome m start key s j y (q d))
+      let (y, e, q) = s .goes x p in go y e (zero-or y) (λ d. outcome m start key s j y (q d))
     where
-      more : (y : ℕ) → step x ≡ some y → (y ≡ 0 → ⊥) → Outcome j y → Outcome (suc j) x
-      more y e d (ended o f t z) =
-          let q : suc (length o) - 1 ≡ suc (length o - 1) = omega (arith, t .nonempty) in
-          ended (x ∷ o) (follow-on step j x y e d o f) (trail-more x y o p e t) (ap (λ i. step (at (x ∷ o) i)) q ∙ z)
-      more y e d (going o l t) = going (x ∷ o) (ap suc l) (trail-more x y o p e t)
+      more : (y : ℕ) → step x ≡ some y → Outcome j y → Outcome (suc j) x
+      more y e (ended o l f t z) =
+          let q : suc (length o) - 1 ≡ suc (length o - 1) = omega arith in
+          ended (x ∷ o) (omega arith) (follow-on step j x y (s .positive x p) e o f) (trail-more x y o p e t)
+          (ap (λ i. step (at (x ∷ o) i)) q ∙ z)
+      more y e (going o l t) = going (x ∷ o) (ap suc l) (trail-more x y o p e t)
 
-      go : (y : ℕ) → step x ≡ some y → (y ≡ 0) ⊎ (y ≡ 0 → ⊥) → ((y ≡ 0 → ⊥) → P y) → ((y ≡ 0 → ⊥) → Outcome j y) → Outcome (suc j) x
-      go y e (inl z) q r = ended (x ∷ []) (follow-stop step j x y e z) (trail-one x p) (e ∙ ap some z)
-      go y e (inr d) q r = more y e d (r d)
+      go : (y : ℕ) → step x ≡ some y → (y ≡ 0) ⊎ (y ≡ 0 → ⊥) → ((y ≡ 0 → ⊥) → Outcome j y) → Outcome (suc j) x
+      go y e (inl z) r =
+          ended (x ∷ []) (omega arith) (follow-on step j x y (s .positive x p) e [] (rw z (follow-none step j)))
+          (trail-one x p) (e ∙ ap some z)
+      go y e (inr d) r = more y e (r d)
 
 module _ (P : ℕ → Type 0) (step : ℕ → Option ℕ) (m start : ℕ) (key : ℕ → ℕ) (s : Steady P step m start key) where
   -- going back from two equal entries leads to the start, to which nothing leads
@@ -119,5 +138,5 @@ module _ (P : ℕ → Type 0) (step : ℕ → Option ℕ) (m start : ℕ) (key :
   followed = go (outcome P step m start key s m start (s .begins))
     where
       go : Outcome P step m start → (o : List ℕ) × (follow step m start ≡ some o) × Followed P step m start o
-      go (ended o f t z) = (o, f, record { trail = t; stops = z; once = trail-once o t; short = trail-short o t })
+      go (ended o l f t z) = (o, f, record { trail = t; stops = λ h. z; once = trail-once o t; short = trail-short o t })
       go (going o l t) = absurd (omega (arith, trail-short o t))

@@ -13,9 +13,9 @@ pub mod Deciding
 pub mod Described
 pub mod Answers
 pub mod Recovering
+pub mod Reads
 pub mod Follows
 pub mod Built
-pub mod Reads
 pub mod Rims
 pub mod Rings
 pub mod Opposites
@@ -23,4 +23,5 @@ pub mod Loops
 pub mod Neighbours
 pub mod Sound
 pub mod Walkers
+pub mod Vertices
 pub mod Served

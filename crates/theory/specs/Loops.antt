@@ -13,9 +13,9 @@ use Rattle.lists.specs.Search.{at}
 use Rattle.rules.specs.Elements.{Side, origin, destination}
 use Rattle.rules.specs.Tables.{partner, borderNumber, borders, b2e, v2e}
 use Rattle.rules.specs.Queries.{isBorderCode, borderNext, loopNext, borderLoop}
-use Rattle.theory.specs.Entries.{length-b2e, number-from, number-to, number-inj, numbered-border, VertexEntry, rim, inner, vertex-entry}
+use Rattle.theory.specs.Entries.{length-b2e, number-from, number-to, number-inj, numbered-border, VertexEntry, rim, inner, unused, vertex-entry}
 use Rattle.theory.specs.Orders.{Good}
-use Rattle.theory.specs.Follows.{Steady, followed}
+use Rattle.theory.specs.Follows.{Steady, nonempty, followed}
 use Rattle.theory.specs.Built.{built, border-code, read-valid, read-border-side, read-origin}
 use Rattle.theory.specs.Reads.{and-then}
 use Rattle.theory.specs.Rims.{BorderInto, border-leads, one-border-from}
@@ -51,7 +51,8 @@ module _ (n : ℕ) (L : List ℕ) (g : Good n L) where
             ∙ and-then _ (read-origin n L (g .fit) s a)
             ∙ rw e (read-valid (isBorderCode (built n L)) (8 * borderNumber L r) (border-code n L r b y)),
       )
-      go (inner f q) =
+      go (unused f e) = absurd (f s (a, refl))
+      go (inner f c q) =
           let (o, x) = g .orders (origin L s) (g .fit .from s a) (g .fit .to s a) in
           let (r, (b, y, d)) = border-leads L (g .pairing) (origin L s) o x s (a, refl) z in
           absurd (f r b y d)
@@ -112,7 +113,7 @@ module _ (n : ℕ) (L : List ℕ) (g : Good n L) where
         bs,
         e,
         record {
-          nonempty = f .trail .nonempty;
+          nonempty = nonempty (Border L) (loopNext (built n L) b) (length (b2e L)) b bs f (λ z. omega arith);
           first = f .trail .first;
           short = omega (arith, f .short, length-b2e L);
           inside = f .trail .inside;

@@ -3,21 +3,22 @@
 use mathlib.Core.Path.{_≡_, refl, ap, sym, _∙_}
 use mathlib.Core.Logic.{_⊎_, inl, inr}
 use mathlib.Core.Option.{some}
-use mathlib.Core.List.{List, _∷_}
+use mathlib.Core.List.{List, [], _∷_}
 use Prim.Native.Nat.{ℕ, zero, suc, _≤_, _<_}
 use native.Mathlib.Omega.{arith}
 use lib.ListN.{length}
 use Rattle.lists.specs.TestLaws.{means-eq, zero-or}
 use Rattle.lists.specs.Search.{at}
-use Rattle.rules.specs.Elements.{Side, origin, destination}
+use Rattle.rules.specs.Elements.{Side, origin, destination, next}
 use Rattle.rules.specs.Pairing.{SideAt, TurnOrder}
-use Rattle.rules.specs.Tables.{partner, borderNumber}
+use Rattle.rules.specs.Tables.{partner}
 use Rattle.rules.specs.Queries.{prepend, over, readDestination, ringSides, neighbours}
 use Rattle.theory.specs.Sides.{side-positive}
+use Rattle.theory.specs.Steps.{next-side}
 use Rattle.theory.specs.FitRows.{ends-differ}
 use Rattle.theory.specs.Pairings.{means-alike, means-opposed, means-joins, means-no-alike, pairing-exists}
 use Rattle.theory.specs.Orders.{Good, one-border-into}
-use Rattle.theory.specs.Built.{built, by-side, by-border, read-border-side, read-origin, read-destination, ReadEntry, rim, inner, read-entry}
+use Rattle.theory.specs.Built.{built, by-entry-side, by-entry-border, read-border-side, read-origin, read-destination, ReadEntry, rim, inner, unused, read-entry}
 use Rattle.theory.specs.Reads.{and-then, Mapped, read-all}
 use Rattle.theory.specs.Rims.{BorderInto}
 use Rattle.theory.specs.Rings.{the-ring}
@@ -104,6 +105,15 @@ module _ (n : ℕ) (L : List ℕ) (g : Good n L) where
         once (suc i) zero h k e = absurd (fresh i (omega arith) (sym e))
         once (suc i) (suc j) h k e = ap suc (leave-once i j (omega arith) (omega arith) e)
 
+  -- a vertex without sides is joined to none: a side that ends there is followed by one that begins there
+  unused-joined : (v : ℕ) → ((s : ℕ) → SideAt L v s → ⊥) → ListsJoined L v []
+  unused-joined v none =
+      record { sound = λ i h. absurd (omega arith); complete = λ u j. absurd (never u j); once = λ i j h k e. absurd (omega arith) }
+    where
+      never : (u : ℕ) → Joined L v u → ⊥
+      never u (leaves s a e) = none s a
+      never u (arrives s (a, p) d) = none (next L s) (next-side L s a, d)
+
   module _ (v : ℕ) (h : 1 ≤ v) (k : v ≤ n) where
     -- theorem 6: the neighbours are the vertices joined to v by a side, none twice
     pub neighbours-joined : (us : List ℕ) × (neighbours (built n L) v ≡ some us) × ListsJoined L v us
@@ -111,7 +121,7 @@ module _ (n : ℕ) (L : List ℕ) (g : Good n L) where
     neighbours-joined =
         let r = the-ring n L g v h k in
         let (ds, e, m) = read-all (readDestination (built n L)) (λ s. destination L s) (r .sides) (λ i l. read-destination n L (g .fit) (at (r .sides) i) (r .order .sides i l .0)) in
-        go (r .sides) (r .order) ds m (ap (over (readDestination (built n L))) (r .listed) ∙ e) (read-entry n L g v h k)
+        go (r .sides) (r .order) ds m (ap (over (readDestination (built n L))) (r .listed) ∙ e) (read-entry n L v h k)
       where
         go : (o : List ℕ) → TurnOrder L (partner L) v o → (ds : List ℕ) → Mapped (λ s. destination L s) o ds
             → over (readDestination (built n L)) (ringSides (built n L) v) ≡ some ds → ReadEntry n L v
@@ -119,10 +129,11 @@ module _ (n : ℕ) (L : List ℕ) (g : Good n L) where
         go o x ds m e (rim r a z d f) = (
           origin L r ∷ ds,
           and-then _ f
-              ∙ by-border (borderNumber L r) _ _
+              ∙ by-entry-border L r _ _ _
               ∙ and-then _ (read-border-side n L r a z)
               ∙ and-then _ (read-origin n L (g .fit) r a)
               ∙ ap (prepend (origin L r)) e,
           rim-joined v o ds x m r (a, z, d),
         )
-        go o x ds m e (inner free s a f) = (ds, and-then _ f ∙ by-side L s _ _ (a .0) ∙ e, inner-joined v o ds x m free)
+        go o x ds m e (unused none f) = ([], and-then _ f, unused-joined v none)
+        go o x ds m e (inner free s a f) = (ds, and-then _ f ∙ by-entry-side L s _ _ _ (a .0) ∙ e, inner-joined v o ds x m free)

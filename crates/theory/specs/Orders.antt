@@ -2,7 +2,7 @@
 -- Assumes nothing.
 use mathlib.Core.Path.{_≡_, ap, sym, _∙_}
 use mathlib.Core.Logic.{_⊎_, inl, inr}
-use mathlib.Core.List.{List}
+use mathlib.Core.List.{List, []}
 use Prim.Native.Nat.{ℕ, zero, suc, _-_, _≤_, _<_}
 use native.Mathlib.Omega.{arith}
 use lib.ListN.{length}
@@ -22,16 +22,16 @@ module _ (L : List ℕ) (π ρ : ℕ → ℕ) (same : (s : ℕ) → Side L s →
   turn-same s t a x = ((λ z. x .0 (same s a ∙ z)), ap (next L) (sym (same s a)) ∙ x .1)
 
 module _ (L : List ℕ) (π ρ : ℕ → ℕ) (same : (s : ℕ) → Side L s → π s ≡ ρ s) where
-  pub order-same : (v : ℕ) (o : List ℕ) → 0 < length o → TurnOrder L π v o → TurnOrder L ρ v o
-  order-same v o h x =
-      let last = x .sides (length o - 1) (omega arith) .0 in
+  pub order-same : (v : ℕ) (o : List ℕ) → TurnOrder L π v o → TurnOrder L ρ v o
+  order-same v o x =
       record {
         sides = x .sides;
         all = x .all;
         once = x .once;
         turns = λ i k. turn-same L π ρ same (at o i) (at o (suc i)) (x .sides i (omega arith) .0) (x .turns i k);
-        ends =
-            elim (x .ends) [
+        ends = λ h.
+            let last = x .sides (length o - 1) (omega arith) .0 in
+            elim (x .ends h) [
               | inl t ↦ inl (turn-same L π ρ same (at o (length o - 1)) (at o 0) last t)
               | inr (z, f) ↦
                   inr (
@@ -45,13 +45,18 @@ module _ (L : List ℕ) (π ρ : ℕ → ℕ) (same : (s : ℕ) → Side L s →
 pub record Good (n : ℕ) (L : List ℕ) : Type 0 where
   pub fit : Fit n L
   pub pairing : Pairing L (partner L)
-  pub used : (v : ℕ) → 1 ≤ v → v ≤ n → (s : ℕ) × SideAt L v s
   pub orders : (v : ℕ) → 1 ≤ v → v ≤ n → (o : List ℕ) × TurnOrder L (partner L) v o
 
-module _ (L : List ℕ) (π : ℕ → ℕ) (v : ℕ) (o : List ℕ) where
-  -- a turn order of a vertex with a side isn't empty
-  pub order-nonempty : (s : ℕ) → SideAt L v s → TurnOrder L π v o → 0 < length o
-  order-nonempty s a x = let (i, h, e) = x .all s a in omega arith
+-- an empty turn order counts where a vertex has no side
+pub order-empty : (L : List ℕ) (π : ℕ → ℕ) (v : ℕ) → ((s : ℕ) → SideAt L v s → ⊥) → TurnOrder L π v []
+order-empty L π v f =
+    record {
+      sides = λ i h. absurd (omega arith);
+      all = λ s a. absurd (f s a);
+      once = λ i j h k e. absurd (omega arith);
+      turns = λ i h. absurd (omega arith);
+      ends = λ h. absurd (omega arith);
+    }
 
 pub good : (n : ℕ) (L : List ℕ) → Accepted n L → Good n L
 good n L x =
@@ -62,11 +67,8 @@ good n L x =
     record {
       fit = fit;
       pairing = q;
-      used = x .ordered .used;
       orders = λ v a b.
-          let (s, w) = x .ordered .used v a b in
-          let (o, y) = x .ordered .orders v a b in
-          (o, order-same L π (partner L) (pairing-unique L π (partner L) p q) v o (order-nonempty L π v o s w y) y);
+          let (o, y) = x .ordered .orders v a b in (o, order-same L π (partner L) (pairing-unique L π (partner L) p q) v o y);
     }
 
 pub accepted-of : (n : ℕ) (L : List ℕ) → Good n L → Accepted n L
@@ -74,7 +76,7 @@ accepted-of n L g =
     record {
       rows = means-fit n L .shows (g .fit);
       pairing = partner L;
-      ordered = record { pairing = g .pairing; used = g .used; orders = g .orders };
+      ordered = record { pairing = g .pairing; orders = g .orders };
     }
 
 module _ (L : List ℕ) (p : Pairing L (partner L)) where

@@ -48,7 +48,7 @@ module _ (L : List ℕ) (p : Pairing L (partner L)) (v : ℕ) (o : List ℕ) (x 
   border-leads s a z =
       let (i, h, e) = x .all s a in
       let w = ap (partner L) e ∙ z in
-      go (omega arith) (ap (λ (j : ℕ). partner L (at o j)) (sym (border-last i h w)) ∙ w) (x .ends)
+      go (omega arith) (ap (λ (j : ℕ). partner L (at o j)) (sym (border-last i h w)) ∙ w) (x .ends (omega arith))
     where
       go : 0 < length o → partner L (at o (length o - 1)) ≡ 0 → Ends L o → (r : ℕ) × BorderInto L v r
       go h w (inl t) = absurd (t .0 w)

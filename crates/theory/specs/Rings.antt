@@ -3,7 +3,7 @@
 use mathlib.Core.Path.{_≡_, refl, ap, sym, _∙_}
 use mathlib.Core.Logic.{_⊎_, inl, inr}
 use mathlib.Core.Option.{some}
-use mathlib.Core.List.{List}
+use mathlib.Core.List.{List, []}
 use Prim.Native.Nat.{ℕ, zero, suc, _+_, _-_, _≤_, _<_}
 use native.Mathlib.Omega.{arith}
 use lib.Dec.{eqb}
@@ -18,11 +18,13 @@ use Rattle.theory.specs.Sides.{side-facts, side-positive}
 use Rattle.theory.specs.Steps.{next-side}
 use Rattle.theory.specs.FitRows.{Fit}
 use Rattle.theory.specs.Pairings.{partner-opposed}
-use Rattle.theory.specs.Orders.{Good, turn-origin, turn-inj, after-border, first-after, begins}
-use Rattle.theory.specs.Follows.{Steady, Followed, followed}
-use Rattle.theory.specs.Built.{built, by-side, by-border, read-paired, read-border, read-border-side, ReadEntry, rim, inner, read-entry}
+use Rattle.theory.specs.Orders.{Good, order-empty, turn-origin, turn-inj, after-border, first-after, begins}
+use Rattle.theory.specs.Walking.{Start, after, side, nowhere}
+use Rattle.theory.specs.Follows.{Steady, Followed, follow-none, followed-none, nonempty, followed}
+use Rattle.theory.specs.Built.{built, by-side, by-border, by-entry-side, by-entry-border, read-paired, read-border, read-border-side}
+use Rattle.theory.specs.Built.{ReadEntry, rim, inner, unused, read-entry}
 use Rattle.theory.specs.Reads.{and-then, Mapped, read-all}
-use Rattle.theory.specs.Rims.{BorderInto, Ends, border-leads}
+use Rattle.theory.specs.Rims.{Ends, border-leads}
 
 -- what comes after side s in the ring that begins at start
 pub data Onward (n : ℕ) (L : List ℕ) (start s : ℕ) : Type 0 where
@@ -57,29 +59,22 @@ module _ (n : ℕ) (L : List ℕ) (start : ℕ) where
       go (back u f) = let q : t ≡ 0 = cc in absurd (d q)
       go (on r u k f) = let q : r ≡ t = cc in (rw q at u, rw q at k)
 
--- where a ring begins: after the border side that ends at v, or anywhere about v where none ends
-pub data Start (L : List ℕ) (v start : ℕ) : Type 0 where
-  rims : (r : ℕ) → BorderInto L v r → next L r ≡ start → Start L v start
-  inside : ((r : ℕ) → BorderInto L v r → ⊥) → Start L v start
-
 -- t stands in o
 abbrev Met : List ℕ → ℕ → Type 0
 Met o t = (i : ℕ) × (i < length o) × (at o i ≡ t)
 
-module _ (n : ℕ) (L : List ℕ) (g : Good n L) (v : ℕ) (h : 1 ≤ v) (k : v ≤ n) where
-  pub start : (s : ℕ) × (startSide (built n L) v ≡ some s) × SideAt L v s × Start L v s
-  unfolding startSide
-  start = go (read-entry n L g v h k)
-    where
-      go : ReadEntry n L v → (s : ℕ) × (startSide (built n L) v ≡ some s) × SideAt L v s × Start L v s
-      go (rim r a z d e) = (
-        next L r,
-        and-then _ e ∙ by-border (borderNumber L r) _ _ ∙ and-then _ (read-border-side n L r a z),
-        (next-side L r a, d),
-        rims r (a, z, d) refl,
-      )
-      go (inner f s a e) = (s, and-then _ e ∙ by-side L s _ _ (a .0), a, inside (λ r (b, z, d). f r b z d))
+-- a ring begins where the walk about its vertex does
+pub start : (n : ℕ) (L : List ℕ) (v : ℕ) → 1 ≤ v → v ≤ n → (s : ℕ) × (startSide (built n L) v ≡ some s) × Start L v s
+unfolding startSide
+start n L v h k = go (read-entry n L v h k)
+  where
+    go : ReadEntry n L v → (s : ℕ) × (startSide (built n L) v ≡ some s) × Start L v s
+    go (rim r a z d e) =
+        (next L r, and-then _ e ∙ by-entry-border L r _ _ _ ∙ and-then _ (read-border-side n L r a z), after r a z d refl)
+    go (inner f s a e) = (s, and-then _ e ∙ by-entry-side L s _ _ _ (a .0), side f a)
+    go (unused f e) = (0, and-then _ e, nowhere f refl)
 
+module _ (n : ℕ) (L : List ℕ) (g : Good n L) (v : ℕ) where
   -- the sides about v have elements of their own, and turning is one to one
   ring-steady : (s : ℕ) → SideAt L v s → Steady (SideAt L v) (onward (built n L) s) (elements L) s (λ x. element x)
   ring-steady s b =
@@ -102,18 +97,21 @@ module _ (n : ℕ) (L : List ℕ) (g : Good n L) (v : ℕ) (h : 1 ≤ v) (k : v 
           (t, e, λ w. let (b, o) = turn-origin L (g .pairing) x t (a .0) u in (b, o ∙ a .1))
 
   module _ (s : ℕ) (b : SideAt L v s) (st : Start L v s) (o : List ℕ) (f : Followed (SideAt L v) (onward (built n L) s) (elements L) s o) where
+    some-side : 0 < length o
+    some-side = nonempty (SideAt L v) (onward (built n L) s) (elements L) s o f (side-positive L s (b .0))
+
     -- with a side its turn is met
     turn-met : (t : ℕ) → (i : ℕ) → i < length o → Turn L (partner L) (at o i) t → Met o t
     turn-met t i l u = go (onward-is n L s (at o i) (f .trail .inside i l .0)) (decide (means-lt (suc i) (length o)))
       where
         go : Onward n L s (at o i) → (suc i < length o) ⊎ (suc i < length o → ⊥) → Met o t
         go (stops z e) q = absurd (u .0 z)
-        go (back w e) q = (0, f .trail .nonempty, f .trail .first ∙ sym (w .1) ∙ u .1)
+        go (back w e) q = (0, some-side, f .trail .first ∙ sym (w .1) ∙ u .1)
         go (on r w d e) (inl q) =
             let c : r ≡ at o (suc i) = let c′ = f .trail .steps i q in cc in (suc i, q, sym c ∙ sym (w .1) ∙ u .1)
         go (on r w d e) (inr q) =
             let c : i ≡ length o - 1 = omega arith in
-            let c′ : onward (built n L) s (at o i) ≡ some 0 = ap (λ (j : ℕ). onward (built n L) s (at o j)) c ∙ f .stops in
+            let c′ : onward (built n L) s (at o i) ≡ some 0 = ap (λ (j : ℕ). onward (built n L) s (at o j)) c ∙ f .stops some-side in
             let c″ : r ≡ 0 = cc in
             absurd (side-positive L r (turn-origin L (g .pairing) (at o i) r (f .trail .inside i l .0) w .0) c″)
 
@@ -130,18 +128,18 @@ module _ (n : ℕ) (L : List ℕ) (g : Good n L) (v : ℕ) (h : 1 ≤ v) (k : v 
       first-met = go st
         where
           go : Start L v s → Met o (at y 0)
-          go (rims r (a, z, d) e) =
-              (0, f .trail .nonempty, f .trail .first ∙ sym e ∙ sym (first-after L (g .pairing) v y x r a z d))
-          go (inside free) =
+          go (nowhere none e) = absurd (none s b)
+          go (after r a z d e) = (0, some-side, f .trail .first ∙ e ∙ sym (first-after L (g .pairing) v y x r a z d))
+          go (side free c) =
               let (j, l, e) = x .all s b in
-              let m = rest-met j (length y - 1 - j) (omega arith) (0, f .trail .nonempty, f .trail .first ∙ sym e) in
+              let m = rest-met j (length y - 1 - j) (omega arith) (0, some-side, f .trail .first ∙ sym e) in
               let q : j + (length y - 1 - j) ≡ length y - 1 = omega arith in
-              closed (rw q at m) (x .ends) (omega arith)
+              closed (rw q at m) (x .ends (omega arith)) (omega arith)
             where
               closed : Met o (at y (length y - 1)) → Ends L y → 0 < length y → Met o (at y 0)
               closed (a, q, c) (inl u) l = turn-met (at y 0) a q (rw c u)
               closed m (inr (z, w)) l =
-                  let (r, a, z, d, e) = begins L (g .pairing) v y x l w in absurd (free r (a, z, d))
+                  let (r, a, z, d, e) = begins L (g .pairing) v y x l w in absurd (free r a z d)
 
       all-met : (t : ℕ) → SideAt L v t → Met o t
       all-met t a =
@@ -153,7 +151,7 @@ module _ (n : ℕ) (L : List ℕ) (g : Good n L) (v : ℕ) (h : 1 ≤ v) (k : v 
       ring-order : TurnOrder L (partner L) v o
       ring-order =
           let last = length o - 1 in
-          let l : last < length o = omega (arith, f .trail .nonempty) in
+          let l : last < length o = omega (arith, some-side) in
           record {
             sides = f .trail .inside;
             all = all-met;
@@ -161,28 +159,28 @@ module _ (n : ℕ) (L : List ℕ) (g : Good n L) (v : ℕ) (h : 1 ≤ v) (k : v 
             turns = λ i q.
                 onward-turn n L s (at o i) (at o (suc i)) (f .trail .inside i (omega arith) .0)
                 (side-positive L (at o (suc i)) (f .trail .inside (suc i) q .0)) (f .trail .steps i q) .0;
-            ends = ends (onward-is n L s (at o last) (f .trail .inside last l .0));
+            ends = λ _. ends (onward-is n L s (at o last) (f .trail .inside last l .0));
           }
         where
           nobody : partner L (at o (length o - 1)) ≡ 0 → Start L v s → (t : ℕ) → Side L t → Turn L (partner L) t (at o 0) → ⊥
-          nobody z (rims r (a, y, d) e) t c u = after-border L (g .pairing) r t a y c (rw (f .trail .first ∙ sym e) at u)
-          nobody z (inside free) t c u =
-              let (r, q) = border-leads L (g .pairing) v y x (at o (length o - 1)) (f .trail .inside (length o - 1) (omega (arith, f .trail .nonempty))) z in
-              free r q
+          nobody z (nowhere none e) t c u = none s b
+          nobody z (after r a w d e) t c u = after-border L (g .pairing) r t a w c (rw (f .trail .first ∙ e) at u)
+          nobody z (side free d) t c u =
+              let (r, (a, w, e)) = border-leads L (g .pairing) v y x (at o (length o - 1)) (f .trail .inside (length o - 1) (omega (arith, some-side))) z in
+              free r a w e
 
           ends : Onward n L s (at o (length o - 1)) → Ends L o
           ends (stops z e) = inr (z, nobody z st)
           ends (back u e) = inl (rw (f .trail .first) u)
           ends (on t u d e) =
-              let c = f .stops in
+              let c = f .stops some-side in
               let c′ : t ≡ 0 = cc in
-              absurd (side-positive L t (turn-origin L (g .pairing) (at o (length o - 1)) t (f .trail .inside (length o - 1) (omega (arith, f .trail .nonempty)) .0) u .0) c′)
+              absurd (side-positive L t (turn-origin L (g .pairing) (at o (length o - 1)) t (f .trail .inside (length o - 1) (omega (arith, some-side)) .0) u .0) c′)
 
 -- the ring of v: its start, its sides
 pub record RingOf (n : ℕ) (L : List ℕ) (v : ℕ) : Type 0 where
   pub start : ℕ
   pub found : startSide (built n L) v ≡ some start
-  pub whence : Start L v start
   pub sides : List ℕ
   pub listed : ringSides (built n L) v ≡ some sides
   pub steps : Followed (SideAt L v) (onward (built n L) start) (elements L) start sides
@@ -216,19 +214,37 @@ lists-once n L fit v o es x m =
 module _ (n : ℕ) (L : List ℕ) (g : Good n L) (v : ℕ) (h : 1 ≤ v) (k : v ≤ n) where
   pub the-ring : RingOf n L v
   unfolding ringSides
-  the-ring =
-      let (s, e, b, st) = start n L g v h k in
-      let (o, q, f) = followed (SideAt L v) (onward (built n L) s) (elements L) s (λ x. element x) (ring-steady n L g v h k s b) in
-      let (y, x) = g .orders v h k in
-      record {
-        start = s;
-        found = e;
-        whence = st;
-        sides = o;
-        listed = and-then _ e ∙ q;
-        steps = f;
-        order = ring-order n L g v h k s b st o f y x;
-      }
+  the-ring = let (s, e, st) = start n L v h k in go s e st
+    where
+      about : (s : ℕ) → startSide (built n L) v ≡ some s → SideAt L v s → Start L v s → RingOf n L v
+      about s e b st =
+          let (o, q, f) = followed (SideAt L v) (onward (built n L) s) (elements L) s (λ x. element x) (ring-steady n L g v s b) in
+          let (y, x) = g .orders v h k in
+          record {
+            start = s;
+            found = e;
+            sides = o;
+            listed = and-then _ e ∙ q;
+            steps = f;
+            order = ring-order n L g v s b st o f y x;
+          }
+
+      -- without sides: the empty list, from 0
+      nothing : startSide (built n L) v ≡ some 0 → ((s : ℕ) → SideAt L v s → ⊥) → RingOf n L v
+      nothing e none =
+          record {
+            start = 0;
+            found = e;
+            sides = [];
+            listed = and-then _ e ∙ follow-none (onward (built n L) 0) (elements L);
+            steps = followed-none (SideAt L v) (onward (built n L) 0) (elements L);
+            order = order-empty L (partner L) v none;
+          }
+
+      go : (s : ℕ) → startSide (built n L) v ≡ some s → Start L v s → RingOf n L v
+      go s e (nowhere none z) = nothing (e ∙ ap some z) none
+      go s e (side f b) = about s e b (side f b)
+      go s e (after r a z d q) = about s e (rw q (next-side L r a, d)) (after r a z d q)
 
   -- theorem 6: the ring lists every element with this corner exactly once
   pub ring-lists : (es : List ℕ) × (ring (built n L) v ≡ some es) × ListsOnce L v es × Mapped (λ s. element s) (the-ring .sides) es

@@ -20,12 +20,13 @@ use Rattle.rules.specs.Queries.{borderLoopAnswer, startAnswer}
 use Rattle.theory.specs.Entries.{length-b2e, number-from, number-to, numbered-border}
 use Rattle.theory.specs.Orders.{Good, good}
 use Rattle.theory.specs.Built.{built, asked-built, HalfEdge, side, border, means-half, means-vertex, read-paired, read-border, read-border-side}
-use Rattle.theory.specs.Built.{read-origin, read-destination, ReadEntry, rim, inner, read-entry}
+use Rattle.theory.specs.Built.{read-origin, read-destination, ReadEntry, rim, inner, unused, read-entry}
 use Rattle.theory.specs.Rings.{ListsOnce, the-ring, ring-lists}
 use Rattle.theory.specs.Opposites.{opposite-undone}
 use Rattle.theory.specs.Loops.{Border, LoopOf, border-loop}
 use Rattle.theory.specs.Neighbours.{ListsJoined, neighbours-joined}
 use Rattle.theory.specs.Walkers.{HandsOut, walker-hands}
+use Rattle.theory.specs.Vertices.{Tells, tells}
 use Rattle.theory.specs.Sound.{Sound, opposite-sound, next-sound, previous-sound, element-sound, origin-sound, destination-sound, across-sound}
 use Rattle.theory.specs.Sound.{half-edge-border-sound, vertex-border-sound, ring-sound, neighbours-sound, border-loop-sound, start-sound}
 
@@ -34,7 +35,7 @@ pub record Reads (n : ℕ) (L : List ℕ) (M : Mesh) : Type 0 where
   pub half-edges : (c : ℕ) → Means (isHalfEdge M c) (Side L c ⊎ ((b : ℕ) × Border L b × (c ≡ 8 * b)))
   pub opposites : (s : ℕ) → Side L s → (c : ℕ) × T (isHalfEdge M c) × (readOpposite M s ≡ some c)
   pub borders : (b : ℕ) → Border L b → (s : ℕ) × Side L s × (readBorderSide M (8 * b) ≡ some s)
-  pub entries : (v : ℕ) → 1 ≤ v → v ≤ n → (c : ℕ) × T (isHalfEdge M c) × (readVertexEntry M v ≡ some c)
+  pub entries : (v : ℕ) → 1 ≤ v → v ≤ n → (c : ℕ) × ((c ≡ 0) ⊎ T (isHalfEdge M c)) × (readVertexEntry M v ≡ some c)
   pub origins : (s : ℕ) → Side L s → readOrigin M s ≡ some (origin L s)
   pub destinations : (s : ℕ) → Side L s → readDestination M s ≡ some (destination L s)
 
@@ -64,6 +65,7 @@ pub record Served (n : ℕ) (L : List ℕ) (M : Mesh) : Type 0 where
   pub turns : (v : ℕ) → 1 ≤ v → v ≤ n → (o : List ℕ) × (ringSides M v ≡ some o) × TurnOrder L (partner L) v o
   pub rings : (v : ℕ) → 1 ≤ v → v ≤ n → (es : List ℕ) × (ring M v ≡ some es) × ListsOnce L v es
   pub joined : (v : ℕ) → 1 ≤ v → v ≤ n → (us : List ℕ) × (neighbours M v ≡ some us) × ListsJoined L v us
+  pub tells : (v : ℕ) → 1 ≤ v → v ≤ n → Tells L v (vertexBorderAnswer M v)
   pub undone : (c : ℕ) → T (isHalfEdge M c) → (d : ℕ) × T (isHalfEdge M d) × (opposite M c ≡ some d) × (opposite M d ≡ some c)
   pub loops : (b : ℕ) → Border L b → (bs : List ℕ) × (borderLoop M b ≡ some bs) × LoopOf L b bs
   pub sounds : Sounds M
@@ -78,7 +80,7 @@ module _ (n : ℕ) (L : List ℕ) (g : Good n L) where
         borders = λ b (h, k).
             let (s, a, z, e) = numbered-border L b h k in
             (s, a, ap (λ (x : ℕ). readBorderSide (built n L) (8 * x)) (sym e) ∙ read-border-side n L s a z);
-        entries = λ v h k. entries v (read-entry n L g v h k);
+        entries = λ v h k. entries v (read-entry n L v h k);
         origins = read-origin n L (g .fit);
         destinations = read-destination n L (g .fit);
       }
@@ -102,9 +104,10 @@ module _ (n : ℕ) (L : List ℕ) (g : Good n L) where
       opposites s a (inl z) = (8 * borderNumber L s, half _ (border s a z refl), read-border n L s a z)
       opposites s a (inr z) = (partner L s, half _ (side (g .pairing .mutually s a z .0)), read-paired n L s a z)
 
-      entries : (v : ℕ) → ReadEntry n L v → (c : ℕ) × T (isHalfEdge (built n L) c) × (readVertexEntry (built n L) v ≡ some c)
-      entries v (rim r a z d e) = (8 * borderNumber L r, half _ (border r a z refl), e)
-      entries v (inner f s a e) = (s, half s (side (a .0)), e)
+      entries : (v : ℕ) → ReadEntry n L v → (c : ℕ) × ((c ≡ 0) ⊎ T (isHalfEdge (built n L) c)) × (readVertexEntry (built n L) v ≡ some c)
+      entries v (rim r a z d e) = (8 * borderNumber L r, inr (half _ (border r a z refl)), e)
+      entries v (inner f s a e) = (s, inr (half s (side (a .0))), e)
+      entries v (unused f e) = (0, inl refl, e)
 
   sounds-of : Sounds (built n L)
   sounds-of =
@@ -137,6 +140,7 @@ served n L x =
       turns = λ v h k. let r = the-ring n L g v h k in (r .sides, r .listed, r .order);
       rings = λ v h k. let (es, e, l, m) = ring-lists n L g v h k in (es, e, l);
       joined = neighbours-joined n L g;
+      tells = tells n L (g .fit);
       undone = opposite-undone n L (g .pairing);
       loops = border-loop n L g;
       sounds = sounds-of n L g;

@@ -14,14 +14,14 @@ use Rattle.lists.specs.TestLaws.{Test, pass, fail, test, means-within, zero-or}
 use Rattle.rules.specs.Elements.{element, Side, isSide, origin, destination, next, previous}
 use Rattle.rules.specs.Tables.{partner, borderNumber, b2e}
 use Rattle.rules.specs.Refusals.{Answer, gives, refused}
-use Rattle.rules.specs.Queries.{asked, defined, found, listed, andThen, bySide, isHalfEdge, isVertex, readOpposite, readBorderSide, readVertexEntry, readOrigin}
+use Rattle.rules.specs.Queries.{asked, defined, found, listed, andThen, bySide, byEntry, isHalfEdge, isVertex, readOpposite, readBorderSide, readVertexEntry, readOrigin}
 use Rattle.rules.specs.Queries.{readDestination, opposite, borderNext, ring, neighbours, borderLoop, listedAnswer, oppositeAnswer, nextAnswer, previousAnswer}
 use Rattle.rules.specs.Queries.{elementAnswer, originAnswer, destinationAnswer, acrossAnswer, halfEdgeBorderAnswer, vertexBorderAnswer, ringAnswer}
 use Rattle.rules.specs.Queries.{neighboursAnswer, borderLoopAnswer, startAnswer}
 use Rattle.theory.specs.Entries.{length-b2e}
 use Rattle.theory.specs.Orders.{Good}
 use Rattle.theory.specs.Built.{built, asked-built, HalfEdge, side, border, by-side, by-border, means-half, means-vertex, read-paired, read-border}
-use Rattle.theory.specs.Built.{read-border-side, read-origin, read-destination, ReadEntry, rim, inner, read-entry}
+use Rattle.theory.specs.Built.{read-border-side, read-origin, read-destination, ReadEntry, rim, inner, unused, read-entry}
 use Rattle.theory.specs.Reads.{and-then}
 use Rattle.theory.specs.Rings.{start, ring-lists}
 use Rattle.theory.specs.Opposites.{opposite-undone}
@@ -123,11 +123,12 @@ module _ (n : ℕ) (L : List ℕ) (g : Good n L) where
 
   pub vertex-border-sound : (v : ℕ) → Sound (vertexBorderAnswer (built n L) v)
   unfolding vertexBorderAnswer
-  vertex-border-sound v = vertex-sound v _ (λ h k. go (read-entry n L g v h k))
+  vertex-border-sound v = vertex-sound v _ (λ h k. go (read-entry n L v h k))
     where
-      go : ReadEntry n L v → Sound (found (andThen (readVertexEntry (built n L) v) (λ c. some (bySide c 0 1))))
+      go : ReadEntry n L v → Sound (found (andThen (readVertexEntry (built n L) v) (λ c. some (byEntry c 2 0 1))))
       go (rim r a z d e) = found-sound _ _ (and-then _ e)
       go (inner f s a e) = found-sound _ _ (and-then _ e)
+      go (unused f e) = found-sound _ _ (and-then _ e)
 
   pub ring-sound : (v : ℕ) (out : List ℕ) → Sound (ringAnswer (built n L) v out)
   unfolding ringAnswer listedAnswer
@@ -151,4 +152,4 @@ module _ (n : ℕ) (L : List ℕ) (g : Good n L) where
   pub start-sound : (v : ℕ) → Sound (startAnswer (built n L) v)
   unfolding startAnswer
   start-sound v =
-      vertex-sound v _ (λ h k. let (s, e, a, w) = start n L g v h k in found-sound _ _ (and-then _ e))
+      vertex-sound v _ (λ h k. let (s, e, w) = start n L v h k in found-sound _ _ (and-then _ e))

@@ -72,7 +72,7 @@ module _ (n : ℕ) (L : List ℕ) (fit : Fit n L) where
         go (inr k) =
             let e : i ≡ length o - 1 = omega arith in
             ap (λ (j : ℕ). onward (built n L) s (at o j)) e
-            ∙ f .stops
+            ∙ f .stops (omega arith)
             ∙ ap some (sym (List·getD-eq-default o 0 (omega arith)))
 
     room : (i : ℕ) → i < length o → (at o (suc i) ≡ 0) ⊎ (i + 2 ≤ elements L)
@@ -84,7 +84,7 @@ module _ (n : ℕ) (L : List ℕ) (fit : Fit n L) where
 
     step-at : (i : ℕ) → i < length o → walkerStep (built n L) (walker s (at o i) i) ≡ gone (element (at o i)) (walker s (at o (suc i)) (suc i))
     step-at i h =
-        let a : Side L s = rw (f .trail .first) at (f .trail .inside 0 (f .trail .nonempty) .0) in
+        let a : Side L s = rw (f .trail .first) at (f .trail .inside 0 (omega arith) .0) in
         let e : i + 1 ≡ suc i = omega arith in
         step-on s (at o i) i (at o (suc i)) a (f .trail .inside i h .0) (omega (arith, f .short)) (onward-next i h) (room i h)
         ∙ ap (λ (j : ℕ). gone (element (at o i)) (walker s (at o (suc i)) j)) e
@@ -97,20 +97,22 @@ module _ (n : ℕ) (L : List ℕ) (fit : Fit n L) where
         ap (λ (w : Walker). walkerStep (built n L) w .walker) (stepped-at i (omega arith))
         ∙ ap (λ (w : Walked). w .walker) (step-at i (omega arith))
 
+    stepped-end : (i : ℕ) → i ≡ length o → stepped (built n L) (walker s s 0) i ≡ walker s 0 (length o)
+    stepped-end i e =
+        stepped-at i (omega arith)
+        ∙ ap (λ (j : ℕ). walker s (at o j) j) e
+        ∙ ap (λ (x : ℕ). walker s x (length o)) (List·getD-eq-default o 0 (omega arith))
+
     stepped-over : (i : ℕ) → length o ≤ i → stepped (built n L) (walker s s 0) i ≡ walker s 0 (length o)
     unfolding stepped
-    stepped-over zero h = absurd (omega (arith, f .trail .nonempty))
+    stepped-over zero h = stepped-end 0 (omega arith)
     stepped-over (suc i) h = go (decide (means-le (length o) i)) (λ k. stepped-over i k)
       where
         go : (length o ≤ i) ⊎ (length o ≤ i → ⊥) → (length o ≤ i → stepped (built n L) (walker s s 0) i ≡ walker s 0 (length o)) → stepped (built n L) (walker s s 0) (suc i) ≡ walker s 0 (length o)
         go (inl k) r =
             ap (λ (w : Walker). walkerStep (built n L) w .walker) (r k)
             ∙ ap (λ (w : Walked). w .walker) (step-rest s (length o))
-        go (inr k) r =
-            let e : suc i ≡ length o = omega arith in
-            stepped-at (suc i) (omega arith)
-            ∙ ap (λ (j : ℕ). walker s (at o j) j) e
-            ∙ ap (λ (x : ℕ). walker s x (length o)) (List·getD-eq-default o 0 (omega arith))
+        go (inr k) r = stepped-end (suc i) (omega arith)
 
     hands-out : (es : List ℕ) → Mapped (λ x. element x) o es → HandsOut (built n L) (walker s s 0) es
     hands-out es m =

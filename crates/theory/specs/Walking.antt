@@ -5,9 +5,8 @@ use mathlib.Core.Logic.{_⊎_, inl, inr}
 use mathlib.Core.List.{List}
 use Prim.Native.Nat.{ℕ, zero, suc, _-_, _≤_, _<_}
 use native.Mathlib.Omega.{arith}
-use lib.Dec.{eqb, T-not}
 use lib.ListN.{length, length-replicate}
-use Rattle.lists.specs.TestLaws.{means-eq, zero-or}
+use Rattle.lists.specs.TestLaws.{zero-or}
 use Rattle.lists.specs.Search.{at, zeros}
 use Rattle.lists.specs.SearchLaws.{Met, member, lt-or-eq, at-blank}
 use Rattle.rules.specs.Elements.{Side, slot, origin, destination, next}
@@ -15,9 +14,8 @@ use Rattle.rules.specs.Pairing.{Pairing, Turn, SideAt}
 use Rattle.rules.specs.Tables.{partner, e2e, v2e}
 use Rattle.rules.specs.Recovery.{walkStart, turnBy, trace, walkTo, walk}
 use Rattle.theory.specs.Sides.{side-positive, slot-inj}
-use Rattle.theory.specs.Least.{nobody, somebody}
 use Rattle.theory.specs.Steps.{next-side}
-use Rattle.theory.specs.Entries.{VertexEntry, rim, inner, vertex-entry, length-v2e}
+use Rattle.theory.specs.Entries.{VertexEntry, rim, inner, unused, vertex-entry, length-v2e}
 use Rattle.theory.specs.Turns.{side-e2e, e2e-side, turn-paired, turn-border, start-rim, start-side, start-none}
 use Rattle.theory.specs.Orders.{turn-origin}
 use Rattle.theory.specs.Tracing.{Path, traced}
@@ -33,9 +31,8 @@ start-at n L v a b = go (vertex-entry n L v a b)
   where
     go : {c : ℕ} → VertexEntry L v c → Start L v (walkStart (e2e L) c)
     go (rim r x z d e) = after r x z d (ap (walkStart (e2e L)) e ∙ start-rim L r x z)
-    go {c} (inner f (nobody e g)) =
-        nowhere (λ s (x, o). T-not (eqb (origin L s) v) (g s x) (means-eq (origin L s) v .shows o)) (ap (walkStart (e2e L)) e ∙ start-none L)
-    go {c} (inner f (somebody x t g)) = rw (start-side L c x) (side f (x, means-eq (origin L c) v .says t))
+    go {c} (inner f x g) = rw (start-side L c (x .0)) (side f x)
+    go (unused f e) = nowhere f (ap (walkStart (e2e L)) e ∙ start-none L)
 
 -- a vertex with a side has a start, which is a side at it
 pub start-side-at : (L : List ℕ) (v c s : ℕ) → SideAt L v s → Start L v c → SideAt L v c

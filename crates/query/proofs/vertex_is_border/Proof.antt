@@ -42,8 +42,8 @@ returns-2 c =
     admitted _ (refused read .vertex-refusal .ensures) _ (read .before .if1 .left)
     (c .refuse2 .ensures ∙ ap found (broken-then _ (read .read-vertex-entry .ensures) (told .enum-told .given .1)))
 
-border-answer-requires : tie.Need-border-answer-requires
-border-answer-requires c κs = search needs
+kind-answer-requires : tie.Need-kind-answer-requires
+kind-answer-requires c κs = search needs
 
 returns-3 : tie.Need-returns-3
 unfolding vertexBorderAnswer found
@@ -51,7 +51,7 @@ returns-3 c =
     let named = c .before .before in
     let read = named .before .before in
     admitted _ (refused read .vertex-refusal .ensures) _ (read .before .if1 .left)
-    (c .border-answer .ensures ∙ ap found (value-then _ (read .read-vertex-entry .ensures) (named .entry .given .1) refl))
+    (c .kind-answer .ensures ∙ ap found (value-then _ (read .read-vertex-entry .ensures) (named .entry .given .1) refl))
 
 pub vertex-is-border-spec : {M : Type 1} → statement M
 vertex-is-border-spec =
@@ -65,5 +65,5 @@ vertex-is-border-spec =
     enum-told
     refuse-requires-2
     returns-2
-    border-answer-requires
+    kind-answer-requires
     returns-3)

@@ -3,7 +3,7 @@
 use Prim.Native.Nat.{_≤_}
 use Rattle.reads.proofs.Readings.{read-at}
 use Rattle.reads.proofs.Tested.{vertex-facts}
-use Rattle.rules.specs.Queries.{isHalfEdge, readVertexEntry}
+use Rattle.rules.specs.Queries.{isEntry, readVertexEntry}
 use borrow.Author.Needs.{needs}
 use lib.ListN.{length}
 use native.Mathlib.Omega.{arith}
@@ -29,8 +29,8 @@ mul-code c = search needs
 shared-slice-read-code : tie.Need-shared-slice-read-code
 shared-slice-read-code c = omega (arith, numbered (c .before))
 
-is-half-edge-requires : tie.Need-is-half-edge-requires
-is-half-edge-requires c κs = search needs
+is-entry-requires : tie.Need-is-entry-requires
+is-entry-requires c κs = search needs
 
 checked-requires : tie.Need-checked-requires
 checked-requires c κs = search needs
@@ -40,7 +40,7 @@ unfolding readVertexEntry
 returns c =
     let tested = c .before in
     let index = tested .before .before in
-    read-at (isHalfEdge _) (begun index .args .v2e .now) (c .checked .ensures) (tested .is-half-edge .ensures) (index .wide .ensures)
+    read-at (isEntry _) (begun index .args .v2e .now) (c .checked .ensures) (tested .is-entry .ensures) (index .wide .ensures)
 
 pub read-vertex-entry-spec : {M : Type 1} → statement M
 read-vertex-entry-spec =
@@ -50,6 +50,6 @@ read-vertex-entry-spec =
     sub-code
     mul-code
     shared-slice-read-code
-    is-half-edge-requires
+    is-entry-requires
     checked-requires
     returns)

@@ -28,7 +28,7 @@ list-walk-requires : tie.Need-list-walk-requires
 list-walk-requires c κs =
     let x = c .before .before .border-refusal .ensures in
     let f = x .fit (c .before .if1 .left) in
-    ((f, means-within 1 _ _ .says (x .found (c .before .if1 .left))), omega (arith, f .border, f .elements))
+    ((f, λ d. means-within 1 _ _ .says (x .found (c .before .if1 .left))), omega (arith, f .border, f .elements))
 
 same-length : tie.Need-same-length
 same-length c = search needs

@@ -1,10 +1,9 @@
 -- `tabulate::tabulate_fit` meets its contract. The laws of its steps are in Results.
 -- Assumes nothing.
 use mathlib.Core.Path.{_≡_, sym, _∙_}
-use native.Mathlib.Omega.{arith}
 use borrow.Author.Needs.{needs}
-use Rattle.rules.specs.Refusals.{unusedVertex, crowdedSide}
-use Rattle.tabulate.specs.Results.{room, still, Prepared, prepared, refuses-5, refuses-6, refuses-7, ready, fit-on}
+use Rattle.rules.specs.Refusals.{crowdedSide}
+use Rattle.tabulate.specs.Results.{room, still, Prepared, prepared, refuses-6, refuses-7, ready, fit-on}
 use Rattle.tabulate.proofs.tabulate_fit.Statement.{statement}
 use Rattle.tabulate.proofs.tabulate_fit.Tie as tie
 
@@ -14,20 +13,17 @@ begun c = c .before .before .before .before
 abbrev grouped : tie.After-first-sides-arg → tie.After-siblings
 grouped c = c .before .before .before
 
-abbrev firsted : tie.After-unused-vertex-arg → tie.After-first-sides
+abbrev firsted : tie.After-crowded-side-arg → tie.After-first-sides
 firsted c = c .before .before .before
 
 -- where each check's search began
 abbrev start : tie.After-first-sides → tie.Start
 start c = begun (grouped (c .before) .before)
 
-abbrev at-5 : tie.After-unused-vertex → tie.After-first-sides
-at-5 c = firsted (c .before)
+abbrev at-6 : tie.After-crowded-side → tie.After-first-sides
+at-6 c = firsted (c .before)
 
-abbrev at-6 : tie.After-crowded-side → tie.Else1
-at-6 c = c .before .before
-
-abbrev at-7 : tie.After-alike-side → tie.Else2
+abbrev at-7 : tie.After-alike-side → tie.Else1
 at-7 c = c .before .before
 
 done : (c : tie.After-first-sides) →
@@ -37,15 +33,9 @@ done c =
     let was = grouped (c .before) in
     prepared (start c .pre) (was .before .before .wide .ensures) (was .siblings .ensures) (c .first-sides .ensures)
 
-unused : (c : tie.After-unused-vertex) → c .unused-vertex .result ≡ unusedVertex (start (at-5 c) .args .n) (start (at-5 c) .args .list .now)
-unused c = c .unused-vertex .ensures _ (done (at-5 c) .firsts)
-
--- check 5 found nothing; nor did check 6
-used : (c : tie.Else1) → let a = start (at-5 (c .before)) .args in unusedVertex (a .n) (a .list .now) ≡ 0
-used c = sym (unused (c .before)) ∙ c .if1 .left
-
-uncrowded : (c : tie.Else2) → crowdedSide (start (at-5 (at-6 (c .before) .before)) .args .list .now) ≡ 0
-uncrowded c = sym (c .before .crowded-side .ensures) ∙ c .if2 .left
+-- check 6 found nothing
+uncrowded : (c : tie.Else1) → crowdedSide (start (at-6 (c .before)) .args .list .now) ≡ 0
+uncrowded c = sym (c .before .crowded-side .ensures) ∙ c .if1 .left
 
 wide-requires : tie.Need-wide-requires
 wide-requires c κs = search needs
@@ -57,24 +47,25 @@ first-sides-requires : tie.Need-first-sides-requires
 first-sides-requires c κs =
     let was = grouped c in still (begun (was .before) .pre) (was .before .before .wide .ensures) (was .siblings .ensures)
 
-unused-vertex-requires : tie.Need-unused-vertex-requires
-unused-vertex-requires c κs = omega (arith, done (firsted c) .long)
+crowded-side-requires : tie.Need-crowded-side-requires
+crowded-side-requires c κs = done (firsted c) .mapped
 
-refuse-at-requires : tie.Need-refuse-at-requires
-refuse-at-requires c κs = search needs
+refusal-at-requires : tie.Need-refusal-at-requires
+refusal-at-requires c κs = search needs
 
 same-length : tie.Need-same-length
 same-length c = search needs
 
 returns : tie.Need-returns
 returns c =
-    let found = c .before .before in refuses-5 (done (at-5 found)) (unused found) (c .before .if1 .taken) (c .refuse-at .ensures)
+    let found = c .before .before in
+    refuses-6 (done (at-6 found)) (found .crowded-side .ensures) (c .before .if1 .taken) (c .refusal-at .ensures)
 
-crowded-side-requires : tie.Need-crowded-side-requires
-crowded-side-requires c κs = done (at-5 (c .before .before)) .mapped
+alike-side-requires : tie.Need-alike-side-requires
+alike-side-requires c κs = (done (at-6 (c .before .before)) .mapped, uncrowded (c .before))
 
-refusal-at-requires : tie.Need-refusal-at-requires
-refusal-at-requires c κs = search needs
+refusal-at-requires-2 : tie.Need-refusal-at-requires-2
+refusal-at-requires-2 c κs = search needs
 
 same-length-2 : tie.Need-same-length-2
 same-length-2 c = search needs
@@ -82,43 +73,24 @@ same-length-2 c = search needs
 returns-2 : tie.Need-returns-2
 returns-2 c =
     let found = c .before .before in
-    let was = at-6 found in
-    refuses-6 (done (at-5 (was .before))) (used was) (found .crowded-side .ensures) (c .before .if2 .taken) (c .refusal-at .ensures)
+    let one = at-7 found in
+    refuses-7 (done (at-6 (one .before))) (uncrowded one) (found .alike-side .ensures) (c .before .if2 .taken) (c .refusal-at2 .ensures)
 
-alike-side-requires : tie.Need-alike-side-requires
-alike-side-requires c κs =
-    let was = at-6 (c .before .before) in (done (at-5 (was .before)) .mapped, uncrowded (c .before))
-
-refusal-at-requires-2 : tie.Need-refusal-at-requires-2
-refusal-at-requires-2 c κs = search needs
+tabulate-paired-requires : tie.Need-tabulate-paired-requires
+tabulate-paired-requires c κs =
+    let found = c .before .before in
+    let one = at-7 found in
+    ready (done (at-6 (one .before))) (uncrowded one) (sym (found .alike-side .ensures) ∙ c .before .if2 .left)
 
 same-length-3 : tie.Need-same-length-3
 same-length-3 c = search needs
 
 returns-3 : tie.Need-returns-3
 returns-3 c =
-    let found = c .before .before in
-    let two = at-7 found in
-    let was = at-6 (two .before) in
-    refuses-7 (done (at-5 (was .before))) (used was) (uncrowded two) (found .alike-side .ensures) (c .before .if3 .taken) (c .refusal-at2 .ensures)
-
-tabulate-paired-requires : tie.Need-tabulate-paired-requires
-tabulate-paired-requires c κs =
-    let found = c .before .before in
-    let two = at-7 found in
-    let was = at-6 (two .before) in
-    ready (done (at-5 (was .before))) (used was) (uncrowded two) (sym (found .alike-side .ensures) ∙ c .before .if3 .left)
-
-same-length-4 : tie.Need-same-length-4
-same-length-4 c = search needs
-
-returns-4 : tie.Need-returns-4
-returns-4 c =
     let paired = c .before .before in
     let apart = paired .before .before in
-    let two = at-7 (apart .before) in
-    let was = at-6 (two .before) in
-    fit-on (done (at-5 (was .before))) (used was) (uncrowded two) (sym (apart .before .alike-side .ensures) ∙ apart .if3 .left) (paired .tabulate-paired .ensures)
+    let one = at-7 (apart .before) in
+    fit-on (done (at-6 (one .before))) (uncrowded one) (sym (apart .before .alike-side .ensures) ∙ apart .if2 .left) (paired .tabulate-paired .ensures)
 
 pub tabulate-fit-spec : {M : Type 1} → statement M
 tabulate-fit-spec =
@@ -127,18 +99,14 @@ tabulate-fit-spec =
     wide-requires
     siblings-requires
     first-sides-requires
-    unused-vertex-requires
-    refuse-at-requires
-    same-length
-    returns
     crowded-side-requires
     refusal-at-requires
-    same-length-2
-    returns-2
+    same-length
+    returns
     alike-side-requires
     refusal-at-requires-2
-    same-length-3
-    returns-3
+    same-length-2
+    returns-2
     tabulate-paired-requires
-    same-length-4
-    returns-4)
+    same-length-3
+    returns-3)
