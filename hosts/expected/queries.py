@@ -39,7 +39,7 @@ def build(n,rows):
         if ends:
             assert len(ends)==1
             V.append(8*bn[ends[0]])
-        else: V.append(min(c for c in order if sides[c][0]==v))
+        else: V.append(min((c for c in order if sides[c][0]==v),default=0))   # 0: no element has v
     return V,E,B,(len(order)+len(B))//2
 
 class M:
@@ -70,7 +70,7 @@ class M:
         return x
     def rV(s,v):
         x=s.V[v-1]
-        if not s.ishalf(x): ref(12)
+        if x and not s.ishalf(x): ref(12)
         return x
     def vert(s,x):
         if not 1<=x<=s.n: ref(12)
@@ -128,13 +128,16 @@ class M:
     def Vb(s,v):
         s.check()
         if not 1<=v<=s.n: ref(11)
-        return 1 if s.isborder(s.rV(v)) else 0
+        x=s.rV(v)
+        if x==0: return 2
+        return 1 if s.isborder(x) else 0
     def start(s,v):
         c=s.rV(v)
         if s.isborder(c): return s.nx(s.rB(c))
         return c
     def rsides(s,v):
         st=s.start(v); out=[]; c=st
+        if st==0: return []
         while True:
             out.append(c)
             x=s.rE(c)

@@ -35,8 +35,7 @@ def tables(n,rows):
     turned=set(t for t in turn.values() if t)
     for v in range(1,n+1):
         own=[c for c,a,b in S if a==v]
-        if not own: return None
-        ok=False
+        ok=not own   # an empty turn order counts
         for start in own:
             l=[start]
             while True:
@@ -56,7 +55,7 @@ def tables(n,rows):
     V=[]
     for v in range(1,n+1):
         e=[c for c,a,b in S if b==v and partner[c] is None]
-        V.append(8*num[e[0]] if e else min(c for c,a,b in S if a==v))
+        V.append(8*num[e[0]] if e else min((c for c,a,b in S if a==v),default=0))
     return V,E,border
 @functools.cache
 def rowsof(n,corners): return [r+(0,)*(4-corners) for r in itertools.permutations(range(1,n+1),corners)]
@@ -84,7 +83,7 @@ def search(n,V,E):
     if any(len(l)>1 for l in bnum.values()): return []   # border numbers are all different
     pin={}
     for v,x in enumerate(V,1):
-        if x==0: return []
+        if x==0: continue   # no element has v, as `tables` sees in the end
         if x%8==0:
             if x not in bnum: return []
             pin.setdefault(bnum[x][0],[]).append(('d',v))
@@ -131,7 +130,8 @@ def change(T,n,p,kind):
     return T
 CASES=[("listing",4,"1230 1340"),("sample surface mesh",9,"1450 1520 2530 3560 6590 8950 7850 5470"),
  ("tetrahedron",4,"1230 1420 2430 3410"),("quadrilaterals and triangles",9,"1254 2365 4587 5690 5980"),
- ("back to back",3,"1230 1320")]
+ ("back to back",3,"1230 1320"),
+ ("listing and a vertex",5,"1230 1340"),("vertex and tetrahedron",5,"2340 2530 3540 4520"),("vertices only",3,"")]
 full={}
 def sols(n,V,E):
     s=search(n,V,E)
@@ -142,7 +142,7 @@ def sols(n,V,E):
         assert s==s2,(V,E,s,s2)
     assert len(s)<=1
     return s
-FULL={(4,2),(3,2)} | ({(4,4)} if len(sys.argv)>1 else set())
+FULL={(4,2),(3,2),(5,2),(3,0)} | ({(4,4)} if len(sys.argv)>1 else set())
 out=[]
 def shown(s): return [",".join(["L"]+[str(x) for r in s[0] for x in r])] if s else ["R,10,0,0"]
 for name,n,s in CASES:
@@ -158,6 +158,9 @@ for name,n,s in CASES:
 V,E,B=tables(4,parse("1230 1340"))
 for name,W in (("V2e swapped",[8,32,16,24]),("V2e twice alike",[32,8,16,16])):
     out.append(name); out+=shown(sols(4,W,E))+["clean"]
+for name,W in (("0 for a vertex with sides",[0,8,16,24]),
+               ("a side for a vertex that gets none",[32,8,16,24,9]),("a border for a vertex that gets none",[32,8,16,24,32])):
+    out.append(name); out+=shown(sols(len(W),W,E))+["clean"]
 LV=[32,8,16,24,8]; LE=[8,16,17,0,11,24,32,0,8,16,17,0]
 def cut(name,n,v,e,l,w):
     v=min(v,5);e=min(e,12);l=min(l,40);w=min(w,200)
@@ -181,5 +184,5 @@ cut("work exact",4,4,8,8,36)
 cut("work long",4,4,8,8,60)
 cut("1 and 2",4,3,7,8,0)
 cut("empty",0,0,0,0,0)
-cut("vertex and no element",1,1,0,0,1)
+cut("vertex with a border and no element",1,1,0,0,1)
 print("\n".join(out))
