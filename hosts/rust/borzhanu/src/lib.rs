@@ -16,6 +16,20 @@
 //! # Ok::<(), borzhanu::Refusal>(())
 //! ```
 //!
+//! Vertices that no element uses are accepted. There is nothing about them, and [`VertexKind`] tells them:
+//!
+//! ```
+//! use borzhanu::{Tables, VertexKind};
+//!
+//! // The same triangles, and a fifth vertex that neither uses.
+//! let tables = Tables::build(5, &[[1, 2, 3, 0], [1, 3, 4, 0]])?;
+//! assert_eq!(tables.mesh().v2e, [32, 8, 16, 24, 0]);
+//! assert_eq!(tables.vertex_kind(1)?, VertexKind::Rim);
+//! assert_eq!(tables.vertex_kind(5)?, VertexKind::Unused);
+//! assert!(tables.ring(5)?.is_empty());
+//! # Ok::<(), borzhanu::Refusal>(())
+//! ```
+//!
 //! [`build`], [`recover`] and [`Mesh`] are the kernel's own calls, on buffers that the caller lends; these
 //! allocate nothing. Half-edges are codes there, which [`side`], [`border`] and [`HalfEdge`] make, and code 0
 //! names nothing:
@@ -65,7 +79,7 @@ mod refusal;
 mod tables;
 
 pub use half_edge::HalfEdge;
-pub use mesh::{Mesh, Walker, WalkerRecord};
+pub use mesh::{Mesh, VertexKind, Walker, WalkerRecord};
 pub use refusal::Refusal;
 pub use tables::Tables;
 
@@ -116,15 +130,15 @@ fn first_number(returned: u64) -> Result<u32, Refusal> {
 
 /// Builds the three tables of an element list of m rows.
 ///
-/// `v2e` has n entries, `e2e` 4 × m, `b2e` at least k (n are always enough) and `work` at least
-/// [`work_length`]. What they hold before doesn't matter. After an answer `v2e`, `e2e` and the first k
-/// entries of `b2e` are the tables, and the rest of `b2e` is as it was; queries take it cut to k. After a
-/// refusal all three are as they were. After 1 and 2 `work` is as it was; after everything else it is all
-/// zero.
+/// `v2e` has n entries, `e2e` 4 × m, `b2e` at least k (n are always enough, and so are 4 × m) and `work` at
+/// least [`work_length`]. What they hold before doesn't matter. After an answer `v2e`, `e2e` and the first k
+/// entries of `b2e` are the tables, and the rest of `b2e` is as it was; queries take it cut to k. A vertex that
+/// no element uses gets V2e entry 0. After a refusal all three are as they were. After 1 and 2 `work` is as it
+/// was; after everything else it is all zero.
 ///
 /// # Errors
 ///
-/// Refusals 1 to 9.
+/// Refusals 1 to 4 and 6 to 9.
 pub fn build(
     n: u32,
     elements: &[u32],
@@ -155,8 +169,9 @@ pub fn build(
 
 /// Writes the one element list that [`build`] turns into exactly this V2e and this E2e.
 ///
-/// `v2e` has n entries, `e2e` and `elements` 4 × m, `work` at least [`work_length`]. After a refusal
-/// `elements` is as it was. After 1 and 2 `work` is as it was; after everything else it is all zero.
+/// `v2e` has n entries, 0 for each vertex that no element uses, `e2e` and `elements` 4 × m, `work` at least
+/// [`work_length`]. After a refusal `elements` is as it was. After 1 and 2 `work` is as it was; after everything
+/// else it is all zero.
 ///
 /// # Errors
 ///

@@ -4,14 +4,15 @@ use crate::exports;
 use crate::{first_number, taken_apart, Refusal};
 
 /// A mesh to ask about: its element list and its tables, lent. Half-edges go in and out as codes. Tables that
-/// [`build`](crate::build) wrote never give refusal 12; any others may be asked about too.
+/// [`build`](crate::build) wrote never give refusal 12; any others may be asked about too. A V2e entry of 0 says that
+/// no element uses the vertex, and what begins there believes it, also where the element list says otherwise.
 #[derive(Clone, Copy, Debug)]
 pub struct Mesh<'a> {
     /// The number of vertices.
     pub n: u32,
     /// The element list, 4 × m entries.
     pub elements: &'a [u32],
-    /// V2e, n entries.
+    /// V2e, n entries; 0 for a vertex that no element uses.
     pub v2e: &'a [u32],
     /// E2e, 4 × m entries.
     pub e2e: &'a [u32],
@@ -113,17 +114,17 @@ impl<'a> Mesh<'a> {
         first_number(ask!(borzhanu_halfedge_is_border, self, code)).map(|test| test == 1)
     }
 
-    /// Whether a vertex is on a border.
+    /// Whether a vertex is inside, on a rim or unused, as its V2e entry says.
     ///
     /// # Errors
     ///
-    /// Refusals 1 and 2 for unfit slices, 11 for a vertex that isn't there, 12 for a broken table entry.
-    pub fn vertex_is_border(&self, v: u32) -> Result<bool, Refusal> {
-        first_number(ask!(borzhanu_vertex_is_border, self, v)).map(|test| test == 1)
+    /// Refusals 1 and 2 for unfit slices, 11 for a vertex that isn't there, 12 for a broken table entry, which 0 isn't.
+    pub fn vertex_kind(&self, v: u32) -> Result<VertexKind, Refusal> {
+        first_number(ask!(borzhanu_vertex_is_border, self, v)).map(VertexKind::of)
     }
 
     /// The elements about a vertex in turn order, each once, written from the start of `out`, and their
-    /// number. The rest of `out` is as it was; after a refusal all of it is.
+    /// number, 0 for an unused vertex. The rest of `out` is as it was; after a refusal all of it is.
     ///
     /// # Errors
     ///
@@ -133,7 +134,8 @@ impl<'a> Mesh<'a> {
         first_number(ask!(borzhanu_ring, self, v, out.as_mut_ptr(), out.len())).map(|count| count as usize)
     }
 
-    /// The vertices joined to a vertex by an edge, in turn order; written as [`Mesh::ring`] does.
+    /// The vertices joined to a vertex by an edge, in turn order, none for an unused one; written as [`Mesh::ring`]
+    /// does.
     ///
     /// # Errors
     ///
@@ -180,7 +182,7 @@ impl<'a> Mesh<'a> {
         listed(|out| self.border_loop(b, out))
     }
 
-    /// Walks about a vertex, element by element, with no list to fill.
+    /// Walks about a vertex, element by element, with no list to fill. About an unused vertex the walk is over at once.
     ///
     /// # Errors
     ///
@@ -191,7 +193,8 @@ impl<'a> Mesh<'a> {
         Ok(Walker { mesh: *self, record, over: false })
     }
 
-    /// Sets a walker's record to the beginning of the ring of v. After a refusal it is as it was.
+    /// Sets a walker's record to the beginning of the ring of v, for an unused vertex to 0, 0, 0. After a refusal it is
+    /// as it was.
     ///
     /// # Errors
     ///
@@ -224,13 +227,40 @@ fn listed(ask: impl Fn(&mut [u32]) -> Result<usize, Refusal>) -> Result<Vec<u32>
     Ok(list)
 }
 
+/// What a vertex is, by its V2e entry.
+#[derive(Clone, Copy, Debug, PartialEq, Eq, Hash)]
+pub enum VertexKind {
+    /// Inside the mesh, with elements all round: its V2e entry is a side.
+    Inner,
+    /// On a rim: its V2e entry is a border half-edge.
+    Rim,
+    /// No element uses it: its V2e entry is 0.
+    Unused,
+}
+
+impl VertexKind {
+    /// The kind that the vertex test answers by this number.
+    ///
+    /// # Panics
+    ///
+    /// On another number: then the archive isn't the one that this crate is written for.
+    fn of(number: u32) -> VertexKind {
+        match number {
+            0 => VertexKind::Inner,
+            1 => VertexKind::Rim,
+            2 => VertexKind::Unused,
+            _ => panic!("libborzhanu.a gave vertex kind {number}, which this crate doesn't know"),
+        }
+    }
+}
+
 /// How far a walk about a vertex has come.
 #[repr(C)]
 #[derive(Clone, Copy, Debug, Default, PartialEq, Eq, Hash)]
 pub struct WalkerRecord {
-    /// The side where the ring begins.
+    /// The side where the ring begins; 0 about an unused vertex.
     pub start: u32,
-    /// The side whose element comes next; 0 when the ring is over.
+    /// The side whose element comes next; 0 when the ring is over, and about an unused vertex from the start.
     pub next: u32,
     /// The elements handed out so far.
     pub count: u32,

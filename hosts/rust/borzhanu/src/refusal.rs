@@ -4,7 +4,7 @@ use std::error::Error;
 use std::fmt;
 
 /// Why a call refused, with its place. The numbers are those of include/borzhanu.h; its 14 belongs to the listing
-/// program, and no call here gives it.
+/// program, and no call here gives it. 5 is reserved: no call gives it any more.
 #[non_exhaustive]
 #[derive(Clone, Copy, Debug, PartialEq, Eq, Hash)]
 pub enum Refusal {
@@ -26,7 +26,8 @@ pub enum Refusal {
         /// The later corner.
         corner: u32,
     },
-    /// 5: a vertex belongs to no element.
+    /// 5, reserved: a vertex belongs to no element. No call gives it any more, since such a vertex is accepted, with
+    /// V2e entry 0; [`Mesh::vertex_kind`](crate::Mesh::vertex_kind) tells it.
     VertexUnused {
         /// The least such vertex.
         vertex: u32,
@@ -59,7 +60,8 @@ pub enum Refusal {
     NoList,
     /// 11: there is no such vertex, border or half-edge, or the question isn't defined for it.
     NotThere,
-    /// 12: a table entry that was read names nothing, or a walk doesn't come to its end.
+    /// 12: a table entry that was read names nothing, or a walk doesn't come to its end. A V2e entry of 0 is broken
+    /// only where a border half-edge must follow; what begins at the vertex takes it for unused.
     TableBroken,
     /// 13: the output is too short.
     OutputShort {
@@ -73,7 +75,7 @@ impl Refusal {
     ///
     /// # Panics
     ///
-    /// On a number that no call gives: then the archive isn't the one that this crate is written for.
+    /// On a number that isn't in this table: then the archive isn't the one that this crate is written for.
     pub(crate) fn of(number: u32, first: u32, second: u32) -> Refusal {
         match number {
             1 => Refusal::Sizes,

@@ -1,6 +1,6 @@
 //! An element list with its tables, owned.
 
-use crate::{build, work_length, Counts, HalfEdge, Mesh, Refusal, Walker, MAX_ELEMENTS, MAX_VERTICES};
+use crate::{build, work_length, Counts, HalfEdge, Mesh, Refusal, VertexKind, Walker, MAX_ELEMENTS, MAX_VERTICES};
 
 /// An element list and the tables that were built of it. Whatever is asked of them, the only refusal is
 /// [`Refusal::NotThere`].
@@ -28,10 +28,11 @@ pub struct Tables {
 
 impl Tables {
     /// Builds the tables of the element list `rows` on n vertices. A row is four corners, the fourth 0 for a triangle.
+    /// Vertices that no element uses are accepted, however many there are.
     ///
     /// # Errors
     ///
-    /// Refusals 1 and 3 to 8, where these rows are no mesh.
+    /// Refusals 1, 3, 4 and 6 to 8, where these rows are no mesh.
     pub fn build(n: u32, rows: &[[u32; 4]]) -> Result<Tables, Refusal> {
         let m = rows.len();
         // Refused here, before memory is taken for them.
@@ -40,8 +41,8 @@ impl Tables {
         }
         let mut v2e = vec![0; n as usize];
         let mut e2e = vec![0; 4 * m];
-        // Each border half-edge leaves a vertex of its own.
-        let mut b2e = vec![0; n as usize];
+        // Each border half-edge leaves a vertex of its own and lies opposite a side of its own.
+        let mut b2e = vec![0; (n as usize).min(4 * m)];
         let mut work = vec![0; work_length(n, m)];
         let counts = build(n, rows.as_flattened(), &mut v2e, &mut e2e, &mut b2e, &mut work)?;
         b2e.truncate(counts.borders as usize);
@@ -130,16 +131,16 @@ impl Tables {
         self.mesh().halfedge_is_border(half_edge.code())
     }
 
-    /// Whether a vertex is on a border.
+    /// Whether a vertex is inside, on a rim or unused.
     ///
     /// # Errors
     ///
     /// [`Refusal::NotThere`] where the mesh has no vertex v.
-    pub fn vertex_is_border(&self, v: u32) -> Result<bool, Refusal> {
-        self.mesh().vertex_is_border(v)
+    pub fn vertex_kind(&self, v: u32) -> Result<VertexKind, Refusal> {
+        self.mesh().vertex_kind(v)
     }
 
-    /// The elements about a vertex in turn order, each once: at a border from rim to rim.
+    /// The elements about a vertex in turn order, each once: at a border from rim to rim. None about an unused vertex.
     ///
     /// # Errors
     ///
@@ -148,7 +149,7 @@ impl Tables {
         self.mesh().ring_of(v)
     }
 
-    /// The vertices joined to a vertex by an edge, in turn order.
+    /// The vertices joined to a vertex by an edge, in turn order. None for an unused vertex.
     ///
     /// # Errors
     ///
@@ -166,7 +167,7 @@ impl Tables {
         self.mesh().border_loop_of(b)
     }
 
-    /// Walks about a vertex, element by element, with no list to fill.
+    /// Walks about a vertex, element by element, with no list to fill. About an unused vertex the walk is over at once.
     ///
     /// # Errors
     ///

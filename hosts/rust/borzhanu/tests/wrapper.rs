@@ -1,9 +1,15 @@
-//! What the wrapper adds to the archive: refusals by name, a walk that ends after a refusal, tables that are owned, lists
-//! as vectors, and half-edges. The values are those of the worked cases that docs/TRACE.md quotes.
+//! What the wrapper adds to the archive: refusals by name, a walk that ends after a refusal, tables that are owned,
+//! lists as vectors, kinds of vertices, and half-edges. The values are those of the worked cases that docs/TRACE.md
+//! quotes, or worked out by hand.
 
-use borzhanu::{build, recover, work_length, Counts, HalfEdge, Mesh, Refusal, Tables, MAX_BORDERS, MAX_ELEMENTS};
+use borzhanu::{
+    build, recover, work_length, Counts, HalfEdge, Mesh, Refusal, Tables, VertexKind, WalkerRecord, MAX_BORDERS,
+    MAX_ELEMENTS, MAX_VERTICES,
+};
 
 const LISTING: [[u32; 4]; 2] = [[1, 2, 3, 0], [1, 3, 4, 0]];
+const LISTING_E2E: [u32; 8] = [8, 16, 17, 0, 11, 24, 32, 0];
+const LISTING_B2E: [u32; 4] = [9, 10, 18, 19];
 const TETRAHEDRON: [[u32; 4]; 4] = [[1, 2, 3, 0], [1, 4, 2, 0], [2, 4, 3, 0], [3, 4, 1, 0]];
 
 fn built(n: u32, elements: &[u32], b2e_len: usize) -> Result<Counts, Refusal> {
@@ -18,7 +24,6 @@ fn each_refusal_of_build_has_its_name_and_place() {
         (built(4, &[1, 2, 3, 0, 4], 4), Refusal::Sizes, 1),
         (built(2, &[1, 2, 3, 0], 4), Refusal::CornerUnfit { element: 1, corner: 3 }, 3),
         (built(3, &[1, 2, 3, 1], 4), Refusal::CornerRepeated { element: 1, corner: 4 }, 4),
-        (built(1, &[], 0), Refusal::VertexUnused { vertex: 1 }, 5),
         (built(5, &[1, 2, 3, 0, 2, 1, 4, 0, 1, 2, 5, 0], 5), Refusal::EdgeCrowded { element: 1, side: 1 }, 6),
         (built(4, &[1, 2, 3, 0, 1, 2, 4, 0], 4), Refusal::SidesAlike { element: 1, side: 1 }, 7),
         (built(5, &[1, 2, 3, 0, 1, 4, 5, 0], 6), Refusal::FanBroken { vertex: 1 }, 8),
@@ -29,30 +34,34 @@ fn each_refusal_of_build_has_its_name_and_place() {
         assert_eq!(refusal.number(), number);
     }
     assert_eq!(built(3, &[1, 2, 3, 0], 3), Ok(Counts { borders: 3, edges: 3 }));
+    // Refusal 5 is reserved: what gave it is accepted.
+    assert_eq!(built(1, &[], 0), Ok(Counts { borders: 0, edges: 0 }));
+    let reserved = Refusal::VertexUnused { vertex: 3 };
+    assert_eq!((reserved.number(), reserved.place()), (5, (3, 0)));
 }
 
 #[test]
 fn recovery_and_lists_refuse_by_name() {
-    let (v2e, e2e) = ([32, 8, 16, 16], [8, 16, 17, 0, 11, 24, 32, 0]);
+    let v2e = [32, 8, 16, 16];
     let (mut elements, mut work) = ([7; 8], vec![0; work_length(4, 2)]);
-    assert_eq!(recover(4, &v2e, &e2e, &mut elements, &mut work), Err(Refusal::NoList));
-    assert_eq!(recover(4, &v2e, &e2e, &mut elements, &mut work[1..]), Err(Refusal::Lengths));
+    assert_eq!(recover(4, &v2e, &LISTING_E2E, &mut elements, &mut work), Err(Refusal::NoList));
+    assert_eq!(recover(4, &v2e, &LISTING_E2E, &mut elements, &mut work[1..]), Err(Refusal::Lengths));
     assert_eq!(elements, [7; 8]);
 
     let mesh = Mesh { n: 3, elements: &[1, 2, 3, 0], v2e: &[24, 8, 16], e2e: &[8, 16, 24, 0], b2e: &[9, 10, 11] };
     assert_eq!(mesh.border_loop(1, &mut []), Err(Refusal::OutputShort { needed: 3 }));
     assert_eq!(mesh.ring(4, &mut []), Err(Refusal::NotThere));
     assert_eq!(mesh.element(8).map_err(|refusal| refusal.to_string()), Err(Refusal::NotThere.to_string()));
-    assert_eq!(mesh.vertex_is_border(3), Ok(true));
+    assert_eq!(mesh.vertex_kind(3), Ok(VertexKind::Rim));
+    assert_eq!(mesh.vertex_kind(4), Err(Refusal::NotThere));
     assert_eq!(mesh.halfedge_is_border(9), Ok(false));
 }
 
 #[test]
 fn a_walk_ends_after_a_refusal() {
     // The second triangle's entry for the first names no half-edge.
-    let elements = [1, 2, 3, 0, 1, 3, 4, 0];
     let e2e = [8, 16, 17, 0, 99, 24, 32, 0];
-    let mesh = Mesh { n: 4, elements: &elements, v2e: &[32, 8, 16, 24], e2e: &e2e, b2e: &[9, 10, 18, 19] };
+    let mesh = Mesh { n: 4, elements: LISTING.as_flattened(), v2e: &[32, 8, 16, 24], e2e: &e2e, b2e: &LISTING_B2E };
     let mut walk = mesh.walk(1).expect("the start is sound");
     assert_eq!(walk.next(), Some(Err(Refusal::TableBroken)));
     assert_eq!(walk.next(), None);
@@ -66,8 +75,8 @@ fn tables_of_the_listing() {
     assert_eq!(tables.counts(), Counts { borders: 4, edges: 5 });
     assert_eq!((mesh.n, mesh.elements), (4, LISTING.as_flattened()));
     assert_eq!(mesh.v2e, [32, 8, 16, 24]);
-    assert_eq!(mesh.e2e, [8, 16, 17, 0, 11, 24, 32, 0]);
-    assert_eq!(mesh.b2e, [9, 10, 18, 19]);
+    assert_eq!(mesh.e2e, LISTING_E2E);
+    assert_eq!(mesh.b2e, LISTING_B2E);
     assert_eq!(tables.ring(1), Ok(vec![2, 1]));
     assert_eq!(tables.neighbours(1), Ok(vec![4, 3, 2]));
     assert_eq!(tables.border_loop(1), Ok(vec![1, 4, 3, 2]));
@@ -88,7 +97,7 @@ fn tables_answer_each_query() {
     assert_eq!((tables.origin(border), tables.destination(border)), (Ok(4), Ok(3)));
     assert_eq!((tables.across(inner), tables.across(rim)), (Ok(2), Ok(0)));
     assert_eq!((tables.halfedge_is_border(inner), tables.halfedge_is_border(border)), (Ok(false), Ok(true)));
-    assert_eq!(tables.vertex_is_border(1), Ok(true));
+    assert_eq!(tables.vertex_kind(1), Ok(VertexKind::Rim));
 
     assert_eq!(tables.previous(border), Err(Refusal::NotThere));
     assert_eq!(tables.opposite(HalfEdge::side(1, 4)), Err(Refusal::NotThere));
@@ -105,7 +114,120 @@ fn tables_without_a_border() {
     assert_eq!(mesh.e2e[..4], [19, 27, 35, 0]);
     assert!(mesh.b2e.is_empty());
     assert_eq!(tables.ring(1), Ok(vec![1, 2, 4]));
-    assert_eq!(tables.vertex_is_border(1), Ok(false));
+    assert_eq!(tables.vertex_kind(1), Ok(VertexKind::Inner));
+}
+
+/// Nothing is about this vertex.
+fn assert_unused(tables: &Tables, v: u32) {
+    assert_eq!(tables.vertex_kind(v), Ok(VertexKind::Unused));
+    assert_eq!((tables.ring(v), tables.neighbours(v)), (Ok(vec![]), Ok(vec![])));
+    assert_eq!(tables.walk(v).expect("the vertex is there").next(), None);
+}
+
+#[test]
+fn a_vertex_without_an_element() {
+    let tables = Tables::build(1, &[]).expect("a vertex without an element is accepted");
+    let mesh = tables.mesh();
+    assert_eq!(tables.counts(), Counts { borders: 0, edges: 0 });
+    assert_eq!(mesh.v2e, [0]);
+    assert!(mesh.e2e.is_empty() && mesh.b2e.is_empty());
+    assert_unused(&tables, 1);
+    assert_eq!(tables.vertex_kind(2), Err(Refusal::NotThere));
+    assert_eq!(recover(1, mesh.v2e, mesh.e2e, &mut [], &mut [7]), Ok(()));
+}
+
+#[test]
+fn the_listing_with_unused_vertices() {
+    let tables = Tables::build(5, &LISTING).expect("an unused vertex is accepted");
+    let mesh = tables.mesh();
+    assert_eq!(tables.counts(), Counts { borders: 4, edges: 5 });
+    assert_eq!(mesh.v2e, [32, 8, 16, 24, 0]);
+    assert_eq!(mesh.e2e, LISTING_E2E);
+    assert_eq!(mesh.b2e, LISTING_B2E);
+    for v in 1..=4 {
+        assert_eq!(tables.vertex_kind(v), Ok(VertexKind::Rim));
+    }
+    assert_unused(&tables, 5);
+    assert_eq!(tables.ring(6), Err(Refusal::NotThere));
+
+    // In front and in the middle: vertex 2 of the listing is now 3, 3 is 5 and 4 is 6.
+    let tables = Tables::build(6, &[[2, 3, 5, 0], [2, 5, 6, 0]]).expect("unused vertices are accepted");
+    assert_eq!(tables.mesh().v2e, [0, 32, 8, 0, 16, 24]);
+    assert_eq!((tables.ring(2), tables.neighbours(2)), (Ok(vec![2, 1]), Ok(vec![6, 5, 3])));
+    assert_unused(&tables, 1);
+    assert_unused(&tables, 4);
+}
+
+#[test]
+fn recovery_with_unused_vertices() {
+    let recovered = |v2e: &[u32]| {
+        let (mut elements, mut work) = ([[7; 4]; 2], vec![7; work_length(v2e.len() as u32, 2)]);
+        let answer = recover(v2e.len() as u32, v2e, &LISTING_E2E, elements.as_flattened_mut(), &mut work);
+        assert!(work.iter().all(|&entry| entry == 0));
+        (answer, elements)
+    };
+    assert_eq!(recovered(&[32, 8, 16, 24, 0]), (Ok(()), LISTING));
+    assert_eq!(recovered(&[0, 32, 8, 0, 16, 24]), (Ok(()), [[2, 3, 5, 0], [2, 5, 6, 0]]));
+    // No entry gives the sides of vertex 1 to a vertex.
+    assert_eq!(recovered(&[0, 8, 16, 24]), (Err(Refusal::NoList), [[7; 4]; 2]));
+    // No side is left for vertex 5.
+    for entry in [9, 32, 17, 12, 40] {
+        assert_eq!(recovered(&[32, 8, 16, 24, entry]), (Err(Refusal::NoList), [[7; 4]; 2]));
+    }
+}
+
+#[test]
+fn entry_0_is_believed_where_a_query_begins() {
+    let elements = LISTING.as_flattened();
+    let mesh = Mesh { n: 4, elements, v2e: &[0, 8, 16, 24], e2e: &LISTING_E2E, b2e: &LISTING_B2E };
+    assert_eq!(mesh.vertex_kind(1), Ok(VertexKind::Unused));
+    let mut out = [7; 3];
+    assert_eq!((mesh.ring(1, &mut out), mesh.neighbours(1, &mut out), out), (Ok(0), Ok(0), [7; 3]));
+    assert_eq!((mesh.ring(1, &mut []), mesh.neighbours(1, &mut [])), (Ok(0), Ok(0)));
+
+    let mut record = WalkerRecord { start: 5, next: 6, count: 7 };
+    assert_eq!(mesh.start(1, &mut record), Ok(()));
+    for _ in 0..3 {
+        assert_eq!(record, WalkerRecord { start: 0, next: 0, count: 0 });
+        assert_eq!(mesh.step(&mut record), Ok(0));
+    }
+
+    // Border 1 ends at vertex 1, where another must follow; border 2 ends at vertex 2.
+    assert_eq!(mesh.next(8), Err(Refusal::TableBroken));
+    assert_eq!(mesh.border_loop(1, &mut out), Err(Refusal::TableBroken));
+    assert_eq!(mesh.next(16), Ok(8));
+
+    // Other entries that name nothing: a fourth side of a triangle, a third element, a fifth border.
+    for entry in [12, 25, 40] {
+        let broken = Mesh { v2e: &[entry, 8, 16, 24], ..mesh };
+        assert_eq!(broken.vertex_kind(1), Err(Refusal::TableBroken));
+        assert_eq!(broken.ring(1, &mut out), Err(Refusal::TableBroken));
+        assert_eq!(broken.neighbours(1, &mut out), Err(Refusal::TableBroken));
+        assert_eq!(broken.start(1, &mut record), Err(Refusal::TableBroken));
+    }
+}
+
+#[test]
+fn a_million_vertices_and_hardly_an_element() {
+    let most = MAX_VERTICES;
+    let nothing = Tables::build(most, &[]).expect("vertices without an element are accepted");
+    assert_eq!(nothing.counts(), Counts { borders: 0, edges: 0 });
+    assert!(nothing.mesh().v2e.iter().all(|&entry| entry == 0));
+    assert_unused(&nothing, most);
+
+    let one = Tables::build(most, &[[most, 1, most / 2, 0]]).expect("one triangle is accepted");
+    let mesh = one.mesh();
+    assert_eq!(one.counts(), Counts { borders: 3, edges: 3 });
+    assert_eq!((mesh.e2e, mesh.b2e), (&[8, 16, 24, 0][..], &[9, 10, 11][..]));
+    let used: Vec<(u32, u32)> = (1..).zip(mesh.v2e.iter().copied()).filter(|&(_, entry)| entry != 0).collect();
+    assert_eq!(used, [(1, 8), (most / 2, 16), (most, 24)]);
+    assert_eq!((one.ring(most), one.neighbours(most)), (Ok(vec![1]), Ok(vec![most / 2, 1])));
+    assert_unused(&one, most - 1);
+
+    let (mut elements, mut work) = ([7; 4], vec![7; work_length(most, 1)]);
+    assert_eq!(recover(most, mesh.v2e, mesh.e2e, &mut elements, &mut work), Ok(()));
+    assert_eq!(elements, [most, 1, most / 2, 0]);
+    assert_eq!(Tables::build(most + 1, &[]), Err(Refusal::Sizes));
 }
 
 #[test]
@@ -120,6 +242,8 @@ fn tables_of_other_lists() {
     // A quadrilateral whose corners count from 0: refused, or read as a triangle.
     assert_eq!(Tables::build(3, &[[0, 1, 2, 3]]), Err(Refusal::CornerUnfit { element: 1, corner: 1 }));
     assert_eq!(Tables::build(3, &[[3, 2, 1, 0]]).map(|tables| tables.counts().edges), Ok(3));
+    // Then the last vertex is unused.
+    assert_eq!(Tables::build(4, &[[3, 2, 1, 0]]).and_then(|tables| tables.vertex_kind(4)), Ok(VertexKind::Unused));
     assert_eq!(Tables::build(u32::MAX, &LISTING), Err(Refusal::Sizes));
     let too_many = vec![[1, 2, 3, 0]; MAX_ELEMENTS as usize + 1];
     assert_eq!(Tables::build(4, &too_many), Err(Refusal::Sizes));

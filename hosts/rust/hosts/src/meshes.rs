@@ -91,6 +91,20 @@ impl List {
         self
     }
 
+    /// So many vertices that no element uses, after vertex `after` or, for 0, in front.
+    pub fn with_unused(mut self, after: u32, count: u32) -> List {
+        self.rows.as_flattened_mut().iter_mut().filter(|v| **v > after).for_each(|v| *v += count);
+        self.n += count;
+        self
+    }
+
+    /// Unused vertices in front, in the middle or at the end: a few, or many more than there are elements.
+    fn with_some_unused(self, dice: &mut Dice) -> List {
+        let after = [0, dice.below(self.n), self.n][dice.below(3) as usize];
+        let most = if dice.once_in(4) { 16 * self.rows.len().min(1000) as u32 } else { 3 };
+        self.with_unused(after, 1 + dice.below(most))
+    }
+
     /// Vertices without an element go, and the others close up.
     fn closed_up(mut self) -> List {
         let mut used: Vec<u32> = self.entries().iter().copied().filter(|&v| v != 0).collect();
@@ -107,7 +121,7 @@ impl List {
 
     /// One slip of a mesher, chosen at random.
     pub fn damaged(mut self, dice: &mut Dice) -> List {
-        if self.rows.is_empty() {
+        if self.rows.is_empty() || self.n == 0 {
             return self;
         }
         let f = dice.index(&self.rows);
@@ -130,7 +144,7 @@ impl List {
                 return self.closed_up();
             }
             6 => self.rows[f][dice.below(4) as usize] = dice.below(self.n + 2),
-            _ => self.n += 1,
+            _ => self.n -= 1,
         }
         self
     }
@@ -210,9 +224,10 @@ fn one_housing(dice: &mut Dice, size: u32) -> List {
     }
 }
 
-/// A housing of up to about `size` elements, perhaps another beside it, numbered anyhow, one in three damaged.
+/// A housing of up to about `size` elements or of none, perhaps another beside it, numbered anyhow, one in three
+/// damaged, one in three with unused vertices.
 pub fn any_housing(dice: &mut Dice, size: u32) -> List {
-    let mut list = one_housing(dice, size);
+    let mut list = if dice.once_in(15) { List::new(dice.below(size), &[]) } else { one_housing(dice, size) };
     if dice.once_in(4) {
         list = list.beside(one_housing(dice, size));
     }
@@ -231,6 +246,11 @@ pub fn any_housing(dice: &mut Dice, size: u32) -> List {
     if dice.once_in(3) {
         for _ in 0..1 + dice.below(3) {
             list = list.damaged(dice);
+        }
+    }
+    if dice.once_in(3) {
+        for _ in 0..1 + dice.below(3) {
+            list = list.with_some_unused(dice);
         }
     }
     list

@@ -171,11 +171,12 @@ fn pair(rows: Rows) -> Result<Vec<Option<Side>>, Refused> {
     Ok(partners)
 }
 
-/// Whether the sides at one vertex, all of them, can be listed so that each is the turn of the one before.
+/// Whether the sides at one vertex, all of them, can be listed so that each is the turn of the one before. No sides are
+/// listed by the empty list.
 fn has_turn_order(rows: Rows, partners: &[Option<Side>], sides: &[Side]) -> bool {
     let turn = |s: Side| partners[s.slot()].map(|partner| rows.next(partner));
     let nobodys_turn = |s: &Side| partners[rows.previous(*s).slot()].is_none();
-    let first = *sides.iter().find(|s| nobodys_turn(s)).unwrap_or(&sides[0]);
+    let Some(&first) = sides.iter().find(|s| nobodys_turn(s)).or(sides.first()) else { return true };
     let mut order = vec![first];
     let mut last = first;
     while let Some(s) = turn(last).filter(|&s| s != first) {
@@ -191,7 +192,7 @@ fn has_turn_order(rows: Rows, partners: &[Option<Side>], sides: &[Side]) -> bool
 
 fn tables_of(rows: Rows, partners: &[Option<Side>], by_origin: &[Vec<Side>]) -> Built {
     let mut built = Built { v2e: Vec::new(), e2e: vec![0; rows.0.len()], b2e: Vec::new(), edges: 0 };
-    built.v2e.extend(by_origin.iter().map(|sides| sides[0].code()));
+    built.v2e.extend(by_origin.iter().map(|sides| sides.first().map_or(0, |s| s.code())));
     for s in rows.sides() {
         built.e2e[s.slot()] = match partners[s.slot()] {
             Some(partner) => partner.code(),
@@ -207,15 +208,12 @@ fn tables_of(rows: Rows, partners: &[Option<Side>], by_origin: &[Vec<Side>]) -> 
     built
 }
 
-/// Checks 3 to 8, and the tables of an accepted list.
+/// Checks 3, 4 and 6 to 8, and the tables of an accepted list.
 fn tables(n: u32, elements: &[u32]) -> Result<Built, Refused> {
     check_corners(n, elements)?;
     let rows = Rows(elements);
-    let by_origin = sides_by_origin(n, rows);
-    if let Some(v) = by_origin.iter().position(|sides| sides.is_empty()) {
-        return Err((5, v as u32 + 1, 0));
-    }
     let partners = pair(rows)?;
+    let by_origin = sides_by_origin(n, rows);
     if let Some(v) = by_origin.iter().position(|sides| !has_turn_order(rows, &partners, sides)) {
         return Err((8, v as u32 + 1, 0));
     }
@@ -236,7 +234,7 @@ pub fn clears_work(n: u32, tells: usize, lengths: Lengths) -> bool {
     check_lengths(n, tells, lengths).is_ok()
 }
 
-/// A side that begins at the vertex with this V2e entry.
+/// A side that begins at the vertex with this V2e entry; none for 0.
 fn side_from(entry: u32, rows: Rows, borders: &[Side]) -> Option<Side> {
     if entry % 8 != 0 {
         return rows.side(entry);
@@ -344,8 +342,12 @@ impl<'a> View<'a> {
         self.rows().side(self.b2e[b as usize - 1]).ok_or(BROKEN)
     }
 
-    fn read_v2e(&self, v: u32) -> Result<HalfEdge, Refused> {
-        self.half_edge(self.v2e[v as usize - 1]).ok_or(BROKEN)
+    /// None for an unused vertex.
+    fn read_v2e(&self, v: u32) -> Result<Option<HalfEdge>, Refused> {
+        match self.v2e[v as usize - 1] {
+            0 => Ok(None),
+            code => self.half_edge(code).map(Some).ok_or(BROKEN),
+        }
     }
 
     fn read_origin(&self, s: Side) -> Result<u32, Refused> {
@@ -360,8 +362,8 @@ impl<'a> View<'a> {
     fn next_border(&self, b: u32) -> Result<u32, Refused> {
         let v = self.read_origin(self.read_b2e(b)?)?;
         match self.read_v2e(v)? {
-            HalfEdge::Border(next) => Ok(next),
-            HalfEdge::Side(_) => Err(BROKEN),
+            Some(HalfEdge::Border(next)) => Ok(next),
+            Some(HalfEdge::Side(_)) | None => Err(BROKEN),
         }
     }
 
@@ -412,15 +414,22 @@ impl<'a> View<'a> {
         self.asked_half_edge(code).map(|h| matches!(h, HalfEdge::Border(_)) as u32)
     }
 
-    pub fn vertex_is_border(&self, v: u32) -> Result<u32, Refused> {
+    /// 0 inner, 1 rim, 2 unused
+    pub fn vertex_kind(&self, v: u32) -> Result<u32, Refused> {
         let v = self.asked_vertex(v)?;
-        self.read_v2e(v).map(|h| matches!(h, HalfEdge::Border(_)) as u32)
+        self.read_v2e(v).map(|entry| match entry {
+            Some(HalfEdge::Side(_)) => 0,
+            Some(HalfEdge::Border(_)) => 1,
+            None => 2,
+        })
     }
 
-    fn start_side(&self, v: u32) -> Result<Side, Refused> {
+    /// None about an unused vertex.
+    fn start_side(&self, v: u32) -> Result<Option<Side>, Refused> {
         match self.read_v2e(v)? {
-            HalfEdge::Border(b) => self.read_b2e(b).map(|s| self.rows().next(s)),
-            HalfEdge::Side(s) => Ok(s),
+            Some(HalfEdge::Border(b)) => self.read_b2e(b).map(|s| Some(self.rows().next(s))),
+            Some(HalfEdge::Side(s)) => Ok(Some(s)),
+            None => Ok(None),
         }
     }
 
@@ -433,7 +442,7 @@ impl<'a> View<'a> {
     }
 
     fn ring_sides(&self, v: u32) -> Result<Vec<Side>, Refused> {
-        let start = self.start_side(v)?;
+        let Some(start) = self.start_side(v)? else { return Ok(Vec::new()) };
         let mut sides = vec![start];
         let mut last = start;
         while let Some(s) = self.onward(start, last)? {
@@ -454,7 +463,7 @@ impl<'a> View<'a> {
     pub fn neighbours(&self, v: u32) -> Result<Vec<u32>, Refused> {
         let v = self.asked_vertex(v)?;
         let mut list = Vec::new();
-        if let HalfEdge::Border(b) = self.read_v2e(v)? {
+        if let Some(HalfEdge::Border(b)) = self.read_v2e(v)? {
             list.push(self.read_origin(self.read_b2e(b)?)?);
         }
         for s in self.ring_sides(v)? {
@@ -483,7 +492,8 @@ impl<'a> View<'a> {
 
     pub fn walker_start(&self, v: u32) -> Result<Record, Refused> {
         let v = self.asked_vertex(v)?;
-        self.start_side(v).map(|s| (s.code(), s.code(), 0))
+        let code = self.start_side(v)?.map_or(0, Side::code);
+        Ok((code, code, 0))
     }
 
     /// The element handed out, and the record afterwards.

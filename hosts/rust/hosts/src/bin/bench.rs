@@ -122,13 +122,14 @@ fn median(times: &[f64]) -> f64 {
 impl<'a> Bench<'a> {
     fn new(list: &'a List) -> Bench<'a> {
         let (n, rows) = (list.n as usize, 4 * list.rows.len());
+        let borders = n.min(rows);
         Bench {
             list,
             v2e: vec![1; n],
             e2e: vec![1; rows],
-            b2e: vec![1; n],
+            b2e: vec![1; borders],
             work: vec![1; work_length(list.n, list.rows.len())],
-            other: (vec![1; n], vec![1; rows], vec![1; n]),
+            other: (vec![1; n], vec![1; rows], vec![1; borders]),
             recovered: vec![1; rows],
             ring: vec![1; list.rows.len()],
         }
@@ -290,6 +291,42 @@ fn print_extremes(dice: &mut Dice) {
     println!();
 }
 
+/// No element, and one, on n vertices.
+fn hardly_used(n: u32) -> [List; 2] {
+    [List::new(n, &[]), List::new(n, &[[n, 1, n / 2, 0]])]
+}
+
+fn lists_with_unused(dice: &mut Dice) -> Vec<List> {
+    let mut lists: Vec<List> = [100_000, 1_000_000].into_iter().flat_map(hardly_used).collect();
+    let rims = sheet(250, 200, (true, false), Kinds::Triangles, dice);
+    let used = rims.n;
+    lists.push(rims.with_unused(used, 1_000_000 - used));
+    lists
+}
+
+fn print_unused(dice: &mut Dice) {
+    println!("## Vertices that no element uses\n");
+    println!("Nanoseconds per vertex and element together, medians of {ROUNDS} interleaved runs, with buffers and");
+    println!("clearing as in the first table. With no element or one the hash map does little but clear V2e. The one");
+    println!("is a triangle of the first, the middle and the last vertex; the 100,000 are those with rims, in order,");
+    println!("and use the first 50,250 vertices.\n");
+    println!("| vertices | elements | build | hash-map build | ratio | recovery | ring of every vertex |");
+    println!("|---|---|---|---|---|---|---|");
+    for list in lists_with_unused(dice) {
+        let times = Bench::new(&list).run(ROUNDS);
+        let (n, m) = (list.n, list.rows.len());
+        let per_each = |times: &[f64]| median(times) * 1e6 / (n as usize + m) as f64;
+        let (build, hash_map) = (per_each(&times.build), per_each(&times.hash_map));
+        println!(
+            "| {n} | {m} | {build:.2} | {hash_map:.2} | {:.2} | {:.2} | {:.2} |",
+            build / hash_map,
+            per_each(&times.recovery),
+            per_each(&times.rings)
+        );
+    }
+    println!();
+}
+
 fn main() -> io::Result<()> {
     let mut dice = Dice::new(SEED);
     let lists = lists_of_100_000(&mut dice);
@@ -301,5 +338,6 @@ fn main() -> io::Result<()> {
     print_hundred_thousand(&lists);
     print_growth(&mut dice);
     print_extremes(&mut dice);
+    print_unused(&mut dice);
     Ok(())
 }

@@ -1,6 +1,6 @@
 //! One call, made on the kernel between guard pages and compared with the reference.
 
-use borzhanu::{Mesh, Refusal, WalkerRecord, MAX_ELEMENTS, MAX_VERTICES};
+use borzhanu::{Mesh, Refusal, VertexKind, WalkerRecord, MAX_ELEMENTS, MAX_VERTICES};
 use hosts::guarded::{Guarded, Placement};
 use hosts::reference::{self, Built, Lengths, Refused, View};
 use std::process;
@@ -41,7 +41,7 @@ pub enum Question {
     Destination(u32),
     Across(u32),
     HalfedgeIsBorder(u32),
-    VertexIsBorder(u32),
+    VertexKind(u32),
     Ring(u32),
     Neighbours(u32),
     BorderLoop(u32),
@@ -172,7 +172,7 @@ impl Call<'_> {
             Question::Destination(code) => one_number(view.destination(code)),
             Question::Across(code) => one_number(view.across(code)),
             Question::HalfedgeIsBorder(code) => one_number(view.halfedge_is_border(code)),
-            Question::VertexIsBorder(v) => one_number(view.vertex_is_border(v)),
+            Question::VertexKind(v) => one_number(view.vertex_kind(v)),
             Question::Ring(v) => self.expected_list(view.ring(v)),
             Question::Neighbours(v) => self.expected_list(view.neighbours(v)),
             Question::BorderLoop(b) => self.expected_list(view.border_loop(b)),
@@ -197,6 +197,14 @@ fn moved(step: Result<(u32, reference::Record), Refused>) -> Outcome {
             left: Left { record: Some(WalkerRecord { start, next, count }), ..Left::default() },
         },
         Err(refused) => refuses(refused),
+    }
+}
+
+fn kind_number(kind: VertexKind) -> u32 {
+    match kind {
+        VertexKind::Inner => 0,
+        VertexKind::Rim => 1,
+        VertexKind::Unused => 2,
     }
 }
 
@@ -277,7 +285,7 @@ impl Held<'_> {
             Question::Destination(code) => number(mesh.destination(code)),
             Question::Across(code) => number(mesh.across(code)),
             Question::HalfedgeIsBorder(code) => test(mesh.halfedge_is_border(code)),
-            Question::VertexIsBorder(v) => test(mesh.vertex_is_border(v)),
+            Question::VertexKind(v) => number(mesh.vertex_kind(v).map(kind_number)),
             Question::Ring(v) => count(mesh.ring(v, self.out)),
             Question::Neighbours(v) => count(mesh.neighbours(v, self.out)),
             Question::BorderLoop(b) => count(mesh.border_loop(b, self.out)),

@@ -33,6 +33,12 @@ impl Tables {
         8 * (self.elements_count().max(self.b2e.len() as u32) + 2)
     }
 
+    /// The border half-edge that ends at a vertex, in tables as built.
+    fn border_to(&self, v: u32) -> Option<u32> {
+        let origin = |side: u32| self.elements[(4 * (side / 8) + side % 8) as usize - 5];
+        (1..).zip(&self.b2e).find(|&(_, &side)| origin(side) == v).map(|(b, _)| b)
+    }
+
     pub fn question(&self, what: Question) -> Call<'_> {
         Call {
             what,
@@ -156,9 +162,13 @@ impl Host {
 
     /// With no room, and then with one entry too few, just enough and more than enough.
     pub fn ask_list(&mut self, tables: &Tables, what: Question) {
-        let Err((13, needed, _)) = self.ask(tables, what).answer else { return };
+        let needed = match self.ask(tables, what).answer {
+            Ok((count, _)) => count as usize,
+            Err((13, needed, _)) => needed as usize,
+            Err(_) => return,
+        };
         let noise = mem::take(&mut self.noise);
-        for len in needed as usize - 1..=needed as usize + 2 {
+        for len in needed.max(2) - 1..=needed + 2 {
             let mut call = tables.question(what);
             call.out = &noise[..len];
             self.compare(&call);
@@ -178,8 +188,8 @@ impl Host {
         }
     }
 
-    fn ask_vertex(&mut self, tables: &Tables, v: u32) {
-        self.ask(tables, Question::VertexIsBorder(v));
+    pub fn ask_vertex(&mut self, tables: &Tables, v: u32) {
+        self.ask(tables, Question::VertexKind(v));
         self.ask_list(tables, Question::Ring(v));
         self.ask_list(tables, Question::Neighbours(v));
         self.ask_walker(tables, v);
@@ -268,6 +278,36 @@ impl Host {
         self.recover(&damaged);
     }
 
+    /// A vertex that the tables say is unused, or one that they say is used.
+    fn any_vertex(&mut self, tables: &Tables, unused: bool) -> Option<u32> {
+        let entries = (1..).zip(&tables.v2e);
+        let vertices: Vec<u32> = entries.filter(|(_, &entry)| (entry == 0) == unused).map(|(v, _)| v).collect();
+        vertices.get(self.dice.below(vertices.len() as u32) as usize).copied()
+    }
+
+    /// Another V2e entry at one vertex: what begins there, the rim that comes there, and recovery.
+    fn try_entry(&mut self, tables: &Tables, v: u32, entry: u32) {
+        let mut changed = tables.clone();
+        changed.v2e[v as usize - 1] = entry;
+        self.ask_vertex(&changed, v);
+        if let Some(b) = tables.border_to(v) {
+            self.ask(&changed, Question::Next(borzhanu::border(b)));
+            self.ask_list(&changed, Question::BorderLoop(b));
+        }
+        self.compare_recovery(changed.n, &changed.v2e, &changed.e2e, 0);
+    }
+
+    /// A used vertex entered as unused, and an unused one as used.
+    fn try_other_uses(&mut self, tables: &Tables) {
+        if let Some(v) = self.any_vertex(tables, false) {
+            self.try_entry(tables, v, 0);
+        }
+        if let Some(v) = self.any_vertex(tables, true) {
+            let entry = self.any_code(tables);
+            self.try_entry(tables, v, entry);
+        }
+    }
+
     pub fn try_small_list(&mut self, list: &List) {
         // Refusals 3 to 8 come before 9, so a refused list is tried without room too.
         self.compare_build(list, 0, 0);
@@ -275,6 +315,7 @@ impl Host {
         self.build_with_other_room(list, tables.b2e.len());
         self.recover(&tables);
         self.recover_damaged(&tables);
+        self.try_other_uses(&tables);
         self.ask_everything(&tables);
         self.ask_damaged(&tables, 2);
     }
@@ -285,6 +326,7 @@ impl Host {
         let Some(tables) = self.build(list) else { return };
         self.build_with_other_room(list, tables.b2e.len());
         self.recover(&tables);
+        self.try_other_uses(&tables);
         self.ask_something(&tables, times);
         for _ in 0..=times / 4 {
             self.recover_damaged(&tables);

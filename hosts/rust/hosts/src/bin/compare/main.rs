@@ -36,12 +36,12 @@ fn is_fit(row: &[u32; 4]) -> bool {
     row[..3].iter().all(|&v| v != 0) && (1..4).all(|at| !row[..at].contains(&row[at]))
 }
 
-/// All pairs of fit rows on three vertices, one in three on four, some on five; as many pairs of any rows.
+/// All pairs of fit rows on three vertices, one in three on four, some on five and six; as many pairs of any rows.
 fn two_rows(host: &mut Host) {
-    for n in 3..=5u32 {
+    for n in 3..=6u32 {
         let fit: Vec<[u32; 4]> = (0..(n + 1).pow(4)).map(|number| digits(number, n + 1)).filter(is_fit).collect();
         for (a, b) in fit.iter().flat_map(|a| fit.iter().map(move |b| (a, b))) {
-            if host.dice.once_in([1, 3, 90][n as usize - 3]) {
+            if host.dice.once_in([1, 3, 90, 640][n as usize - 3]) {
                 host.try_small_list(&List::new(n, &[*a, *b]));
                 let any = [0; 2].map(|_| digits(host.dice.number(), n + 2));
                 host.try_small_list(&List::new(n, &any));
@@ -50,11 +50,26 @@ fn two_rows(host: &mut Host) {
     }
 }
 
-/// Contents of V2e and E2e of two elements on three or four vertices, out of the codes that could be meant.
+/// Lists of no row; and beside the E2e of one element, every V2e of three to five codes that could be meant.
+fn unused_vertices(host: &mut Host) {
+    for n in 0..40 {
+        host.try_small_list(&List::new(n, &[]));
+    }
+    let codes = [0, 8, 16, 24, 32, 9, 12];
+    for n in 3..=5 {
+        for number in 0..7u32.pow(n) {
+            let v2e: Vec<u32> = (0..n).map(|place| codes[(number / 7u32.pow(place) % 7) as usize]).collect();
+            host.compare_recovery(n, &v2e, &[8, 16, 24, 0], 0);
+            host.compare_recovery(n, &v2e, &[8, 16, 24, 32], 0);
+        }
+    }
+}
+
+/// Contents of V2e and E2e of two elements on three to five vertices, out of the codes that could be meant.
 fn small_tables(host: &mut Host) {
     let codes = [0, 8, 16, 24, 32, 9, 10, 11, 12, 17, 18, 19, 20];
     for _ in 0..60_000 {
-        let n = 3 + host.dice.below(2);
+        let n = 3 + host.dice.below(3);
         let mut table = |len: u32| -> Vec<u32> { (0..len).map(|_| codes[host.dice.below(13) as usize]).collect() };
         let (v2e, mut e2e) = (table(n), table(8));
         if host.dice.once_in(2) {
@@ -67,7 +82,7 @@ fn small_tables(host: &mut Host) {
 /// Tables and lists of noise, near to codes.
 fn noise_tables(host: &mut Host) {
     for _ in 0..3000 {
-        let (n, m) = (1 + host.dice.below(6), 1 + host.dice.below(6));
+        let (n, m) = (1 + host.dice.below(6), host.dice.below(7));
         let k = host.dice.below(4 * m + 1);
         let mut code = |borders: u32| -> u32 {
             if host.dice.once_in(borders) {
@@ -76,10 +91,13 @@ fn noise_tables(host: &mut Host) {
                 host.dice.below(8 * m + 16)
             }
         };
-        let v2e = (0..n).map(|_| code(2)).collect();
+        let mut v2e: Vec<u32> = (0..n).map(|_| code(2)).collect();
         let e2e = (0..4 * m).map(|_| code(3)).collect();
         let b2e = (0..k).map(|_| code(20)).collect();
         let elements = (0..4 * m).map(|_| host.dice.below(n + 2)).collect();
+        if host.dice.once_in(2) {
+            v2e[host.dice.below(n) as usize] = 0;
+        }
         let tables = Tables { n, elements, v2e, e2e, b2e };
         host.ask_something(&tables, 6);
         host.recover(&tables);
@@ -101,7 +119,7 @@ fn lengths(host: &mut Host) {
             [Question::Opposite(9), Question::Next(9), Question::Previous(9), Question::Element(9)][round % 4],
             [Question::Origin(9), Question::Destination(9), Question::Across(9), Question::HalfedgeIsBorder(9)]
                 [round % 4],
-            Question::VertexIsBorder(1),
+            Question::VertexKind(1),
             [Question::Ring(1), Question::Neighbours(1)][round % 2],
             Question::BorderLoop(1),
             Question::Start(1, WalkerRecord::default()),
@@ -178,6 +196,20 @@ fn largest_fan(host: &mut Host) {
     host.ask_list(&tables, Question::BorderLoop(tables.b2e.len() as u32));
 }
 
+/// The most vertices, with no element or with one: in front, spread out, at the end, or unfit.
+fn mostly_unused(host: &mut Host) {
+    let n = MAX_VERTICES;
+    let (front, spread, end) = ([1, 2, 3, 0], [n, 1, n / 2, 0], [n - 3, n - 2, n - 1, n]);
+    let (too_high, twice) = ([1, 2, n + 1, 0], [n, 1, n, 0]);
+    for rows in [&[][..], &[front], &[spread], &[end], &[too_high], &[twice]] {
+        host.try_list(&List::new(n, rows), 2);
+    }
+    let tables = host.build(&List::new(n, &[spread])).expect("one triangle is accepted");
+    for v in [1, 2, n / 2, n / 2 + 1, n - 1, n, n + 1] {
+        host.ask_vertex(&tables, v);
+    }
+}
+
 /// n, and the numbers of rows of the element list and of E2e, at their largest or one past it; then there is no need
 /// of a work buffer.
 fn about_the_largest(host: &mut Host, n: u32, m: u32, e2e_rows: u32) {
@@ -203,9 +235,12 @@ fn largest(host: &mut Host) {
     largest_sheet(host);
     largest_fan(host);
     host.build(&book(most, most));
+    mostly_unused(host);
     for past in 0..8 {
         about_the_largest(host, most + past % 2, most + past / 2 % 2, most + past / 4);
     }
+    about_the_largest(host, most, 0, 0);
+    about_the_largest(host, most + 1, 0, 0);
 }
 
 fn main() {
@@ -213,9 +248,10 @@ fn main() {
     let start = Instant::now();
     let mut host = Host::new(seed);
     println!("seed {seed}");
-    let families: [Family; 9] = [
+    let families: [Family; 10] = [
         ("lists of one row", one_row),
         ("lists of two rows", two_rows),
+        ("unused vertices", unused_vertices),
         ("tables of two elements", small_tables),
         ("tables of noise", noise_tables),
         ("lengths", lengths),
