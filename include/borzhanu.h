@@ -5,10 +5,11 @@
  * numbers, the fourth 0 for a triangle; m is the number of elements. Side i of element f runs from
  * corner i (its origin) to the next corner (its destination), the last being followed by the first.
  * A half-edge travels as its code: 8 * f + i for a side, 8 * b for border half-edge b. Code 0 names
- * nothing.
+ * nothing. Vertices that belong to no element are accepted, however many: n may be 1,000,000 with one
+ * element, or with none.
  *
  *   V2e  n entries      the border half-edge that leaves the vertex; for a vertex that is on no
- *                       border, its least side
+ *                       border, its least side; 0 for a vertex that belongs to no element
  *   E2e  4 * m entries  what lies opposite each side: a side or a border half-edge; 0 in the fourth
  *                       entry of a triangle
  *   B2e  k entries      the side opposite each border half-edge, in rising order
@@ -55,7 +56,8 @@ enum {
     BORZHANU_CORNER_UNFIT = 3,
     /* An element has the same corner twice. Place: the first such element, the later corner. */
     BORZHANU_CORNER_REPEATED = 4,
-    /* A vertex belongs to no element. Place: the least such vertex, 0. */
+    /* Reserved, so that the numbers after it stay. No call gives it: vertices that belong to no
+       element are accepted. */
     BORZHANU_VERTEX_UNUSED = 5,
     /* Three or more elements meet at an edge. Place: element and side of the least such side. */
     BORZHANU_EDGE_CROWDED = 6,
@@ -72,13 +74,24 @@ enum {
     /* There is no such vertex, border or half-edge, or the question makes no sense for it. */
     BORZHANU_NOT_THERE = 11,
     /* The tables aren't those of a mesh: an entry that was read names nothing, or a walk doesn't
-       come to its end. Or a walker's record isn't one that these calls made. */
+       come to its end. Or a walker's record isn't one that these calls made. A V2e entry of 0 is
+       fit where a vertex is asked about: the vertex is unused. */
     BORZHANU_TABLE_BROKEN = 12,
     /* The output is too short. Place: the length that it needs, 0. */
     BORZHANU_OUTPUT_SHORT = 13,
     /* A text isn't in the form that the listing program reads. Place: the first bad line, 0.
        No call below gives it. */
     BORZHANU_TEXT_UNFIT = 14
+};
+
+/* What borzhanu_vertex_is_border answers. */
+enum {
+    /* The vertex is on no border: its elements go all the way round it. */
+    BORZHANU_INNER = 0,
+    /* The vertex is on a border. */
+    BORZHANU_RIM = 1,
+    /* The vertex belongs to no element: its V2e entry is 0. */
+    BORZHANU_UNUSED = 2
 };
 
 /* The refusal number of what a call returned; 0: it has answered. */
@@ -110,7 +123,7 @@ static inline const char *borzhanu_refusal_text(uint32_t refusal) {
     case BORZHANU_CORNER_REPEATED:
         return "a corner comes twice in an element";
     case BORZHANU_VERTEX_UNUSED:
-        return "a vertex belongs to no element";
+        return "reserved: vertices that belong to no element are accepted";
     case BORZHANU_EDGE_CROWDED:
         return "three or more elements meet at an edge";
     case BORZHANU_SIDES_ALIKE:
@@ -144,22 +157,22 @@ static inline uint32_t borzhanu_border(uint32_t b) {
     return 8u * b;
 }
 
-/* Whether a code is that of a border half-edge: 1 or 0. */
+/* Whether a code is that of a border half-edge: 1 or 0. Code 0, as V2e has it, is not. */
 static inline int borzhanu_is_border_code(uint32_t code) {
     return code != 0 && code % 8u == 0;
 }
 
-/* b of border half-edge b; 0 for a side. */
+/* b of border half-edge b; 0 for a side and for code 0. */
 static inline uint32_t borzhanu_border_of(uint32_t code) {
     return code % 8u == 0 ? code / 8u : 0;
 }
 
-/* f of side i of element f; 0 for a border half-edge. */
+/* f of side i of element f; 0 for a border half-edge and for code 0. */
 static inline uint32_t borzhanu_element_of(uint32_t code) {
     return code % 8u == 0 ? 0 : code / 8u;
 }
 
-/* i of side i of element f; 0 for a border half-edge. */
+/* i of side i of element f; 0 for a border half-edge and for code 0. */
 static inline uint32_t borzhanu_number_of(uint32_t code) {
     return code % 8u;
 }
@@ -171,17 +184,19 @@ static inline size_t borzhanu_work_length(uint32_t n, size_t m) {
 
 /*
  * Builds the three tables of an element list. Answers k, the number of border half-edges, and the
- * number of edges.
+ * number of edges. Vertices that belong to no element change neither number; their V2e entry is 0.
+ * With no element at all every vertex is such a one.
  *
  *   elements  4 * m entries, only read
  *   v2e       n entries
  *   e2e       4 * m entries
- *   b2e       at least k entries; n are always enough
+ *   b2e       at least k entries; n are always enough, since no two border sides end at the same
+ *             vertex
  *   work      at least n + 16 * m entries
  *
  * After an answer v2e, e2e and the first k entries of b2e are the tables; the rest of b2e is as it
- * was. After a refusal, 1 to 9, all three are as they were. What they and work hold before doesn't
- * matter. After 1 and 2 work is as it was; after everything else it is all zero.
+ * was. After a refusal, 1 to 4 or 6 to 9, all three are as they were. What they and work hold before
+ * doesn't matter. After 1 and 2 work is as it was; after everything else it is all zero.
  */
 uint64_t borzhanu_build(uint32_t n,
                         const uint32_t *elements, size_t elements_len,
@@ -199,8 +214,9 @@ uint64_t borzhanu_build(uint32_t n,
  *   work      at least n + 16 * m entries
  *
  * After an answer elements is the list; after a refusal, 1, 2 or 10, it is as it was. Nothing is
- * repaired: 10 means that no list has these tables. After 1 and 2 work is as it was; after
- * everything else it is all zero.
+ * repaired: 10 means that no list has these tables, as where V2e has 0 for a vertex that the other
+ * entries give a side, or a half-edge for a vertex that they give none. After 1 and 2 work is as it
+ * was; after everything else it is all zero.
  */
 uint64_t borzhanu_recover(uint32_t n,
                           const uint32_t *v2e, size_t v2e_len,
@@ -213,6 +229,9 @@ uint64_t borzhanu_recover(uint32_t n,
  * k entries, so cut after building; never more than 4 * m). They only read these. Each refuses 1, 2
  * and 11 as above, and 12 where an entry that it reads is broken; tables that building wrote never
  * give 12. Where no second number is named, it is 0.
+ *
+ * A query about a vertex goes by its V2e entry. An entry of 0 says that the vertex is unused, and it
+ * is believed: elements that have the vertex all the same aren't looked for.
  */
 
 /* The half-edge that runs along the same edge the other way. */
@@ -222,7 +241,11 @@ uint64_t borzhanu_opposite(uint32_t n,
                            const uint32_t *e2e, size_t e2e_len,
                            const uint32_t *b2e, size_t b2e_len, uint32_t code);
 
-/* The half-edge that follows: of a side, in its element; of a border half-edge, along its border. */
+/*
+ * The half-edge that follows: of a side, in its element; of a border half-edge, along its border, by
+ * the V2e entry of the vertex where it ends. An entry there that is no border half-edge, 0 included,
+ * gives 12.
+ */
 uint64_t borzhanu_next(uint32_t n,
                        const uint32_t *elements, size_t elements_len,
                        const uint32_t *v2e, size_t v2e_len,
@@ -271,7 +294,10 @@ uint64_t borzhanu_halfedge_is_border(uint32_t n,
                                      const uint32_t *e2e, size_t e2e_len,
                                      const uint32_t *b2e, size_t b2e_len, uint32_t code);
 
-/* 1 for a vertex on a border, 0 for one inside. */
+/*
+ * What a vertex is: 0 inner, 1 rim, 2 unused, as BORZHANU_INNER, BORZHANU_RIM and BORZHANU_UNUSED. So
+ * an answer other than 0 doesn't yet say that the vertex is on a border.
+ */
 uint64_t borzhanu_vertex_is_border(uint32_t n,
                                    const uint32_t *elements, size_t elements_len,
                                    const uint32_t *v2e, size_t v2e_len,
@@ -285,8 +311,8 @@ uint64_t borzhanu_vertex_is_border(uint32_t n,
  */
 
 /*
- * The elements about a vertex, in turn order, each once: at a border from rim to rim. At most m
- * entries.
+ * The elements about a vertex, in turn order, each once: at a border from rim to rim. None at an
+ * unused vertex: the count is 0, and nothing is written. At most m entries.
  */
 uint64_t borzhanu_ring(uint32_t n,
                        const uint32_t *elements, size_t elements_len,
@@ -297,7 +323,7 @@ uint64_t borzhanu_ring(uint32_t n,
 
 /*
  * The vertices joined to a vertex by an edge, in turn order; at a border one more than the ring has
- * elements. At most m + 1 entries.
+ * elements. None at an unused vertex: the count is 0, and nothing is written. At most m + 1 entries.
  */
 uint64_t borzhanu_neighbours(uint32_t n,
                              const uint32_t *elements, size_t elements_len,
@@ -319,12 +345,15 @@ uint64_t borzhanu_border_loop(uint32_t n,
 
 /* How far a walk about a vertex has come. */
 typedef struct borzhanu_walker {
-    uint32_t start; /* the side where the ring begins */
+    uint32_t start; /* the side where the ring begins; 0 for an unused vertex */
     uint32_t next;  /* the side whose element comes next; 0 when the ring is over */
     uint32_t count; /* the elements handed out so far */
 } borzhanu_walker;
 
-/* Sets a walker to the beginning of the ring of v. Answers 0. After a refusal the record is as it was. */
+/*
+ * Sets a walker to the beginning of the ring of v: the start side, the start side again, and 0; for an
+ * unused vertex 0, 0, 0, a ring that is over. Answers 0. After a refusal the record is as it was.
+ */
 uint64_t borzhanu_walker_start(uint32_t n,
                                const uint32_t *elements, size_t elements_len,
                                const uint32_t *v2e, size_t v2e_len,

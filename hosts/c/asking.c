@@ -88,7 +88,7 @@ struct call query_of(const struct exported *exported, const struct mesh *t, uint
 
 /* ---- asking ---- */
 
-static void ask_code(const struct mesh *t, uint32_t code) {
+void ask_code(const struct mesh *t, uint32_t code) {
     for (int i = 0; i < CODE_CALLS; i++) {
         struct call call = query_of(&code_calls[i], t, code);
         compare(&call, NULL);
@@ -98,9 +98,9 @@ static void ask_code(const struct mesh *t, uint32_t code) {
 void ask_list(const struct exported *exported, const struct mesh *t, uint32_t number) {
     struct call call = query_of(exported, t, number);
     struct answer answer = compare(&call, NULL);
-    if (answer.refusal != 13)
+    if (answer.refusal != 0 && answer.refusal != 13)
         return;
-    for (uint32_t len = answer.first - 1; len <= answer.first + 2; len++) {
+    for (uint32_t len = answer.first > 0 ? answer.first - 1 : 0; len <= answer.first + 2; len++) {
         call.given[OUT] = noise_of(OUT, len);
         compare(&call, NULL);
     }
@@ -121,7 +121,7 @@ void ask_walker(const struct mesh *t, uint32_t v) {
     }
 }
 
-static void ask_vertex(const struct mesh *t, uint32_t v) {
+void ask_vertex(const struct mesh *t, uint32_t v) {
     struct call call = query_of(&vertex_test, t, v);
     compare(&call, NULL);
     for (int i = 0; i < VERTEX_LISTS; i++)
@@ -185,8 +185,7 @@ static void build_without_room(const struct list *list) {
     compare(&call, NULL);
 }
 
-/* B2e of other lengths, and more work space than needed. */
-static void build_with_other_room(const struct list *list, size_t k) {
+void build_with_other_room(const struct list *list, size_t k) {
     for (size_t len = k > 0 ? k - 1 : 0; len <= k + 1; len++) {
         struct call call = build_of(list, len);
         call.given[WORK].len += len % 3;
@@ -200,6 +199,48 @@ void recover(const struct mesh *t) {
     compare(&call, NULL);
     call.given[WORK].len += 5;
     compare(&call, NULL);
+}
+
+/* The border half-edge that ends at a vertex; 0: there is none. */
+static uint32_t border_into(const struct mesh *t, uint32_t v) {
+    for (uint32_t b = 1; b <= t->b2e.len; b++) {
+        uint32_t side = t->b2e.at[b - 1];
+        if (t->elements.at[4 * (side / 8 - 1) + side % 8 - 1] == v)
+            return b;
+    }
+    return 0;
+}
+
+void try_zeroed(const struct mesh *t, uint32_t v) {
+    struct mesh zeroed = copied_tables(t);
+    uint32_t b = border_into(t, v);
+    zeroed.v2e.at[v - 1] = 0;
+    ask_vertex(&zeroed, v);
+    ask_code(&zeroed, 8 * b);
+    ask_list(&border_list, &zeroed, b);
+    recover(&zeroed);
+    drop_tables(&zeroed);
+}
+
+void recover_claimed(const struct mesh *t, uint32_t v, uint32_t entry) {
+    struct mesh claimed = copied_tables(t);
+    claimed.v2e.at[v - 1] = entry;
+    recover(&claimed);
+    drop_tables(&claimed);
+}
+
+static void try_any_zeroed(const struct mesh *t, struct dice *dice) {
+    if (elements_of(t) != 0)
+        try_zeroed(t, t->elements.at[4 * (size_t)below(dice, (uint32_t)elements_of(t)) + below(dice, 3)]);
+}
+
+/* The first spare vertex from some place on is given the entry of a vertex, or a code. */
+static void recover_any_claimed(const struct mesh *t, struct dice *dice) {
+    uint32_t v = 1 + below(dice, t->n);
+    while (v <= t->n && t->v2e.at[v - 1] != 0)
+        v++;
+    if (v <= t->n)
+        recover_claimed(t, v, below(dice, 2) == 0 ? t->v2e.at[below(dice, t->n)] : any_code(t, dice));
 }
 
 /* Recovery from tables that aren't quite these. Exchanged V2e entries can be those of another list. */
@@ -243,8 +284,10 @@ void try_small_list(const struct list *list, struct dice *dice) {
     build_with_other_room(list, t.b2e.len);
     recover(&t);
     recover_damaged(&t, dice);
+    recover_any_claimed(&t, dice);
     ask_everything(&t);
     ask_damaged(&t, dice, 2);
+    try_any_zeroed(&t, dice);
     drop_tables(&t);
 }
 
@@ -259,7 +302,9 @@ void try_list(const struct list *list, struct dice *dice, int times) {
     ask_something(&t, dice, times);
     for (int i = 0; i <= times / 4; i++) {
         recover_damaged(&t, dice);
+        recover_any_claimed(&t, dice);
         ask_damaged(&t, dice, 1 + times / 8);
+        try_any_zeroed(&t, dice);
     }
     drop_tables(&t);
 }

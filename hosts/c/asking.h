@@ -18,6 +18,9 @@ struct call build_of(const struct list *list, size_t b2e_len);
 struct call recovery_of(const struct mesh *t);
 struct call query_of(const struct exported *exported, const struct mesh *t, uint32_t number);
 
+/* Every query of a half-edge; every query of a vertex. */
+void ask_code(const struct mesh *t, uint32_t code);
+void ask_vertex(const struct mesh *t, uint32_t v);
 /* A list with no room, and then with one entry too few, just enough and more than enough. */
 void ask_list(const struct exported *exported, const struct mesh *t, uint32_t number);
 /* A walker from the start until the walk is over or refused, and a little further. */
@@ -27,7 +30,14 @@ void ask_something(const struct mesh *t, struct dice *dice, int times);
 
 /* Builds with room in B2e; where accepted hands over the tables, which the caller drops. */
 int built(const struct list *list, struct mesh *t);
+/* B2e of other lengths, and more work space than needed. */
+void build_with_other_room(const struct list *list, size_t k);
 void recover(const struct mesh *t);
+/* A vertex with elements whose V2e entry is put to 0: what is asked of it and of the border that ends there, and
+   recovery. */
+void try_zeroed(const struct mesh *t, uint32_t v);
+/* A spare vertex whose V2e entry is put to another one: recovery. */
+void recover_claimed(const struct mesh *t, uint32_t v, uint32_t entry);
 
 /* Building, recovery and queries of a list, sound and damaged: of everything, or of something chosen at random. */
 void try_small_list(const struct list *list, struct dice *dice);

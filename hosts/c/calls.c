@@ -8,6 +8,7 @@
 #include <stdio.h>
 #include <stdlib.h>
 #include <string.h>
+#include <time.h>
 #include <unistd.h>
 
 static const char *const role_names[ROLES] = {"elements", "v2e", "e2e", "b2e", "work", "out", "walker"};
@@ -213,19 +214,28 @@ static struct answer taken_apart(uint64_t returned) {
     return (struct answer){borzhanu_refusal(returned), borzhanu_first(returned), borzhanu_second(returned)};
 }
 
-static void call_kernel(const struct call *call, struct answer want, const struct slice *expected,
-                        enum placement placement) {
-    struct slice buffers[ROLES];
+static void place_buffers(const struct call *call, enum placement placement, struct slice *buffers) {
     for (int role = 0; role < ROLES; role++) {
         buffers[role].len = call->given[role].len;
         buffers[role].at = placed(&memory[role], call->given[role].len, placement);
         copy_into(buffers[role].at, call->given[role]);
     }
     current_placement = placement;
+}
+
+static struct answer kernel_answer(const struct call *call, const struct slice *buffers) {
     alarm(SECONDS_PER_CALL);
-    struct answer got = taken_apart(call->exported->kernel(call, buffers));
+    uint64_t returned = call->exported->kernel(call, buffers);
     alarm(0);
     progress.calls++;
+    return taken_apart(returned);
+}
+
+static void call_kernel(const struct call *call, struct answer want, const struct slice *expected,
+                        enum placement placement) {
+    struct slice buffers[ROLES];
+    place_buffers(call, placement, buffers);
+    struct answer got = kernel_answer(call, buffers);
     if (memcmp(&want, &got, sizeof want) != 0)
         fail_answer(want, got);
     check_left(call, buffers, got);
@@ -249,4 +259,35 @@ struct answer compare(const struct call *call, struct slice *results) {
     if (results != NULL)
         memcpy(results, expected, sizeof expected);
     return want;
+}
+
+/* ---- time ---- */
+
+static double processor_seconds(void) {
+    struct timespec now;
+    clock_gettime(CLOCK_PROCESS_CPUTIME_ID, &now);
+    return (double)now.tv_sec + 1e-9 * (double)now.tv_nsec;
+}
+
+static double seconds_of(const struct call *call) {
+    struct slice buffers[ROLES];
+    current = call;
+    place_buffers(call, END_AT_GUARD, buffers);
+    double began = processor_seconds();
+    kernel_answer(call, buffers);
+    return processor_seconds() - began;
+}
+
+void check_time(const struct call *call, double allowed) {
+    enum { TRIES = 3 };
+    double least = seconds_of(call);
+    for (int i = 1; i < TRIES && least > allowed; i++) {
+        double other = seconds_of(call);
+        least = other < least ? other : least;
+    }
+    if (least <= allowed)
+        return;
+    print_current("the call is too slow");
+    printf("  allowed %.1f s of processor time, taken %.1f s\n", allowed, least);
+    stop();
 }

@@ -48,6 +48,10 @@ size_t room_of(enum role role);
    buffer holds, until the next call. A mismatch is printed and ends the program. */
 struct answer compare(const struct call *call, struct slice *results);
 
+/* Makes a call on the kernel alone, for its processor time. Where it takes more than `allowed` seconds three times in
+   a row, this is printed and ends the program. */
+void check_time(const struct call *call, double allowed);
+
 /* Ends the program after a mismatch. */
 void stop(void);
 

@@ -1,13 +1,14 @@
 /* The worked cases that docs/TRACE.md quotes under "Housings to hold up to the rules", and the sample surface mesh of
-   T. J. Alumbaugh and X. Jiao, "Compact Array-Based Mesh Data Structures", with the values printed there; and the sides
-   of TRI_3 and QUAD_4 in the figures of CGNS. */
+   T. J. Alumbaugh and X. Jiao, "Compact Array-Based Mesh Data Structures", with the values printed there; the sides of
+   TRI_3 and QUAD_4 in the figures of CGNS; and some of these lists with spare vertices, worked out by hand: the entry
+   of a spare vertex is 0, and nothing else changes but the numbers of the vertices after it. */
 #ifndef CASES_H
 #define CASES_H
 
 #include <stddef.h>
 #include <stdint.h>
 
-enum { CASE_ROWS = 8, CASE_VERTICES = 9, CASE_BORDERS = 8 };
+enum { CASE_ROWS = 8, CASE_VERTICES = 9, CASE_BORDERS = 8, RECOVERED_ROWS = 2 };
 
 struct build_case {
     const char *name;
@@ -23,6 +24,25 @@ struct list_case {
     uint32_t number, count, list[CASE_BORDERS];
 };
 
+/* What a walker at a vertex of the case holds when it starts, and the elements that it gives before 0. */
+struct walk_case {
+    const char *build_case;
+    uint32_t vertex, start, count, elements[CASE_ROWS];
+};
+
+/* What the vertex test gives for each vertex of the case: 0 inner, 1 rim, 2 unused. */
+struct vertex_case {
+    const char *build_case;
+    uint32_t kinds[CASE_VERTICES];
+};
+
+/* A vertex of the case with elements, to be given a V2e entry of 0: the vertex is unused then, and the border half-edge
+   that ends there (0: there is none) has nothing that follows it. */
+struct zeroed_case {
+    const char *build_case;
+    uint32_t vertex, border;
+};
+
 /* The numbers of the sides after and before each side of an element of the case, in the figures of CGNS. */
 struct figure {
     const char *build_case;
@@ -31,15 +51,21 @@ struct figure {
 
 struct recovery_case {
     const char *name;
-    uint32_t n, m, v2e[4], e2e[2][4];
+    uint32_t n, m, v2e[CASE_VERTICES], e2e[RECOVERED_ROWS][4];
     uint32_t refusal;
-    uint32_t rows[2][4];
+    uint32_t rows[RECOVERED_ROWS][4];
 };
 
 extern const struct build_case build_cases[];
 extern const size_t build_case_count;
 extern const struct list_case list_cases[];
 extern const size_t list_case_count;
+extern const struct walk_case walk_cases[];
+extern const size_t walk_case_count;
+extern const struct vertex_case vertex_cases[];
+extern const size_t vertex_case_count;
+extern const struct zeroed_case zeroed_cases[];
+extern const size_t zeroed_case_count;
 extern const struct figure figures[];
 extern const size_t figure_count;
 extern const struct recovery_case recovery_cases[];

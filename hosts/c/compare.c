@@ -8,8 +8,9 @@
 #define _DEFAULT_SOURCE
 #include "asking.h"
 #include "borzhanu.h"
-#include "cases.h"
 #include "header.h"
+#include "printed.h"
+#include "spare.h"
 
 #include <stdio.h>
 #include <stdlib.h>
@@ -19,93 +20,6 @@
 enum { SEED = 20240131 };
 
 #define COUNT(array) (sizeof(array) / sizeof *(array))
-
-static void fail_case(const char *name, const char *what) {
-    printf("MISMATCH: case '%s': %s isn't as printed\n", name, what);
-    stop();
-}
-
-static void check_printed(const char *name, const char *what, const uint32_t *printed, struct slice got) {
-    if (got.len != 0 && memcmp(printed, got.at, got.len * sizeof *printed) != 0)
-        fail_case(name, what);
-}
-
-static struct mesh tables_of_case(const struct build_case *c) {
-    struct list list = empty_list(c->n, c->m);
-    for (uint32_t f = 0; f < c->m; f++)
-        add_row(&list, c->rows[f][0], c->rows[f][1], c->rows[f][2], c->rows[f][3]);
-    struct call call = build_of(&list, CASE_BORDERS + 1);
-    struct slice results[ROLES];
-    struct answer answer = compare(&call, results);
-    if (answer.refusal != c->refusal || answer.first != c->first || answer.second != c->second)
-        fail_case(c->name, "the answer");
-    results[B2E].len = answer.refusal == 0 ? answer.first : 0;
-    if (answer.refusal == 0) {
-        check_printed(c->name, "V2e", c->v2e, results[V2E]);
-        check_printed(c->name, "E2e", c->e2e[0], results[E2E]);
-        check_printed(c->name, "B2e", c->b2e, results[B2E]);
-    }
-    struct mesh t = {c->n, copied(results[ELEMENTS]), copied(results[V2E]), copied(results[E2E]), copied(results[B2E])};
-    drop_list(&list);
-    return t;
-}
-
-static void check_list_case(const struct list_case *c, const struct mesh *t) {
-    const struct exported *lists[] = {&vertex_lists[0], &vertex_lists[1], &border_list};
-    for (size_t i = 0; i < COUNT(lists); i++) {
-        if (strcmp(lists[i]->name, c->query) != 0)
-            continue;
-        struct call call = query_of(lists[i], t, c->number);
-        struct slice results[ROLES];
-        call.given[OUT] = noise_of(OUT, CASE_BORDERS);
-        if (compare(&call, results).first != c->count)
-            fail_case(c->build_case, c->query);
-        check_printed(c->build_case, c->query, c->list, (struct slice){results[OUT].at, c->count});
-    }
-}
-
-static void check_step(const struct figure *c, const struct mesh *t, const char *query, uint32_t i, uint32_t expected) {
-    for (size_t j = 0; j < CODE_CALLS; j++) {
-        if (strcmp(code_calls[j].name, query) != 0)
-            continue;
-        struct call call = query_of(&code_calls[j], t, borzhanu_side(c->element, i));
-        if (compare(&call, NULL).first != borzhanu_side(c->element, expected))
-            fail_case(c->build_case, query);
-    }
-}
-
-static void check_figure(const struct figure *c, const struct mesh *t) {
-    for (uint32_t i = 1; i <= c->sides; i++) {
-        check_step(c, t, "next", i, c->next[i - 1]);
-        check_step(c, t, "previous", i, c->previous[i - 1]);
-    }
-}
-
-static void check_recovery_case(const struct recovery_case *c) {
-    struct slice v2e = {(uint32_t *)c->v2e, c->n}, e2e = {(uint32_t *)c->e2e[0], 4 * c->m}, results[ROLES];
-    struct mesh t = {c->n, noise_of(ELEMENTS, 4 * c->m), v2e, e2e, noise_of(B2E, 0)};
-    struct call call = recovery_of(&t);
-    if (compare(&call, results).refusal != c->refusal)
-        fail_case(c->name, "recovery's answer");
-    if (c->refusal == 0)
-        check_printed(c->name, "the recovered list", c->rows[0], results[ELEMENTS]);
-}
-
-static void printed_cases(struct dice *dice) {
-    (void)dice;
-    for (size_t i = 0; i < build_case_count; i++) {
-        struct mesh t = tables_of_case(&build_cases[i]);
-        for (size_t j = 0; j < list_case_count; j++)
-            if (strcmp(list_cases[j].build_case, build_cases[i].name) == 0)
-                check_list_case(&list_cases[j], &t);
-        for (size_t j = 0; j < figure_count; j++)
-            if (strcmp(figures[j].build_case, build_cases[i].name) == 0)
-                check_figure(&figures[j], &t);
-        drop_tables(&t);
-    }
-    for (size_t i = 0; i < recovery_case_count; i++)
-        check_recovery_case(&recovery_cases[i]);
-}
 
 static int row_is_fit(const uint32_t *row, uint32_t n) {
     for (int i = 0; i < 4; i++) {
@@ -130,8 +44,15 @@ static uint32_t rows_with(uint32_t values) {
     return values * values * values * values;
 }
 
+static void no_row(struct dice *dice) {
+    for (uint32_t n = 0; n <= 9; n++) {
+        struct list list = {n, 0, 0, NULL};
+        try_small_list(&list, dice);
+    }
+}
+
 static void one_row(struct dice *dice) {
-    for (uint32_t n = 0; n <= 4; n++)
+    for (uint32_t n = 0; n <= 5; n++)
         for (uint32_t number = 0; number < rows_with(n + 2); number++) {
             uint32_t row[4];
             digits(number, n + 2, row);
@@ -190,6 +111,34 @@ static void small_tables(struct dice *dice) {
     }
 }
 
+/* Recovery of every content of V2e on n vertices, out of the codes that could be meant, beside one E2e. */
+static void every_v2e(uint32_t n, uint32_t *e2e, size_t m) {
+    static const uint32_t codes[] = {0, 8, 16, 24, 32, 9, 17};
+    uint32_t v2e[5], all = 1;
+    for (uint32_t v = 0; v < n; v++)
+        all *= COUNT(codes);
+    for (uint32_t number = 0; number < all; number++) {
+        uint32_t rest = number;
+        for (uint32_t v = 0; v < n; v++, rest /= COUNT(codes))
+            v2e[v] = codes[rest % COUNT(codes)];
+        struct mesh t = {n, noise_of(ELEMENTS, 4 * m), {v2e, n}, {e2e, 4 * m}, noise_of(B2E, 0)};
+        struct call call = recovery_of(&t);
+        compare(&call, NULL);
+    }
+}
+
+/* E2e of no element, of one triangle, of one quadrilateral, of two triangles back to back and of the listing: on up to
+   five vertices some are spare, and any of them can be. */
+static void small_spare_tables(struct dice *dice) {
+    static uint32_t e2e[][8] = {
+        {0}, {8, 16, 24, 0}, {8, 16, 24, 32}, {19, 18, 17, 0, 11, 10, 9, 0}, {8, 16, 17, 0, 11, 24, 32, 0}};
+    static const size_t m[] = {0, 1, 1, 2, 2};
+    (void)dice;
+    for (size_t i = 0; i < COUNT(m); i++)
+        for (uint32_t n = 0; n <= 5; n++)
+            every_v2e(n, e2e[i], m[i]);
+}
+
 static void prepare_any(struct list *list, struct dice *dice) {
     if (below(dice, 2) == 0)
         renumber_vertices(list, dice);
@@ -242,7 +191,7 @@ static void large_housings(struct dice *dice) {
 /* Tables and lists of noise, near to codes. */
 static void noise_tables(struct dice *dice) {
     for (int i = 0; i < 4000; i++) {
-        uint32_t n = 1 + below(dice, 6), m = 1 + below(dice, 6), k = below(dice, 4 * m + 1);
+        uint32_t n = 1 + below(dice, 6), m = below(dice, 7), k = below(dice, 4 * m + 1);
         struct mesh given = {n, noise_of(ELEMENTS, 4 * m), noise_of(V2E, n), noise_of(E2E, 4 * m), noise_of(B2E, k)};
         struct mesh t = copied_tables(&given);
         for (size_t j = 0; j < t.elements.len; j++) {
@@ -282,6 +231,7 @@ static void lengths(struct dice *dice) {
                      of_query[] = {ELEMENTS, V2E, E2E, B2E};
     for (int i = 0; i < 12; i++) {
         struct list list = sheet(1 + below(dice, 3), 1 + below(dice, 3), 0, 0, MIXED, dice);
+        add_spare(&list, below(dice, list.n + 1), (uint32_t)i % 3 * 40);
         struct mesh t;
         if (!built(&list, &t))
             exit(2);
@@ -330,12 +280,13 @@ static void try_emptied_calls(const struct list *list) {
 }
 
 /* Buffers without entries, which one of the two placements hands over as null: all of them, of no vertices and no
-   elements, and each by itself, of a triangle. */
+   elements; all but V2e and the work buffer, of vertices alone; and each by itself, of a triangle. */
 static void empty_buffers(struct dice *dice) {
     uint32_t row[4] = {1, 2, 3, 0};
-    struct list nothing = {0, 0, 0, NULL}, triangle = {3, 1, 1, row};
+    struct list nothing = {0, 0, 0, NULL}, vertices = {3, 0, 0, NULL}, triangle = {3, 1, 1, row};
     (void)dice;
     try_emptied_calls(&nothing);
+    try_emptied_calls(&vertices);
     try_emptied_calls(&triangle);
 }
 
@@ -396,7 +347,6 @@ static void largest(struct dice *dice) {
     largest_list(sheet(1000, 1000, 1, 1, QUADRILATERALS, dice), ask_largest_sheet);
     largest_list(fan(most - 1, 1), ask_largest_fan);
     largest_list(book(most, most), ask_largest_fan);
-    largest_list(empty_list(most, 0), ask_largest_fan);
     for (uint32_t past = 0; past < 8; past++)
         about_the_largest(most + past % 2, most + past / 2 % 2, most + past / 4);
 }
@@ -406,9 +356,11 @@ static const struct {
     void (*run)(struct dice *dice);
 } families[] = {
     {"printed cases", printed_cases},
+    {"lists of no row", no_row},
     {"lists of one row", one_row},
     {"lists of two rows", two_rows},
     {"tables of one element", small_tables},
+    {"tables of spare vertices", small_spare_tables},
     {"tables of noise", noise_tables},
     {"lengths", lengths},
     {"empty buffers", empty_buffers},
@@ -416,6 +368,8 @@ static const struct {
     {"housings", housings},
     {"large housings", large_housings},
     {"the largest sizes", largest},
+    {"time of spare vertices", time_of_spare_vertices},
+    {"many spare vertices", many_spare_vertices},
 };
 
 static double seconds(void) {

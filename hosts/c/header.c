@@ -11,6 +11,27 @@ static void fail_number(const char *what, uint32_t number) {
     stop();
 }
 
+/* Each name stands for its place in the list. */
+static void check_names(const uint32_t *names, size_t count, const char *what) {
+    for (uint32_t number = 0; number < count; number++)
+        if (names[number] != number)
+            fail_number(what, number);
+}
+
+/* The refusals, with 5, which no call gives, in its place; and what a vertex can be. */
+static void check_numbers(void) {
+    static const uint32_t refusals[] = {
+        BORZHANU_ANSWERED,     BORZHANU_SIZES,           BORZHANU_LENGTHS,
+        BORZHANU_CORNER_UNFIT, BORZHANU_CORNER_REPEATED, BORZHANU_VERTEX_UNUSED,
+        BORZHANU_EDGE_CROWDED, BORZHANU_SIDES_ALIKE,     BORZHANU_FAN_BROKEN,
+        BORZHANU_BORDER_SHORT, BORZHANU_NO_LIST,         BORZHANU_NOT_THERE,
+        BORZHANU_TABLE_BROKEN, BORZHANU_OUTPUT_SHORT,    BORZHANU_TEXT_UNFIT,
+    };
+    static const uint32_t vertices[] = {BORZHANU_INNER, BORZHANU_RIM, BORZHANU_UNUSED};
+    check_names(refusals, sizeof refusals / sizeof *refusals, "another name for refusal");
+    check_names(vertices, sizeof vertices / sizeof *vertices, "another name for a vertex that is");
+}
+
 /* `whole` and `rest` are what was counted: the code is 8 * whole + rest */
 static void check_code(uint32_t code, uint32_t whole, uint32_t rest) {
     int border = rest == 0;
@@ -61,6 +82,7 @@ static void check_sentences(void) {
 }
 
 void check_header(void) {
+    check_numbers();
     check_codes();
     check_sentences();
 }

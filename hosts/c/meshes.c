@@ -116,6 +116,32 @@ struct list book(uint32_t n, uint32_t count) {
     return list;
 }
 
+void add_spare(struct list *list, uint32_t after, uint32_t count) {
+    for (size_t p = 0; p < 4 * list->m; p++)
+        if (list->rows[p] > after)
+            list->rows[p] += count;
+    list->n += count;
+}
+
+/* Before, after or within the others, together or here and there. */
+static void add_any_spare(struct list *list, struct dice *dice, uint32_t size) {
+    uint32_t together = 1 + below(dice, size);
+    switch (below(dice, 4)) {
+    case 0:
+        add_spare(list, 0, together);
+        break;
+    case 1:
+        add_spare(list, list->n, together);
+        break;
+    case 2:
+        add_spare(list, below(dice, list->n + 1), together);
+        break;
+    default:
+        for (uint32_t times = 1 + below(dice, 4); times > 0; times--)
+            add_spare(list, below(dice, list->n + 1), 1 + below(dice, 2));
+    }
+}
+
 static struct list one_housing(struct dice *dice, uint32_t size) {
     uint32_t width = 1 + below(dice, 1 + size / 3), height = 1 + below(dice, 1 + size / (2 * width));
     enum kinds kinds = (enum kinds)below(dice, 3);
@@ -138,12 +164,16 @@ static struct list one_housing(struct dice *dice, uint32_t size) {
 }
 
 struct list any_housing(struct dice *dice, uint32_t size) {
+    if (below(dice, 20) == 0)
+        return empty_list(below(dice, size + 1), 0);
     struct list list = one_housing(dice, size);
     if (below(dice, 4) == 0) {
         struct list other = one_housing(dice, size);
         add_list(&list, &other);
         drop_list(&other);
     }
+    if (below(dice, 3) == 0)
+        add_any_spare(&list, dice, size);
     return list;
 }
 
@@ -234,7 +264,7 @@ void damage_list(struct list *list, struct dice *dice) {
     size_t f = below(dice, (uint32_t)list->m);
     uint32_t row[4];
     memcpy(row, list->rows + 4 * f, sizeof row);
-    switch (below(dice, 8)) {
+    switch (below(dice, 9)) {
     case 0:
         reverse_row(list->rows + 4 * f);
         break;
@@ -258,8 +288,12 @@ void damage_list(struct list *list, struct dice *dice) {
     case 6:
         list->rows[4 * f + below(dice, 4)] = below(dice, list->n + 2);
         break;
+    case 7:
+        add_spare(list, below(dice, list->n + 1), 1);
+        break;
     default:
-        list->n += 1;
+        if (list->n > 0)
+            list->n -= 1;
     }
 }
 

@@ -36,7 +36,10 @@ struct list fan(uint32_t count, int closed);
 struct list bipyramid(uint32_t count);
 /* `count` triangles on the edge of vertices 1 and 2, over n vertices. */
 struct list book(uint32_t n, uint32_t count);
-/* One of these, or two of them side by side, of up to about `size` elements. */
+/* `count` spare vertices, numbered from `after` + 1 on; the vertices that had these numbers come after them. */
+void add_spare(struct list *list, uint32_t after, uint32_t count);
+/* One of these, or two of them side by side, of up to about `size` elements, with and without spare vertices; or
+   spare vertices alone. */
 struct list any_housing(struct dice *dice, uint32_t size);
 
 /* These keep a sound list sound. */
@@ -45,7 +48,7 @@ void shuffle_rows(struct list *list, struct dice *dice);
 void rotate_rows(struct list *list, struct dice *dice);
 void turn_over(struct list *list);
 
-/* One slip of a mesher, chosen at random. */
+/* One slip of a mesher, or one more spare vertex, chosen at random. */
 void damage_list(struct list *list, struct dice *dice);
 /* Some entries of a table made wrong; `codes` bounds what they then name, mostly. */
 void damage_table(uint32_t *table, size_t len, uint32_t codes, struct dice *dice);

@@ -127,19 +127,6 @@ static struct answer check_corners(const struct study *s) {
     return gives(0, 0);
 }
 
-static struct answer check_vertices_used(const struct study *s) {
-    unsigned char *used = zeroed(s->n, 1);
-    struct answer answer = gives(0, 0);
-    for (size_t p = 0; p < 4 * s->m; p++)
-        if (s->rows[p] != 0)
-            used[s->rows[p] - 1] = 1;
-    for (uint32_t v = s->n; v >= 1; v--)
-        if (!used[v - 1])
-            answer = refused(5, v, 0);
-    free(used);
-    return answer;
-}
-
 static struct joint *sorted_joints(struct study *s) {
     struct joint *joints = zeroed(4 * s->m, sizeof *joints);
     size_t count = 0;
@@ -208,7 +195,8 @@ static int is_turn_order(const struct study *s, uint32_t first, int first_is_tur
     return listed == valence && ends;
 }
 
-/* For each vertex the side where its turn order would begin: one that is nobody's turn, else any. */
+/* For each vertex the side where its turn order would begin: one that is nobody's turn, else any. A vertex without
+   sides has the empty turn order. */
 static struct answer check_turn_orders(const struct study *s) {
     unsigned char *is_turn = zeroed(4 * s->m, 1);
     uint32_t *first = zeroed(s->n, sizeof *first), *valence = zeroed(s->n, sizeof *valence);
@@ -225,7 +213,7 @@ static struct answer check_turn_orders(const struct study *s) {
             first[v] = side_at(p);
     }
     for (uint32_t v = s->n; v >= 1; v--)
-        if (!is_turn_order(s, first[v - 1], is_turn[place_of(first[v - 1])], valence[v - 1]))
+        if (valence[v - 1] != 0 && !is_turn_order(s, first[v - 1], is_turn[place_of(first[v - 1])], valence[v - 1]))
             answer = refused(8, v, 0);
     free(is_turn);
     free(first);
@@ -244,6 +232,7 @@ static void write_tables(struct study *s) {
             s->e2e[p] = 8 * s->k;
         }
     }
+    /* no corner names a vertex without sides, whose entry stays 0 */
     for (size_t p = 4 * s->m; p-- > 0;)
         if (s->rows[p] != 0)
             s->v2e[s->rows[p] - 1] = side_at(p);
@@ -251,11 +240,9 @@ static void write_tables(struct study *s) {
         s->v2e[destination_of(s->rows, s->b2e[b - 1]) - 1] = 8 * b;
 }
 
-/* Checks 3 to 8 in their order; then the tables, k and the number of edges. */
+/* Checks 3 to 8 in their order, but for 5, which is reserved; then the tables, k and the number of edges. */
 static struct answer examine(struct study *s) {
     struct answer answer = check_corners(s);
-    if (answer.refusal == 0)
-        answer = check_vertices_used(s);
     if (answer.refusal == 0)
         answer = pair_sides(s);
     if (answer.refusal == 0)
@@ -319,7 +306,7 @@ struct answer reference_build(const struct mesh *mesh, struct slice work) {
 /* ---- recovery ---- */
 
 /* In a list with this E2e, a side begins where its turn begins: sides are gathered into sets that
-   share their origin, and V2e names one set for each vertex. */
+   share their origin, and V2e names one set for each vertex, or none where it has 0. */
 static size_t set_of(size_t *parent, size_t p) {
     while (parent[p] != p) {
         parent[p] = parent[parent[p]];
@@ -347,7 +334,8 @@ static size_t border_sides(const uint32_t *e2e, size_t m, uint32_t *sides) {
     return k;
 }
 
-/* A side with origin v in any list with these tables; 0: there is no such list. */
+/* A side with origin v in any list with these tables. 0: v has no side, or there is no such list, as a comparison of
+   the candidate's V2e will show. */
 static uint32_t side_from(uint32_t entry, const uint32_t *e2e, size_t m, const uint32_t *borders, size_t k) {
     if (is_side(e2e, m, entry))
         return entry;
@@ -437,6 +425,11 @@ static uint32_t read_b2e(const struct mesh *mesh, uint32_t border) {
 static uint32_t read_v2e(const struct mesh *mesh, uint32_t v) {
     uint32_t code = mesh->v2e.at[v - 1];
     return has_half_edge(mesh, code) ? code : 0;
+}
+
+/* An entry of 0 isn't broken where a query begins at the vertex, whatever sides the list gives it. */
+static int is_unused(const struct mesh *mesh, uint32_t v) {
+    return mesh->v2e.at[v - 1] == 0;
 }
 
 static uint32_t read_origin(const struct mesh *mesh, uint32_t side) {
@@ -536,19 +529,23 @@ struct answer reference_halfedge_is_border(const struct mesh *mesh, uint32_t cod
     return gives(number_of(code) == 0, 0);
 }
 
+enum { INNER = 0, RIM = 1, UNUSED = 2 };
+
 struct answer reference_vertex_is_border(const struct mesh *mesh, uint32_t v) {
     struct answer checked = check_asked(mesh, has_vertex, v);
     if (checked.refusal != 0)
         return checked;
+    if (is_unused(mesh, v))
+        return gives(UNUSED, 0);
     uint32_t code = read_v2e(mesh, v);
     if (code == 0)
         return refused(12, 0, 0);
-    return gives(number_of(code) == 0, 0);
+    return gives(number_of(code) == 0 ? RIM : INNER, 0);
 }
 
 /* ---- lists ---- */
 
-/* 0: broken */
+/* Of a vertex that isn't unused. 0: broken */
 static uint32_t start_side(const struct mesh *mesh, uint32_t v) {
     uint32_t code = read_v2e(mesh, v);
     if (code == 0 || number_of(code) != 0)
@@ -570,7 +567,7 @@ static enum step turn_by_e2e(const struct mesh *mesh, uint32_t start, uint32_t s
     return *turn == start ? ENDS : GOES_ON;
 }
 
-/* The sides of the ring of v into `sides`, which has room for m. Returns 0 where it is broken. */
+/* The sides of the ring of v, which isn't unused, into `sides`, which has room for m. Returns 0 where it is broken. */
 static size_t ring_sides(const struct mesh *mesh, uint32_t v, uint32_t *sides) {
     uint32_t start = start_side(mesh, v), side = start;
     if (start == 0)
@@ -600,6 +597,8 @@ struct answer reference_ring(const struct mesh *mesh, uint32_t v, struct slice o
     struct answer checked = check_asked(mesh, has_vertex, v);
     if (checked.refusal != 0)
         return checked;
+    if (is_unused(mesh, v))
+        return gives(0, 0);
     uint32_t *list = zeroed(elements_in(mesh), sizeof *list);
     size_t count = ring_sides(mesh, v, list);
     for (size_t i = 0; i < count; i++)
@@ -628,6 +627,8 @@ struct answer reference_neighbours(const struct mesh *mesh, uint32_t v, struct s
     struct answer checked = check_asked(mesh, has_vertex, v);
     if (checked.refusal != 0)
         return checked;
+    if (is_unused(mesh, v))
+        return gives(0, 0);
     size_t room = elements_in(mesh) + 1;
     uint32_t *sides = zeroed(room, sizeof *sides), *list = zeroed(room, sizeof *list);
     size_t ring_count = ring_sides(mesh, v, sides);
@@ -670,6 +671,10 @@ struct answer reference_walker_start(const struct mesh *mesh, uint32_t v, struct
     struct answer checked = check_asked(mesh, has_vertex, v);
     if (checked.refusal != 0)
         return checked;
+    if (is_unused(mesh, v)) {
+        *walker = (struct record){0, 0, 0};
+        return gives(0, 0);
+    }
     uint32_t start = start_side(mesh, v);
     if (start == 0)
         return refused(12, 0, 0);
