@@ -132,7 +132,7 @@ impl Refusal {
             Refusal::Lengths => "a buffer's length doesn't fit n and m",
             Refusal::CornerUnfit { .. } => "a corner is 0 (not the fourth) or above n",
             Refusal::CornerRepeated { .. } => "a corner comes twice in an element",
-            Refusal::VertexUnused { .. } => "a vertex belongs to no element",
+            Refusal::VertexUnused { .. } => "reserved: vertices that belong to no element are accepted",
             Refusal::EdgeCrowded { .. } => "three or more elements meet at an edge",
             Refusal::SidesAlike { .. } => "two elements run along an edge in the same direction",
             Refusal::FanBroken { .. } => "the elements at a vertex aren't one fan",
