@@ -10,7 +10,7 @@ use lib.Dec.{T, leb, eqb}
 use lib.ListN.{length, take, drop, replicate, drop-of-length-le, length-take, length-append, length-drop}
 use lib.Seq.{take-append-seam}
 use Rattle.lists.specs.Tests.{both}
-use Rattle.lists.specs.TestLaws.{passes, means-eq, means-le, zero-or}
+use Rattle.lists.specs.TestLaws.{passes, means-eq, means-le}
 use Rattle.lists.specs.Search.{at}
 use Rattle.lists.specs.Parts.{part, part-take, length-part}
 use Rattle.rules.specs.Elements.{maxVertex, maxElement, elements}
@@ -20,7 +20,7 @@ use Rattle.rules.specs.Refusals.{Answer, gives, refused, Buffers, callSizes, ca
 use Rattle.rules.specs.Refusals.{roomCheck, listAnswer, after, onto, sideCheck, vertexCheck, crowdedSide, alikeSide, unorderedVertex}
 use Rattle.theory.specs.FitRows.{means-sizes}
 use Rattle.theory.specs.Built.{borders-bound}
-use Rattle.theory.specs.Answers.{room-enough, room-short, side-clear, side-refuses, vertex-clear, vertex-refuses}
+use Rattle.theory.specs.Answers.{room-enough, room-short, past-side, past-vertex}
 use Rattle.tabulate.specs.Results.{Sized, Holds, Tabulated}
 
 -- the answer of checks 3 to 9, and the tables after it
@@ -88,29 +88,14 @@ holds-front n L w r l b x =
       border = front (n + 4 * elements L) (borders L) (omega arith) ∙ x .border;
     }
 
--- checks that end in counts found nothing
-clear-side : (r s k e : ℕ) (rest : Answer) → sideCheck r s rest ≡ gives k e → rest ≡ gives k e
-clear-side r s k e rest g = go (zero-or s)
-  where
-    go : (s ≡ 0) ⊎ (s ≡ 0 → ⊥) → rest ≡ gives k e
-    go (inl z) = sym (side-clear r s rest z) ∙ g
-    go (inr d) = let h = side-refuses r s rest d in let z : _≡_ {A = ℕ} 0 1 = cc in absurd (omega arith)
-
-clear-vertex : (r v k e : ℕ) (rest : Answer) → vertexCheck r v rest ≡ gives k e → rest ≡ gives k e
-clear-vertex r v k e rest g = go (zero-or v)
-  where
-    go : (v ≡ 0) ⊎ (v ≡ 0 → ⊥) → rest ≡ gives k e
-    go (inl z) = sym (vertex-clear r v rest z) ∙ g
-    go (inr d) = let h = vertex-refuses r v rest d in let z : _≡_ {A = ℕ} 0 1 = cc in absurd (omega arith)
-
 pub counts-are : (n : ℕ) (L : List ℕ) (k e : ℕ) → listAnswer n L ≡ gives k e → k ≡ borders L
 unfolding listAnswer
 counts-are n L k e g =
     let h : gives (borders L) (edges L) ≡ gives k e =
-    clear-vertex 8 (unorderedVertex n L) k e _
-    (clear-side 7 (alikeSide L) k e _
-    (clear-side 6 (crowdedSide L) k e _
-    (clear-side 4 (repeatedCorner L) k e _ (clear-side 3 (unfitCorner n L) k e _ g)))) in
+    past-vertex 8 (unorderedVertex n L) k e _
+    (past-side 7 (alikeSide L) k e _
+    (past-side 6 (crowdedSide L) k e _
+    (past-side 4 (repeatedCorner L) k e _ (past-side 3 (unfitCorner n L) k e _ g .1) .1) .1) .1) .1 in
     cc
 
 -- checks 1 and 2 found nothing

@@ -9,7 +9,7 @@ use native.Mathlib.Omega.{arith}
 use lib.Dec.{T, leb, eqb, not-T}
 use lib.ListN.{length, take, drop, replicate, length-take, length-drop, length-append}
 use Rattle.lists.specs.Tests.{both, same}
-use Rattle.lists.specs.TestLaws.{true-of, false-of, both-pass, means-eq, zero-or}
+use Rattle.lists.specs.TestLaws.{true-of, false-of, both-pass, means-eq}
 use lib.Seq.{take-at, drop-at, take-append-seam, take-all}
 use Rattle.lists.specs.Parts.{part, part-take, put-take, put-drop, put-length}
 use Rattle.rules.specs.Elements.{elements, maxVertex, maxElement}
@@ -18,7 +18,7 @@ use Rattle.rules.specs.Tables.{borders, e2e, v2e}
 use Rattle.rules.specs.Recovery.{walkTo, walk}
 use Rattle.rules.specs.Refusals.{Answer, gives, refused, sideCheck, vertexCheck, crowdedSide, alikeSide, unorderedVertex, listAnswer, accepts}
 use Rattle.rules.specs.Refusals.{recovers, callSizes, callLengths, lengthChecks, workAfter, after, onto, recoverAnswer, recoverList, recoverWork}
-use Rattle.theory.specs.Answers.{side-clear, side-refuses, vertex-clear, vertex-refuses, ordered-answer}
+use Rattle.theory.specs.Answers.{past-side, past-vertex, ordered-answer}
 use Rattle.theory.specs.FitRows.{means-sizes}
 use Rattle.theory.specs.Deciding.{means-accepted}
 use Rattle.theory.specs.Built.{borders-bound}
@@ -38,31 +38,16 @@ abbrev pub agrees : Answer → List ℕ → List ℕ → List ℕ → List ℕ �
 agrees (gives k e) V2e′ E2e′ V2e E2e = both (same V2e′ V2e) (same E2e′ E2e)
 agrees (refused r a b) V2e′ E2e′ V2e E2e = false
 
--- checks 3 to 8 found nothing exactly where counts come
-zero-side : (r s k e : ℕ) (rest : Answer) → sideCheck r s rest ≡ gives k e → (s ≡ 0) × (rest ≡ gives k e)
-zero-side r s k e rest g = go (zero-or s)
-  where
-    go : (s ≡ 0) ⊎ (s ≡ 0 → ⊥) → (s ≡ 0) × (rest ≡ gives k e)
-    go (inl z) = (z, sym (side-clear r s rest z) ∙ g)
-    go (inr d) = let h = side-refuses r s rest d in let z : _≡_ {A = ℕ} 0 1 = cc in absurd (omega arith)
-
-zero-vertex : (r v k e : ℕ) (rest : Answer) → vertexCheck r v rest ≡ gives k e → (v ≡ 0) × (rest ≡ gives k e)
-zero-vertex r v k e rest g = go (zero-or v)
-  where
-    go : (v ≡ 0) ⊎ (v ≡ 0 → ⊥) → (v ≡ 0) × (rest ≡ gives k e)
-    go (inl z) = (z, sym (vertex-clear r v rest z) ∙ g)
-    go (inr d) = let h = vertex-refuses r v rest d in let z : _≡_ {A = ℕ} 0 1 = cc in absurd (omega arith)
-
 module _ (n : ℕ) (L : List ℕ) where
   -- counts come exactly for an accepted list
   pub counts-accepted : T (sizesFit n L) → (k e : ℕ) → listAnswer n L ≡ gives k e → T (accepts n L)
   unfolding listAnswer accepts rowsFit
   counts-accepted t k e g =
-      let (a, g₁) = zero-side 3 (unfitCorner n L) k e _ g in
-      let (b, g₂) = zero-side 4 (repeatedCorner L) k e _ g₁ in
-      let (d, g₃) = zero-side 6 (crowdedSide L) k e _ g₂ in
-      let (f, g₄) = zero-side 7 (alikeSide L) k e _ g₃ in
-      let (h, g₅) = zero-vertex 8 (unorderedVertex n L) k e _ g₄ in
+      let (a, g₁) = past-side 3 (unfitCorner n L) k e _ g in
+      let (b, g₂) = past-side 4 (repeatedCorner L) k e _ g₁ in
+      let (d, g₃) = past-side 6 (crowdedSide L) k e _ g₂ in
+      let (f, g₄) = past-side 7 (alikeSide L) k e _ g₃ in
+      let (h, g₅) = past-vertex 8 (unorderedVertex n L) k e _ g₄ in
       both-pass (both (sizesFit n L) (both (eqb (unfitCorner n L) 0) (eqb (repeatedCorner L) 0))) _
       (both-pass (sizesFit n L) _ t (both-pass (eqb (unfitCorner n L) 0) (eqb (repeatedCorner L) 0) (means-eq _ 0 .shows a) (means-eq _ 0 .shows b)))
       (both-pass (eqb (crowdedSide L) 0) _ (means-eq _ 0 .shows d)

@@ -35,6 +35,7 @@ use Rattle.theory.specs.Loops.{LoopOf}
 use Rattle.theory.specs.Neighbours.{ListsJoined}
 use Rattle.theory.specs.Walkers.{stepped}
 use Rattle.theory.specs.Vertices.{Tells}
+use Rattle.theory.specs.Answers.{never-gives}
 use Rattle.theory.specs.Sound.{Sound}
 use Rattle.theory.specs.Served.{Served, served}
 use Rattle.runs.specs.Runs.{RingRun, NeighboursRun, BorderLoopRun, StartRun, StepRun, LeftBy, walked-answers}
@@ -94,9 +95,6 @@ pub record Unused (M : Mesh) (v : ℕ) : Type 0 where
   pub checks : (a : Answer) → asked M a ≡ a
   pub there : T (isVertex M v)
   pub entry : at (M .vertices) (v - 1) ≡ 0
-
-gives-sound : (p q : ℕ) → Sound (gives p q)
-gives-sound p q x y e = let z : _≡_ {A = ℕ} 0 1 = cc in omega arith
 
 -- theorem 6 holds of what a run of build left
 module _ (n : ℕ) (L : List ℕ) (M : Mesh) (x : LeftBy n L M) where
@@ -271,5 +269,5 @@ module _ (n : ℕ) (L : List ℕ) (M : Mesh) (x : LeftBy n L M) where
       let (es, e, o) = walk-on-built v w a ws given run h k in go es o (decide (means-le (length es) i))
     where
       go : (es : List ℕ) → Handed es a ws given → (length es ≤ i) ⊎ (length es ≤ i → ⊥) → Sound (given i)
-      go es o (inl l) p q z = gives-sound 0 0 p q (sym (o .over i l) ∙ z)
-      go es o (inr l) p q z = gives-sound (at es i) 0 p q (sym (o .hands i (omega arith)) ∙ z)
+      go es o (inl l) p q z = never-gives 12 0 0 p q (sym (o .over i l) ∙ z)
+      go es o (inr l) p q z = never-gives 12 (at es i) 0 p q (sym (o .hands i (omega arith)) ∙ z)

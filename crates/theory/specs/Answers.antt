@@ -63,6 +63,20 @@ past-room room k e (gives i j) g = go (le-or-lt i room)
     go (inl h) = let f = sym (room-enough room i j h) ∙ g in let c : i ≡ k = cc in (f, omega arith)
     go (inr h) = let f = sym (room-short room i j h) ∙ g in let z : _≡_ {A = ℕ} 0 1 = cc in absurd (omega arith)
 
+pub past-side : (r s k e : ℕ) (rest : Answer) → sideCheck r s rest ≡ gives k e → (s ≡ 0) × (rest ≡ gives k e)
+past-side r s k e rest g = go (zero-or s)
+  where
+    go : (s ≡ 0) ⊎ (s ≡ 0 → ⊥) → (s ≡ 0) × (rest ≡ gives k e)
+    go (inl z) = (z, sym (side-clear r s rest z) ∙ g)
+    go (inr d) = let h = side-refuses r s rest d in let z : _≡_ {A = ℕ} 0 1 = cc in absurd (omega arith)
+
+pub past-vertex : (r v k e : ℕ) (rest : Answer) → vertexCheck r v rest ≡ gives k e → (v ≡ 0) × (rest ≡ gives k e)
+past-vertex r v k e rest g = go (zero-or v)
+  where
+    go : (v ≡ 0) ⊎ (v ≡ 0 → ⊥) → (v ≡ 0) × (rest ≡ gives k e)
+    go (inl z) = (z, sym (vertex-clear r v rest z) ∙ g)
+    go (inr d) = let h = vertex-refuses r v rest d in let z : _≡_ {A = ℕ} 0 1 = cc in absurd (omega arith)
+
 -- one of the refusals 6 to 8
 abbrev pub Late : Answer → Type 0
 Late x = (r : ℕ) × (a : ℕ) × (b : ℕ) × (6 ≤ r) × (r ≤ 8) × (x ≡ refused r a b)
@@ -151,10 +165,10 @@ module _ (n : ℕ) (L : List ℕ) (rows : T (rowsFit n L)) where
 abbrev pub Never : ℕ → Answer → Type 0
 Never q x = (a b : ℕ) → x ≡ refused q a b → ⊥
 
-never-gives : (q k e : ℕ) → Never q (gives k e)
+pub never-gives : (q k e : ℕ) → Never q (gives k e)
 never-gives q k e a b p = let z : _≡_ {A = ℕ} 0 1 = cc in omega arith
 
-never-refused : (q r c d : ℕ) → (r ≡ q → ⊥) → Never q (refused r c d)
+pub never-refused : (q r c d : ℕ) → (r ≡ q → ⊥) → Never q (refused r c d)
 never-refused q r c d f a b p = let z : r ≡ q = cc in f z
 
 module _ (q r : ℕ) (rest : Answer) (other : r ≡ q → ⊥) (f : Never q rest) where

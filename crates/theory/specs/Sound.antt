@@ -20,6 +20,7 @@ use Rattle.rules.specs.Queries.{elementAnswer, originAnswer, destinationAnswer,
 use Rattle.rules.specs.Queries.{neighboursAnswer, borderLoopAnswer, startAnswer}
 use Rattle.theory.specs.Entries.{length-b2e}
 use Rattle.theory.specs.Orders.{Good}
+use Rattle.theory.specs.Answers.{Never, never-gives, never-refused}
 use Rattle.theory.specs.Built.{built, asked-built, HalfEdge, side, border, by-side, by-border, means-half, means-vertex, read-paired, read-border}
 use Rattle.theory.specs.Built.{read-border-side, read-origin, read-destination, ReadEntry, rim, inner, unused, read-entry}
 use Rattle.theory.specs.Reads.{and-then}
@@ -30,29 +31,24 @@ use Rattle.theory.specs.Neighbours.{neighbours-joined}
 
 -- an answer is not refusal 12
 abbrev pub Sound : Answer → Type 0
-Sound a = (x y : ℕ) → a ≡ refused 12 x y → ⊥
-
-gives-sound : (p q : ℕ) → Sound (gives p q)
-gives-sound p q x y e = let z : _≡_ {A = ℕ} 0 1 = cc in omega arith
+Sound a = Never 12 a
 
 found-sound : (r : Option ℕ) (p : ℕ) → r ≡ some p → Sound (found r)
 unfolding found
-found-sound r p e x y f = gives-sound p 0 x y (sym (ap found e) ∙ f)
+found-sound r p e x y f = never-gives 12 p 0 x y (sym (ap found e) ∙ f)
 
 listed-sound : (room : ℕ) (r : Option (List ℕ)) (xs : List ℕ) → r ≡ some xs → Sound (listed room r)
 unfolding listed
 listed-sound room r xs e x y f = go (test (leb (length xs) room)) (sym (ap (listed room) e) ∙ f)
   where
     go : Test (leb (length xs) room) → listed room (some xs) ≡ refused 12 x y → ⊥
-    go (pass t c) q = gives-sound (length xs) 0 x y (rw (c, listed) at q)
-    go (fail t c) q =
-        let q′ : refused 13 (length xs) 0 ≡ refused 12 x y = rw (c, listed) at q in
-        let z : _≡_ {A = ℕ} 13 12 = cc in omega arith
+    go (pass t c) q = never-gives 12 (length xs) 0 x y (rw (c, listed) at q)
+    go (fail t c) q = never-refused 12 13 (length xs) 0 (λ z. omega arith) x y (rw (c, listed) at q)
 
 defined-sound : (there : Bool) (a : Answer) → (T there → Sound a) → Sound (defined there a)
 unfolding defined
 defined-sound true a f x y e = f tt x y e
-defined-sound false a f x y e = let z : _≡_ {A = ℕ} 11 12 = cc in omega arith
+defined-sound false a f x y e = never-refused 12 11 0 0 (λ z. omega arith) x y e
 
 module _ (n : ℕ) (L : List ℕ) (g : Good n L) where
   answer-sound : (there : Bool) (a : Answer) → (T there → Sound a) → Sound (asked (built n L) (defined there a))
@@ -85,11 +81,11 @@ module _ (n : ℕ) (L : List ℕ) (g : Good n L) where
 
   pub previous-sound : (c : ℕ) → Sound (previousAnswer (built n L) c)
   unfolding previousAnswer
-  previous-sound c = answer-sound (isSide L c) (gives (previous L c) 0) (λ a. gives-sound (previous L c) 0)
+  previous-sound c = answer-sound (isSide L c) (gives (previous L c) 0) (λ a. never-gives 12 (previous L c) 0)
 
   pub element-sound : (c : ℕ) → Sound (elementAnswer (built n L) c)
   unfolding elementAnswer
-  element-sound c = answer-sound (isSide L c) (gives (element c) 0) (λ a. gives-sound (element c) 0)
+  element-sound c = answer-sound (isSide L c) (gives (element c) 0) (λ a. never-gives 12 (element c) 0)
 
   pub origin-sound : (c : ℕ) → Sound (originAnswer (built n L) c)
   unfolding originAnswer
@@ -115,7 +111,7 @@ module _ (n : ℕ) (L : List ℕ) (g : Good n L) where
 
   pub half-edge-border-sound : (c : ℕ) → Sound (halfEdgeBorderAnswer (built n L) c)
   unfolding halfEdgeBorderAnswer
-  half-edge-border-sound c = answer-sound (isHalfEdge (built n L) c) (gives (bySide c 0 1) 0) (λ t. gives-sound (bySide c 0 1) 0)
+  half-edge-border-sound c = answer-sound (isHalfEdge (built n L) c) (gives (bySide c 0 1) 0) (λ t. never-gives 12 (bySide c 0 1) 0)
 
   -- an answer about a vertex
   vertex-sound : (v : ℕ) (a : Answer) → (1 ≤ v → v ≤ n → Sound a) → Sound (asked (built n L) (defined (isVertex (built n L) v) a))
