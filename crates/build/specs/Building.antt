@@ -2,7 +2,6 @@
 -- Assumes nothing.
 use mathlib.Core.Path.{_≡_, refl, ap, sym, _∙_}
 use mathlib.Core.Bool.{true, false}
-use mathlib.Core.Logic.{_⊎_, inl, inr}
 use mathlib.Core.List.{List, _++_, append-nil}
 use Prim.Native.Nat.{ℕ, _+_, _*_, _-_, _≤_, _<_}
 use native.Mathlib.Omega.{arith}
@@ -17,7 +16,7 @@ use Rattle.rules.specs.Elements.{maxVertex, maxElement, elements}
 use Rattle.rules.specs.Pairing.{sizesFit, unfitCorner, repeatedCorner}
 use Rattle.rules.specs.Tables.{borders, edges, b2e, e2e, v2e}
 use Rattle.rules.specs.Refusals.{Answer, gives, refused, Buffers, callSizes, callLengths, lengthChecks, workAfter, buildAnswer, buildLeaves}
-use Rattle.rules.specs.Refusals.{roomCheck, listAnswer, after, onto, sideCheck, vertexCheck, crowdedSide, alikeSide, unorderedVertex}
+use Rattle.rules.specs.Refusals.{roomCheck, listAnswer, after, onto, crowdedSide, alikeSide, unorderedVertex}
 use Rattle.theory.specs.FitRows.{means-sizes}
 use Rattle.theory.specs.Built.{borders-bound}
 use Rattle.theory.specs.Answers.{room-enough, room-short, past-side, past-vertex}

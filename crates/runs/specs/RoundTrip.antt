@@ -2,14 +2,13 @@
 -- of B2e are always enough.
 -- Assumes nothing.
 use mathlib.Core.Path.{_≡_, refl, ap, sym, _∙_}
-use mathlib.Core.Logic.{_⊎_, inl, inr}
 use mathlib.Core.Bool.{Bool, true, false}
 use mathlib.Core.List.{List}
 use Prim.Native.Nat.{ℕ, _+_, _*_, _≤_}
 use native.Mathlib.Omega.{arith}
 use lib.Dec.{T}
 use lib.ListN.{length}
-use Rattle.lists.specs.TestLaws.{means-both, means-eq, means-le, zero-or}
+use Rattle.lists.specs.TestLaws.{means-both, means-eq, means-le}
 use Rattle.rules.specs.Elements.{elements}
 use Rattle.rules.specs.Pairing.{sizesFit}
 use Rattle.rules.specs.Recovery.{HasTables}

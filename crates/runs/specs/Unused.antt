@@ -4,7 +4,7 @@
 -- no longer a broken table in ring and neighbours, so every query that begins at a vertex changes"; "a walker there gives 0". Next of a
 -- border still asks for a border.
 -- Assumes nothing.
-use mathlib.Core.Path.{_≡_, refl, ap, sym, _∙_}
+use mathlib.Core.Path.{_≡_, ap, _∙_}
 use mathlib.Core.Bool.{Bool}
 use mathlib.Core.Logic.{inr}
 use mathlib.Core.Option.{Option, none, some}

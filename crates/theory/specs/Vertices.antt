@@ -9,7 +9,6 @@ use Prim.Native.Nat.{ℕ, _≤_}
 use native.Mathlib.Omega.{arith}
 use Rattle.lists.specs.TestLaws.{true-of}
 use Rattle.rules.specs.Elements.{element, next}
-use Rattle.rules.specs.Pairing.{SideAt}
 use Rattle.rules.specs.Refusals.{Answer, gives}
 use Rattle.rules.specs.Queries.{asked, defined, found, byEntry, isVertex, readVertexEntry, vertexBorderAnswer}
 use Rattle.theory.specs.Steps.{next-side}
