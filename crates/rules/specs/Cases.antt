@@ -1,5 +1,5 @@
 -- Document 01, "Housings to hold up to the rules": "The cases marked P are gathered in a small table, and a single proof shows that the
--- rules above give all its rows".
+-- rules above give all its rows". The rows that requests of document 02 bring stand at its end.
 -- Assumes nothing.
 use mathlib.Core.Bool.{Bool, true, false}
 use mathlib.Core.Option.{Option, none, some}
@@ -82,8 +82,8 @@ holds (e2eBegins n L xs) = same (take 4 (left n L .opposites)) xs
 holds (e2eIs n L xs) = same (left n L .opposites) xs
 holds (ringIs n L v xs) = gave (ringAnswer (built n L) v) (ringLeaves (built n L) v) xs
 holds (neighboursAre n L v xs) = gave (neighboursAnswer (built n L) v) (neighboursLeaves (built n L) v) xs
-holds (vertexIs n L v x) = sameAnswer (vertexBorderAnswer (built n L) v) (gives x 0)
 holds (loopIs n L b xs) = gave (borderLoopAnswer (built n L) b) (borderLoopLeaves (built n L) b) xs
+holds (vertexIs n L v x) = sameAnswer (vertexBorderAnswer (built n L) v) (gives x 0)
 holds (recovered n V2e E2e (some L)) =
     let w = room n E2e in
     both (sameAnswer (recoverAnswer n V2e E2e (w .opposites) (w .work)) (gives 0 0))

@@ -45,7 +45,7 @@ unfoldable pub e2e : List ℕ → List ℕ
 e2e L = tab (columns * elements L) (λ p. e2eEntry L (sideAt p))
 
 -- "V2e: for a vertex with a border side ending there, the border half-edge opposite that side; otherwise the least code of a side with
--- origin there". Document 02, point 2: of "vertices that no plate uses", "V2e entry 0": no side begins there
+-- origin there"; document 02, point 2: for "vertices that no plate uses", "V2e entry 0", since no side is found
 unfoldable pub borderInto : List ℕ → ℕ → ℕ
 borderInto L v = firstSide L (λ s. both (isBorder L s) (eqb (destination L s) v))
 
