@@ -9,7 +9,7 @@ use mathlib.Core.Bool.{Bool}
 use mathlib.Core.Logic.{inr}
 use mathlib.Core.Option.{Option, none, some}
 use mathlib.Core.List.{List, []}
-use Prim.Native.Nat.{ℕ, zero, suc, _-_}
+use Prim.Native.Nat.{ℕ, zero, suc, _≤_}
 use native.Mathlib.Omega.{arith}
 use lib.Dec.{T, eqb}
 use Rattle.lists.specs.TestLaws.{true-of, passes, means-itself, means-either}
@@ -22,8 +22,9 @@ use Rattle.rules.specs.Queries.{ringAnswer, ringLeaves, neighboursAnswer, neigh
 use Rattle.rules.specs.Queries.{walkerStart, walkerStep}
 use Rattle.theory.specs.Follows.{follow-none}
 use Rattle.theory.specs.Reads.{and-then}
-use Rattle.runs.specs.Runs.{RingRun, NeighboursRun}
-use Rattle.runs.specs.OnBuilt.{Unused, Walk, passed, written}
+use Rattle.theory.specs.Rings.{About}
+use Rattle.runs.specs.Runs.{RingRun, NeighboursRun, LeftBy}
+use Rattle.runs.specs.OnBuilt.{Unused, Walk, passed, written, spare-entry}
 
 -- the record of a walker that is nowhere
 abbrev pub nowhere : Walker
@@ -105,3 +106,8 @@ module _ (M : Mesh) (v : ℕ) (u : Unused M v) where
     pub unused-next : (a : Answer) → a ≡ nextAnswer M c → a ≡ refused 12 0 0
     unfolding nextAnswer found
     unused-next a g = g ∙ passed M (u .checks) (isHalfEdge M c) _ half-edge ∙ ap found (of-border ∙ no-border)
+
+-- so the ring of a vertex that no element has lists nothing on the tables that a run of build left
+pub spare-ring : (n : ℕ) (L : List ℕ) (M : Mesh) → LeftBy n L M → (v : ℕ) → 1 ≤ v → v ≤ n → ((f : ℕ) → About L v f → ⊥)
+    → (out : List ℕ) (a : Answer) (out′ : List ℕ) → RingRun M v out a out′ → (a ≡ gives 0 0) × (out′ ≡ out)
+spare-ring n L M x v from to free = unused-ring M v (spare-entry n L M x v from to free)
