@@ -48,8 +48,8 @@ pub record Into (L : List ℕ) (v s : ℕ) : Type 0 where
   pub border : partner L s ≡ 0
   pub ends : destination L s ≡ v
 
--- x is the entry of vertex v by the border sides before place p: the border of the least one that ends there, or the least side with origin v,
--- 0 where there is none
+-- x is the entry of vertex v by the border sides before place p: the border of the least one that ends there, or the least side with
+-- origin v, 0 where there is none
 pub data Entry (L : List ℕ) (p v x : ℕ) : Type 0 where
   rim : (s : ℕ) → Into L v s → slot s < p → ((t : ℕ) → Into L v t → slot s ≤ slot t) → x ≡ 8 * borderNumber L s → Entry L p v x
   inner : ((s : ℕ) → Into L v s → slot s < p → ⊥) → x ≡ firstSide L (λ s. eqb (origin L s) v) → Entry L p v x

@@ -19,7 +19,7 @@ use Rattle.rules.specs.Refusals.{Answer, gives, refused, Buffers, callSizes, ca
 use Rattle.rules.specs.Refusals.{roomCheck, listAnswer, after, onto, crowdedSide, alikeSide, unorderedVertex}
 use Rattle.theory.specs.FitRows.{means-sizes}
 use Rattle.theory.specs.Built.{borders-bound}
-use Rattle.theory.specs.Answers.{room-enough, room-short, past-side, past-vertex}
+use Rattle.theory.specs.Answers.{room-enough, room-short, past-check}
 use Rattle.tabulate.specs.Results.{Sized, Holds, Tabulated}
 
 -- the answer of checks 3 to 9, and the tables after it
@@ -91,10 +91,10 @@ pub counts-are : (n : ℕ) (L : List ℕ) (k e : ℕ) → listAnswer n L ≡ giv
 unfolding listAnswer
 counts-are n L k e g =
     let h : gives (borders L) (edges L) ≡ gives k e =
-    past-vertex 8 (unorderedVertex n L) k e _
-    (past-side 7 (alikeSide L) k e _
-    (past-side 6 (crowdedSide L) k e _
-    (past-side 4 (repeatedCorner L) k e _ (past-side 3 (unfitCorner n L) k e _ g .1) .1) .1) .1) .1 in
+    past-check (unorderedVertex n L) k e _ _ _ _
+    (past-check (alikeSide L) k e _ _ _ _
+    (past-check (crowdedSide L) k e _ _ _ _
+    (past-check (repeatedCorner L) k e _ _ _ _ (past-check (unfitCorner n L) k e _ _ _ _ g .1) .1) .1) .1) .1 in
     cc
 
 -- checks 1 and 2 found nothing

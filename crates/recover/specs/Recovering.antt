@@ -17,7 +17,7 @@ use Rattle.rules.specs.Tables.{borders, e2e, v2e}
 use Rattle.rules.specs.Recovery.{walkTo, walk}
 use Rattle.rules.specs.Refusals.{Answer, gives, refused, crowdedSide, alikeSide, unorderedVertex, listAnswer, accepts}
 use Rattle.rules.specs.Refusals.{recovers, callSizes, callLengths, lengthChecks, workAfter, after, onto, recoverAnswer, recoverList, recoverWork}
-use Rattle.theory.specs.Answers.{past-side, past-vertex, ordered-answer}
+use Rattle.theory.specs.Answers.{past-check, ordered-answer}
 use Rattle.theory.specs.FitRows.{means-sizes}
 use Rattle.theory.specs.Deciding.{means-accepted}
 use Rattle.theory.specs.Built.{borders-bound}
@@ -42,11 +42,11 @@ module _ (n : ℕ) (L : List ℕ) where
   pub counts-accepted : T (sizesFit n L) → (k e : ℕ) → listAnswer n L ≡ gives k e → T (accepts n L)
   unfolding listAnswer accepts rowsFit
   counts-accepted t k e g =
-      let (a, g₁) = past-side 3 (unfitCorner n L) k e _ g in
-      let (b, g₂) = past-side 4 (repeatedCorner L) k e _ g₁ in
-      let (d, g₃) = past-side 6 (crowdedSide L) k e _ g₂ in
-      let (f, g₄) = past-side 7 (alikeSide L) k e _ g₃ in
-      let (h, g₅) = past-vertex 8 (unorderedVertex n L) k e _ g₄ in
+      let (a, g₁) = past-check (unfitCorner n L) k e _ _ _ _ g in
+      let (b, g₂) = past-check (repeatedCorner L) k e _ _ _ _ g₁ in
+      let (d, g₃) = past-check (crowdedSide L) k e _ _ _ _ g₂ in
+      let (f, g₄) = past-check (alikeSide L) k e _ _ _ _ g₃ in
+      let (h, g₅) = past-check (unorderedVertex n L) k e _ _ _ _ g₄ in
       both-pass (both (sizesFit n L) (both (eqb (unfitCorner n L) 0) (eqb (repeatedCorner L) 0))) _
       (both-pass (sizesFit n L) _ t (both-pass (eqb (unfitCorner n L) 0) (eqb (repeatedCorner L) 0) (means-eq _ 0 .shows a) (means-eq _ 0 .shows b)))
       (both-pass (eqb (crowdedSide L) 0) _ (means-eq _ 0 .shows d)

@@ -13,7 +13,7 @@ use Rattle.rules.specs.Elements.{elements, sidesBy, isSide, slot, origin
 use Rattle.rules.specs.Pairing.{alike, opposed, joins, sizesFit, unfitCorner, repeatedCorner, rowsFit}
 use Rattle.rules.specs.Tables.{partner, isBorder, b2e, borderNumber, borders, e2eEntry, e2e, borderInto, v2eEntry, v2e, edges}
 use Rattle.rules.specs.Recovery.{sideOfBorder, walkStart, turnBy, trace, walkTo, walk}
-use Rattle.rules.specs.Refusals.{Answer, gives, refused, crowdedSide, alikeSide, missed, unorderedVertex, sideCheck, vertexCheck, listAnswer, accepts}
+use Rattle.rules.specs.Refusals.{Answer, gives, refused, crowdedSide, alikeSide, missed, unorderedVertex, checkFound, listAnswer, accepts}
 use Rattle.rules.specs.Refusals.{Buffers, callSizes, callLengths, lengthChecks, roomCheck, buildAnswer, after, onto, buildLeaves, recovers, recoverAnswer, recoverList}
 use Rattle.rules.specs.Queries.{Mesh, asked, defined, found, listed, listLeaves, andThen, prepend, readAll, follow, over, isBorderCode, isHalfEdge, isEntry, isVertex}
 use Rattle.rules.specs.Queries.{readOpposite, readBorderSide, readVertexEntry, readOrigin, readDestination, borderNext, vertexBorderAnswer, startSide, onward, ringSides}
@@ -164,7 +164,7 @@ pub cases-hold : T (every holds cases)
 unfolding quad tri blank room left built sameAnswer gave holds every listing listingE2e tetrahedron cases least count upto tab zeros same
     sidesBy isSide slot origin nextNumber next sideAt firstSide countSides firstVertex alike opposed joins sizesFit unfitCorner
     repeatedCorner rowsFit partner isBorder b2e borderNumber borders e2eEntry e2e borderInto v2eEntry v2e edges sideOfBorder walkStart
-    turnBy trace walkTo walk crowdedSide alikeSide missed unorderedVertex sideCheck vertexCheck listAnswer accepts callSizes
+    turnBy trace walkTo walk crowdedSide alikeSide missed unorderedVertex checkFound listAnswer accepts callSizes
     callLengths lengthChecks roomCheck buildAnswer after onto buildLeaves recovers recoverAnswer recoverList asked defined found listed listLeaves
     andThen prepend readAll follow over isBorderCode isHalfEdge isEntry isVertex readOpposite readBorderSide readVertexEntry readOrigin
     readDestination borderNext vertexBorderAnswer startSide onward ringSides ring neighbours loopNext borderLoop listedAnswer ringAnswer ringLeaves

@@ -35,12 +35,16 @@ missed L W v = not (eqb (firstSide L (λ s. both (eqb (origin L s) v) (not (eqb 
 unfoldable pub unorderedVertex : ℕ → List ℕ → ℕ
 unorderedVertex n L = let W = walk (v2e n L) (e2e L) in firstVertex n (missed L W)
 
--- a refusal where a side or a vertex was found for it, else what the later checks say
-unfoldable pub sideCheck : ℕ → ℕ → Answer → Answer
-sideCheck r s rest = elim (eqb s 0) [ true ↦ rest | false ↦ refused r (element s) (number s) ]
+-- a refusal where something was found for it, else what the later checks say
+unfoldable pub checkFound : ℕ → Answer → Answer → Answer
+checkFound x refusal rest = elim (eqb x 0) [ true ↦ rest | false ↦ refusal ]
 
-unfoldable pub vertexCheck : ℕ → ℕ → Answer → Answer
-vertexCheck r v rest = elim (eqb v 0) [ true ↦ rest | false ↦ refused r v 0 ]
+-- its place by the side, and by the vertex, that was found
+abbrev pub sideCheck : ℕ → ℕ → Answer → Answer
+sideCheck r s rest = checkFound s (refused r (element s) (number s)) rest
+
+abbrev pub vertexCheck : ℕ → ℕ → Answer → Answer
+vertexCheck r v rest = checkFound v (refused r v 0) rest
 
 -- checks 3 to 8, "in order, each over the whole list before the next"; then k and the number of edges
 unfoldable pub listAnswer : ℕ → List ℕ → Answer

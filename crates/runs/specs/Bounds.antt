@@ -16,7 +16,7 @@ use Rattle.rules.specs.Elements.{maxVertex, maxElement, elements, element, numb
 use Rattle.rules.specs.Elements.{firstVertex}
 use Rattle.rules.specs.Pairing.{sizesFit, unfitCorner, repeatedCorner}
 use Rattle.rules.specs.Tables.{borders, edges}
-use Rattle.rules.specs.Refusals.{Answer, gives, refused, Buffers, crowdedSide, alikeSide, unorderedVertex, sideCheck, vertexCheck}
+use Rattle.rules.specs.Refusals.{Answer, gives, refused, Buffers, crowdedSide, alikeSide, unorderedVertex, checkFound}
 use Rattle.rules.specs.Refusals.{listAnswer, callSizes, lengthChecks, roomCheck, buildAnswer, recovers, recoverAnswer}
 use Rattle.rules.specs.Queries.{Mesh, asked, defined, found, listed, andThen, prepend, readAll, read, bySide, byEntry, follow, over, isBorderCode, isHalfEdge, isEntry}
 use Rattle.rules.specs.Queries.{isVertex, readOpposite, readBorderSide, readVertexEntry, readOrigin, readDestination, opposite, borderNext, startSide}
@@ -47,21 +47,16 @@ unfolding callSizes
 sizes-of n X Y t = passes (sizesFit n X) (eqb (length Y) (4 * elements Y)) t .0
 
 -- build: the places of refusals 3 to 8, k and the edges
-side-fits : (r s : ℕ) (rest : Answer) → 1 ≤ r → r < 256 → s < 268_435_456 → Fits rest → Fits (sideCheck r s rest)
-unfolding sideCheck
-side-fits r s rest l h i f = go (test (eqb s 0))
+check-fits : (x : ℕ) (refusal rest : Answer) → Fits refusal → Fits rest → Fits (checkFound x refusal rest)
+unfolding checkFound
+check-fits x refusal rest g f = go (test (eqb x 0))
   where
-    go : Test (eqb s 0) → Fits (sideCheck r s rest)
-    go (pass t e) = rw (e, sideCheck) f
-    go (fail t e) = rw (e, sideCheck) (omega arith)
+    go : Test (eqb x 0) → Fits (checkFound x refusal rest)
+    go (pass t e) = rw (e, checkFound) f
+    go (fail t e) = rw (e, checkFound) g
 
-vertex-fits : (r v : ℕ) (rest : Answer) → 1 ≤ r → r < 256 → v < 268_435_456 → Fits rest → Fits (vertexCheck r v rest)
-unfolding vertexCheck
-vertex-fits r v rest l h i f = go (test (eqb v 0))
-  where
-    go : Test (eqb v 0) → Fits (vertexCheck r v rest)
-    go (pass t e) = rw (e, vertexCheck) f
-    go (fail t e) = rw (e, vertexCheck) (omega arith)
+side-fits : (r s : ℕ) → 1 ≤ r → r < 256 → s < 268_435_456 → Fits (refused r (element s) (number s))
+side-fits r s l h i = omega arith
 
 room-fits : (room : ℕ) (a : Answer) → Fits a → Fits (roomCheck room a)
 unfolding roomCheck
@@ -101,11 +96,11 @@ module _ (n : ℕ) (L : List ℕ) (z : Sized n L) where
   list-fits : Fits (listAnswer n L)
   unfolding listAnswer unfitCorner repeatedCorner crowdedSide alikeSide unorderedVertex
   list-fits =
-      side-fits 3 _ _ (omega arith) (omega arith) (side _)
-      (side-fits 4 _ _ (omega arith) (omega arith) (side _)
-      (side-fits 6 _ _ (omega arith) (omega arith) (side _)
-      (side-fits 7 _ _ (omega arith) (omega arith) (side _)
-      (vertex-fits 8 _ _ (omega arith) (omega arith) (vertex _) counts-fit))))
+      check-fits _ _ _ (side-fits 3 _ (omega arith) (omega arith) (side _))
+      (check-fits _ _ _ (side-fits 4 _ (omega arith) (omega arith) (side _))
+      (check-fits _ _ _ (side-fits 6 _ (omega arith) (omega arith) (side _))
+      (check-fits _ _ _ (side-fits 7 _ (omega arith) (omega arith) (side _))
+      (check-fits _ _ _ (omega arith, omega arith, vertex _, omega arith) counts-fit))))
 
 pub build-fits : (n : ℕ) (L : List ℕ) (w : Buffers) → Fits (buildAnswer n L w)
 unfolding buildAnswer

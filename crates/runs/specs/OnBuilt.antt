@@ -11,7 +11,7 @@ use mathlib.Core.Bool.{Bool, true, false}
 use mathlib.Core.Logic.{_⊎_, inl, inr}
 use mathlib.Core.Option.{Option, some}
 use mathlib.Core.List.{List, _++_}
-use Prim.Native.Nat.{ℕ, zero, suc, _-_, _≤_, _<_}
+use Prim.Native.Nat.{ℕ, zero, suc, _≤_, _<_}
 use native.Mathlib.Omega.{arith}
 use lib.Dec.{T, leb}
 use lib.ListN.{length, take, drop}
@@ -30,8 +30,7 @@ use Rattle.rules.specs.Queries.{ringLeaves, neighboursAnswer, neighboursLeaves,
 use Rattle.theory.specs.Steps.{FirstBack, next-side, previous-side, previous-next, next-previous, next-back}
 use Rattle.theory.specs.Entries.{length-b2e}
 use Rattle.theory.specs.Built.{built, by-side}
-use Rattle.theory.specs.Described.{described}
-use Rattle.theory.specs.Rings.{About, ListsOnce}
+use Rattle.theory.specs.Rings.{ListsOnce}
 use Rattle.theory.specs.Loops.{LoopOf}
 use Rattle.theory.specs.Neighbours.{ListsJoined}
 use Rattle.theory.specs.Walkers.{stepped}
@@ -91,12 +90,6 @@ module _ (M : Mesh) (checks : (a : Answer) → asked M a ≡ a) where
           let q : listedAnswer M there r out ≡ refused 13 (length xs) 0 = plain ∙ (rw (c, listed) refl) in
           (f ∙ q, left (refused 13 (length xs) 0) q)
 
--- checks 1 and 2 pass, and the V2e entry of the vertex v is 0; whatever else the tables hold
-pub record Unused (M : Mesh) (v : ℕ) : Type 0 where
-  pub checks : (a : Answer) → asked M a ≡ a
-  pub there : T (isVertex M v)
-  pub entry : at (M .vertices) (v - 1) ≡ 0
-
 -- theorem 6 holds of what a run of build left
 module _ (n : ℕ) (L : List ℕ) (M : Mesh) (x : LeftBy n L M) where
   -- what it left is the list with its tables
@@ -130,8 +123,11 @@ module _ (n : ℕ) (L : List ℕ) (M : Mesh) (x : LeftBy n L M) where
             work = workAfter (callSizes n L (w .opposites)) (callLengths n L (w .opposites) (w .vertices) (w .work)) (w .work);
           }
 
+  pub left-served : Served n L M
+  left-served = subst (Served n L) (sym left-built) (served n L left-accepted)
+
   on : Served n L M
-  on = subst (Served n L) (sym left-built) (served n L left-accepted)
+  on = left-served
 
   -- ring lists every element at v exactly once
   pub ring-on-built : (v : ℕ) (out : List ℕ) (a : Answer) (out′ : List ℕ) → RingRun M v out a out′ → 1 ≤ v → v ≤ n
@@ -225,17 +221,6 @@ module _ (n : ℕ) (L : List ℕ) (M : Mesh) (x : LeftBy n L M) where
   -- the border test of a vertex says unused exactly where no element has it, rim where a border side ends, inner elsewhere
   pub vertex-told : (v : ℕ) (a : Answer) → a ≡ vertexBorderAnswer M v → 1 ≤ v → v ≤ n → Tells L v a
   vertex-told v a e h k = subst (Tells L v) (sym e) (on .tells v h k)
-
-  -- an unused vertex has V2e entry 0: what `Unused` says of it holds
-  pub spare-entry : (v : ℕ) → 1 ≤ v → v ≤ n → ((f : ℕ) → About L v f → ⊥) → Unused M v
-  spare-entry v h k none =
-      record {
-        checks = on .checks;
-        there = on .vertices v .shows (h, k);
-        entry =
-            ap (λ (N : Mesh). at (N .vertices) (v - 1)) left-built
-            ∙ described n L left-accepted .unused-entry v h k .1 (λ s a. none (element s) (s, a, refl));
-      }
 
   -- a walker hands out the ring in order, and then 0 with the record unchanged
   pub walk-on-built : (v : ℕ) (w : Walker) (a : Answer) (ws : ℕ → Walker) (given : ℕ → Answer) → Walk M v w a ws given → 1 ≤ v → v ≤ n

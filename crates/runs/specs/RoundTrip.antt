@@ -85,7 +85,8 @@ module _ (n : ℕ) (L : List ℕ) (w w′ : Buffers) (a : Answer) (run : BuildRu
       let c = counted n L w k e (sym (run .answer) ∙ g) in
       omega (arith, c .borders-are, borders-few n L (good n L (c .accepted)))
 
-  -- so n entries of B2e are always enough, with spare vertices too, since border sides end at different vertices: with them no list whatever is refused by 9
+  -- so n entries of B2e are always enough, with spare vertices too, since border sides end at different vertices: with them no list whatever
+  -- is refused by 9
   pub never-nine : n ≤ length (w .border) → (p q : ℕ) → a ≡ refused 9 p q → ⊥
   unfolding buildAnswer lengthChecks roomCheck
   never-nine long p q g = go (callSizes n L (w .opposites)) (callLengths n L (w .opposites) (w .vertices) (w .work)) refl (sym (run .answer) ∙ g)

@@ -4,12 +4,12 @@
 -- no longer a broken table in ring and neighbours, so every query that begins at a vertex changes"; "a walker there gives 0". Next of a
 -- border still asks for a border.
 -- Assumes nothing.
-use mathlib.Core.Path.{_≡_, ap, _∙_}
+use mathlib.Core.Path.{_≡_, refl, ap, _∙_}
 use mathlib.Core.Bool.{Bool}
 use mathlib.Core.Logic.{inr}
 use mathlib.Core.Option.{Option, none, some}
 use mathlib.Core.List.{List, []}
-use Prim.Native.Nat.{ℕ, zero, suc, _≤_}
+use Prim.Native.Nat.{ℕ, zero, suc, _-_, _≤_}
 use native.Mathlib.Omega.{arith}
 use lib.Dec.{T, eqb}
 use Rattle.lists.specs.TestLaws.{true-of, passes, means-itself, means-either}
@@ -22,9 +22,16 @@ use Rattle.rules.specs.Queries.{ringAnswer, ringLeaves, neighboursAnswer, neigh
 use Rattle.rules.specs.Queries.{walkerStart, walkerStep}
 use Rattle.theory.specs.Follows.{follow-none}
 use Rattle.theory.specs.Reads.{and-then}
+use Rattle.theory.specs.Described.{described}
 use Rattle.theory.specs.Rings.{About}
 use Rattle.runs.specs.Runs.{RingRun, NeighboursRun, LeftBy}
-use Rattle.runs.specs.OnBuilt.{Unused, Walk, passed, written, spare-entry}
+use Rattle.runs.specs.OnBuilt.{Walk, passed, written, left-accepted, left-built, left-served}
+
+-- checks 1 and 2 pass, and the V2e entry of the vertex v is 0; whatever else the tables hold
+pub record Unused (M : Mesh) (v : ℕ) : Type 0 where
+  pub checks : (a : Answer) → asked M a ≡ a
+  pub there : T (isVertex M v)
+  pub entry : at (M .vertices) (v - 1) ≡ 0
 
 -- the record of a walker that is nowhere
 abbrev pub nowhere : Walker
@@ -107,7 +114,19 @@ module _ (M : Mesh) (v : ℕ) (u : Unused M v) where
     unfolding nextAnswer found
     unused-next a g = g ∙ passed M (u .checks) (isHalfEdge M c) _ half-edge ∙ ap found (of-border ∙ no-border)
 
--- so the ring of a vertex that no element has lists nothing on the tables that a run of build left
-pub spare-ring : (n : ℕ) (L : List ℕ) (M : Mesh) → LeftBy n L M → (v : ℕ) → 1 ≤ v → v ≤ n → ((f : ℕ) → About L v f → ⊥)
-    → (out : List ℕ) (a : Answer) (out′ : List ℕ) → RingRun M v out a out′ → (a ≡ gives 0 0) × (out′ ≡ out)
-spare-ring n L M x v from to free = unused-ring M v (spare-entry n L M x v from to free)
+-- on the tables that a run of build left all this holds of a vertex that no element has
+module _ (n : ℕ) (L : List ℕ) (M : Mesh) (x : LeftBy n L M) (v : ℕ) (from : 1 ≤ v) (to : v ≤ n) (free : (f : ℕ) → About L v f → ⊥) where
+  pub spare-entry : Unused M v
+  spare-entry =
+      let on = left-served n L M x in
+      record {
+        checks = on .checks;
+        there = on .vertices v .shows (from, to);
+        entry =
+            ap (λ (N : Mesh). at (N .vertices) (v - 1)) (left-built n L M x)
+            ∙ described n L (left-accepted n L M x) .unused-entry v from to .1 (λ s a. free (element s) (s, a, refl));
+      }
+
+  -- so its ring lists nothing
+  pub spare-ring : (out : List ℕ) (a : Answer) (out′ : List ℕ) → RingRun M v out a out′ → (a ≡ gives 0 0) × (out′ ≡ out)
+  spare-ring = unused-ring M v spare-entry

@@ -23,7 +23,7 @@ use Rattle.theory.specs.Pairings.{the-pairing}
 use Rattle.theory.specs.Entries.{length-v2e}
 use Rattle.theory.specs.Built.{borders-bound}
 use Rattle.theory.specs.Walking.{walk-walked}
-use Rattle.theory.specs.Answers.{side-clear, side-refuses, vertex-clear, vertex-refuses}
+use Rattle.theory.specs.Answers.{check-clear, check-refuses}
 use Rattle.walk.specs.Layout.{written, e2eIn, Walking}
 use Rattle.unordered.specs.Missed.{Walked}
 use Rattle.siblings.specs.Siblings.{Grouped, Room}
@@ -144,14 +144,14 @@ module _ {n o k c : ℕ} {L w w₂ : List ℕ} (t : Tabled n L o k c w w₂) whe
     is = found ∙ t .unordered
 
     pub refuses-8 : {a : Answer} → (v ≡ 0 → ⊥) → a ≡ refused 8 v 0 → Tabulated n L (pairedAnswer n L) a w w₂
-    refuses-8 d e = refuses e (rw is (vertex-refuses 8 (unorderedVertex n L) _ (λ z. d (is ∙ z)))) (t .long)
+    refuses-8 d e = refuses e (rw is (check-refuses (unorderedVertex n L) _ _ (λ z. d (is ∙ z)))) (t .long)
 
     pub gives-tables : {a : Answer} → v ≡ 0 → a ≡ gives k ((c + k) / 2) → Tabulated n L (pairedAnswer n L) a w w₂
     unfolding edges
     gives-tables z e =
         let counts = ap (λ (i : ℕ). gives i ((c + i) / 2)) (t .number) ∙ ap (λ (j : ℕ). gives (borders L) ((j + borders L) / 2)) (t .sides) in
         record {
-          answer = e ∙ counts ∙ sym (vertex-clear 8 (unorderedVertex n L) _ (sym is ∙ z));
+          answer = e ∙ counts ∙ sym (check-clear (unorderedVertex n L) _ _ (sym is ∙ z));
           holds = λ k e g. t .holds;
           long = t .long;
         }
@@ -192,12 +192,12 @@ module _ {n a : ℕ} {L w : List ℕ} (here : Fit n L × (length w ≡ n + 12 * 
 -- checks 6 and 7, each by what its search found
 module _ {n a : ℕ} {L w₀ w : List ℕ} (p : Prepared n a L w₀ w) where
   pub refuses-6 : {s : ℕ} {r : Answer} → s ≡ crowdedSide L → (s ≡ 0 → ⊥) → r ≡ refused 6 (element s) (number s) → Tabulated n L (fitAnswer n L) r w₀ w
-  refuses-6 e d f = refuses f (rw e (side-refuses 6 (crowdedSide L) _ (λ z. d (e ∙ z)))) (p .same)
+  refuses-6 e d f = refuses f (rw e (check-refuses (crowdedSide L) _ _ (λ z. d (e ∙ z)))) (p .same)
 
   module _ (uncrowded : crowdedSide L ≡ 0) where
     pub refuses-7 : {s : ℕ} {r : Answer} → s ≡ alikeSide L → (s ≡ 0 → ⊥) → r ≡ refused 7 (element s) (number s) → Tabulated n L (fitAnswer n L) r w₀ w
     refuses-7 e d f =
-        refuses f (side-clear 6 _ _ uncrowded ∙ rw e (side-refuses 7 (alikeSide L) _ (λ z. d (e ∙ z)))) (p .same)
+        refuses f (check-clear _ _ _ uncrowded ∙ rw e (check-refuses (alikeSide L) _ _ (λ z. d (e ∙ z)))) (p .same)
 
     module _ (apart : alikeSide L ≡ 0) where
       pub ready : Ready n L w
@@ -211,25 +211,25 @@ module _ {n a : ℕ} {L w₀ w : List ℕ} (p : Prepared n a L w₀ w) where
           }
 
       pub fit-on : {r : Answer} {w′ : List ℕ} → Tabulated n L (pairedAnswer n L) r w w′ → Tabulated n L (fitAnswer n L) r w₀ w′
-      fit-on x = restated (side-clear 6 _ _ uncrowded ∙ side-clear 7 _ _ apart) (p .same) x
+      fit-on x = restated (check-clear _ _ _ uncrowded ∙ check-clear _ _ _ apart) (p .same) x
 
 -- checks 3 and 4, each by the corner that the search found
 module _ {n : ℕ} {L w : List ℕ} {r : Answer} where
   pub refuses-3 : {s : ℕ} → (unfitCorner n L ≡ 0 → ⊥) × (unfitCorner n L ≡ s) → r ≡ refused 3 (element s) (number s) → Tabulated n L (listAnswer n L) r w w
   unfolding listAnswer
   refuses-3 (d, e) f =
-      refuses f (side-refuses 3 (unfitCorner n L) _ d ∙ ap (λ (s : ℕ). refused 3 (element s) (number s)) e) refl
+      refuses f (check-refuses (unfitCorner n L) _ _ d ∙ ap (λ (s : ℕ). refused 3 (element s) (number s)) e) refl
 
   pub refuses-4 : {s : ℕ} → (unfitCorner n L ≡ 0) × (repeatedCorner L ≡ 0 → ⊥) × (repeatedCorner L ≡ s) → r ≡ refused 4 (element s) (number s) → Tabulated n L (listAnswer n L) r w w
   unfolding listAnswer
   refuses-4 (z, d, e) f =
       refuses f
-      (side-clear 3 _ _ z ∙ side-refuses 4 (repeatedCorner L) _ d ∙ ap (λ (s : ℕ). refused 4 (element s) (number s)) e)
+      (check-clear _ _ _ z ∙ check-refuses (repeatedCorner L) _ _ d ∙ ap (λ (s : ℕ). refused 4 (element s) (number s)) e)
       refl
 
   pub list-on : {w′ : List ℕ} → (unfitCorner n L ≡ 0) × (repeatedCorner L ≡ 0) → Tabulated n L (fitAnswer n L) r w w′ → Tabulated n L (listAnswer n L) r w w′
   unfolding listAnswer
-  list-on (y, z) x = restated (side-clear 3 _ _ y ∙ side-clear 4 _ _ z) refl x
+  list-on (y, z) x = restated (check-clear _ _ _ y ∙ check-clear _ _ _ z) refl x
 
 -- checks 3 and 4 found nothing: the rows are fit
 pub fit-rows : {n : ℕ} {L w : List ℕ} → Sized n L w → (unfitCorner n L ≡ 0) × (repeatedCorner L ≡ 0) → Fit n L × (length w ≡ n + 12 * elements L)

@@ -11,10 +11,9 @@ use lib.Dec.{T, leb, eqb, not-T}
 use lib.ListN.{length}
 use Rattle.lists.specs.TestLaws.{true-of, false-of, passes, means-not, means-eq, means-le, zero-or}
 use Rattle.lists.specs.SearchLaws.{le-or-lt}
-use Rattle.rules.specs.Elements.{element, number}
 use Rattle.rules.specs.Pairing.{Ordered, unfitCorner, repeatedCorner, rowsFit, sizesFit}
 use Rattle.rules.specs.Tables.{partner, borders, edges}
-use Rattle.rules.specs.Refusals.{Answer, gives, refused, crowdedSide, alikeSide, unorderedVertex, sideCheck, vertexCheck, listAnswer, Buffers}
+use Rattle.rules.specs.Refusals.{Answer, gives, refused, crowdedSide, alikeSide, unorderedVertex, sideCheck, checkFound, listAnswer, Buffers}
 use Rattle.rules.specs.Refusals.{callSizes, callLengths, lengthChecks, roomCheck, buildAnswer}
 use Rattle.theory.specs.FitRows.{means-fit}
 use Rattle.theory.specs.Pairings.{pairing-exists, the-pairing}
@@ -22,21 +21,14 @@ use Rattle.theory.specs.Orders.{good}
 use Rattle.theory.specs.Deciding.{means-ordered}
 
 -- a check that found nothing goes on to the later ones; else it refuses
-pub side-clear : (r s : ℕ) (rest : Answer) → s ≡ 0 → sideCheck r s rest ≡ rest
-unfolding sideCheck
-side-clear r s rest e = rw (true-of (eqb s 0) (means-eq s 0 .shows e), sideCheck)
+module _ (x : ℕ) (refusal rest : Answer) where
+  pub check-clear : x ≡ 0 → checkFound x refusal rest ≡ rest
+  unfolding checkFound
+  check-clear e = rw (true-of (eqb x 0) (means-eq x 0 .shows e), checkFound)
 
-pub side-refuses : (r s : ℕ) (rest : Answer) → (s ≡ 0 → ⊥) → sideCheck r s rest ≡ refused r (element s) (number s)
-unfolding sideCheck
-side-refuses r s rest d = rw (false-of (eqb s 0) (means-not (means-eq s 0) .shows d), sideCheck)
-
-pub vertex-clear : (r v : ℕ) (rest : Answer) → v ≡ 0 → vertexCheck r v rest ≡ rest
-unfolding vertexCheck
-vertex-clear r v rest e = rw (true-of (eqb v 0) (means-eq v 0 .shows e), vertexCheck)
-
-pub vertex-refuses : (r v : ℕ) (rest : Answer) → (v ≡ 0 → ⊥) → vertexCheck r v rest ≡ refused r v 0
-unfolding vertexCheck
-vertex-refuses r v rest d = rw (false-of (eqb v 0) (means-not (means-eq v 0) .shows d), vertexCheck)
+  pub check-refuses : (x ≡ 0 → ⊥) → checkFound x refusal rest ≡ refusal
+  unfolding checkFound
+  check-refuses d = rw (false-of (eqb x 0) (means-not (means-eq x 0) .shows d), checkFound)
 
 -- B2e holds k entries, or 9 comes
 pub room-enough : (room k e : ℕ) → k ≤ room → roomCheck room (gives k e) ≡ gives k e
@@ -63,37 +55,23 @@ past-room room k e (gives i j) g = go (le-or-lt i room)
     go (inl h) = let f = sym (room-enough room i j h) ∙ g in let c : i ≡ k = cc in (f, omega arith)
     go (inr h) = let f = sym (room-short room i j h) ∙ g in let z : _≡_ {A = ℕ} 0 1 = cc in absurd (omega arith)
 
-pub past-side : (r s k e : ℕ) (rest : Answer) → sideCheck r s rest ≡ gives k e → (s ≡ 0) × (rest ≡ gives k e)
-past-side r s k e rest g = go (zero-or s)
+pub past-check : (x k e r p q : ℕ) (rest : Answer) → checkFound x (refused r p q) rest ≡ gives k e → (x ≡ 0) × (rest ≡ gives k e)
+past-check x k e r p q rest g = go (zero-or x)
   where
-    go : (s ≡ 0) ⊎ (s ≡ 0 → ⊥) → (s ≡ 0) × (rest ≡ gives k e)
-    go (inl z) = (z, sym (side-clear r s rest z) ∙ g)
-    go (inr d) = let h = side-refuses r s rest d in let z : _≡_ {A = ℕ} 0 1 = cc in absurd (omega arith)
-
-pub past-vertex : (r v k e : ℕ) (rest : Answer) → vertexCheck r v rest ≡ gives k e → (v ≡ 0) × (rest ≡ gives k e)
-past-vertex r v k e rest g = go (zero-or v)
-  where
-    go : (v ≡ 0) ⊎ (v ≡ 0 → ⊥) → (v ≡ 0) × (rest ≡ gives k e)
-    go (inl z) = (z, sym (vertex-clear r v rest z) ∙ g)
-    go (inr d) = let h = vertex-refuses r v rest d in let z : _≡_ {A = ℕ} 0 1 = cc in absurd (omega arith)
+    go : (x ≡ 0) ⊎ (x ≡ 0 → ⊥) → (x ≡ 0) × (rest ≡ gives k e)
+    go (inl z) = (z, sym (check-clear x (refused r p q) rest z) ∙ g)
+    go (inr d) = let h = check-refuses x (refused r p q) rest d in let z : _≡_ {A = ℕ} 0 1 = cc in absurd (omega arith)
 
 -- one of the refusals 6 to 8
 abbrev pub Late : Answer → Type 0
 Late x = (r : ℕ) × (a : ℕ) × (b : ℕ) × (6 ≤ r) × (r ≤ 8) × (x ≡ refused r a b)
 
-late-side : (r s : ℕ) (rest : Answer) → 6 ≤ r → r ≤ 8 → (s ≡ 0 → Late rest) → Late (sideCheck r s rest)
-late-side r s rest from to f = go (zero-or s)
+late-check : (x r p q : ℕ) (rest : Answer) → 6 ≤ r → r ≤ 8 → (x ≡ 0 → Late rest) → Late (checkFound x (refused r p q) rest)
+late-check x r p q rest from to f = go (zero-or x)
   where
-    go : (s ≡ 0) ⊎ (s ≡ 0 → ⊥) → Late (sideCheck r s rest)
-    go (inl e) = rw (side-clear r s rest e) (f e)
-    go (inr d) = (r, element s, number s, from, to, side-refuses r s rest d)
-
-late-vertex : (r v : ℕ) (rest : Answer) → 6 ≤ r → r ≤ 8 → (v ≡ 0 → Late rest) → Late (vertexCheck r v rest)
-late-vertex r v rest from to f = go (zero-or v)
-  where
-    go : (v ≡ 0) ⊎ (v ≡ 0 → ⊥) → Late (vertexCheck r v rest)
-    go (inl e) = rw (vertex-clear r v rest e) (f e)
-    go (inr d) = (r, v, 0, from, to, vertex-refuses r v rest d)
+    go : (x ≡ 0) ⊎ (x ≡ 0 → ⊥) → Late (checkFound x (refused r p q) rest)
+    go (inl e) = rw (check-clear x (refused r p q) rest e) (f e)
+    go (inr d) = (r, p, q, from, to, check-refuses x (refused r p q) rest d)
 
 module _ (n : ℕ) (L : List ℕ) (rows : T (rowsFit n L)) where
   -- with fit rows checks 3 and 4 find nothing
@@ -102,8 +80,8 @@ module _ (n : ℕ) (L : List ℕ) (rows : T (rowsFit n L)) where
   rows-clear rest =
       let (a, t) = passes (sizesFit n L) _ rows in
       let (b, c) = passes (eqb (unfitCorner n L) 0) (eqb (repeatedCorner L) 0) t in
-      side-clear 3 (unfitCorner n L) _ (means-eq (unfitCorner n L) 0 .says b)
-      ∙ side-clear 4 (repeatedCorner L) rest (means-eq (repeatedCorner L) 0 .says c)
+      check-clear (unfitCorner n L) _ _ (means-eq (unfitCorner n L) 0 .says b)
+      ∙ check-clear (repeatedCorner L) _ rest (means-eq (repeatedCorner L) 0 .says c)
 
   -- where a pairing with turn orders exists, checks 3 to 8 find nothing
   pub ordered-answer : (π : ℕ → ℕ) → Ordered n L π → listAnswer n L ≡ gives (borders L) (edges L)
@@ -112,9 +90,9 @@ module _ (n : ℕ) (L : List ℕ) (rows : T (rowsFit n L)) where
       let g = good n L (record { rows = rows; pairing = π; ordered = x }) in
       let (c, d) = pairing-exists n L (g .fit) .0 (partner L, g .pairing) in
       rows-clear _
-      ∙ side-clear 6 (crowdedSide L) _ c
-      ∙ side-clear 7 (alikeSide L) _ d
-      ∙ vertex-clear 8 (unorderedVertex n L) _ (means-eq (unorderedVertex n L) 0 .says (means-ordered n L (g .pairing) .shows (g .orders)))
+      ∙ check-clear (crowdedSide L) _ _ c
+      ∙ check-clear (alikeSide L) _ _ d
+      ∙ check-clear (unorderedVertex n L) _ _ (means-eq (unorderedVertex n L) 0 .says (means-ordered n L (g .pairing) .shows (g .orders)))
 
   -- where none exists, one of the checks 6 to 8 finds something
   pub unordered-answer : (((π : ℕ → ℕ) × Ordered n L π) → ⊥) → Late (listAnswer n L)
@@ -122,11 +100,11 @@ module _ (n : ℕ) (L : List ℕ) (rows : T (rowsFit n L)) where
   unordered-answer none =
       let fit = means-fit n L .says rows in
       subst Late (sym (rows-clear _))
-      (late-side 6 (crowdedSide L) _ (omega arith) (omega arith)
+      (late-check (crowdedSide L) 6 _ _ _ (omega arith) (omega arith)
       (λ c.
-      late-side 7 (alikeSide L) _ (omega arith) (omega arith)
+      late-check (alikeSide L) 7 _ _ _ (omega arith) (omega arith)
       (λ a.
-      late-vertex 8 (unorderedVertex n L) _ (omega arith) (omega arith)
+      late-check (unorderedVertex n L) 8 _ _ _ (omega arith) (omega arith)
       (λ o.
       let p = the-pairing n L fit a in
       let orders = means-ordered n L p .says (means-eq (unorderedVertex n L) 0 .shows o) in
@@ -171,36 +149,23 @@ never-gives q k e a b p = let z : _≡_ {A = ℕ} 0 1 = cc in omega arith
 pub never-refused : (q r c d : ℕ) → (r ≡ q → ⊥) → Never q (refused r c d)
 never-refused q r c d f a b p = let z : r ≡ q = cc in f z
 
-module _ (q r : ℕ) (rest : Answer) (other : r ≡ q → ⊥) (f : Never q rest) where
-  never-side : (s : ℕ) → Never q (sideCheck r s rest)
-  never-side s a b p = go (zero-or s)
-    where
-      go : (s ≡ 0) ⊎ (s ≡ 0 → ⊥) → ⊥
-      go (inl e) = f a b (sym (side-clear r s rest e) ∙ p)
-      go (inr d) = never-refused q r (element s) (number s) other a b (sym (side-refuses r s rest d) ∙ p)
-
-  never-vertex : (v : ℕ) → Never q (vertexCheck r v rest)
-  never-vertex v a b p = go (zero-or v)
-    where
-      go : (v ≡ 0) ⊎ (v ≡ 0 → ⊥) → ⊥
-      go (inl e) = f a b (sym (vertex-clear r v rest e) ∙ p)
-      go (inr d) = never-refused q r v 0 other a b (sym (vertex-refuses r v rest d) ∙ p)
+never-check : (q x r c d : ℕ) (rest : Answer) → (r ≡ q → ⊥) → Never q rest → Never q (checkFound x (refused r c d) rest)
+never-check q x r c d rest other f a b p = go (zero-or x)
+  where
+    go : (x ≡ 0) ⊎ (x ≡ 0 → ⊥) → ⊥
+    go (inl e) = f a b (sym (check-clear x (refused r c d) rest e) ∙ p)
+    go (inr n) = never-refused q r c d other a b (sym (check-refuses x (refused r c d) rest n) ∙ p)
 
 -- checks 3 to 8 give their own numbers but 5, and no other
 pub list-never : (n : ℕ) (L : List ℕ) (q : ℕ) → ((r : ℕ) → 3 ≤ r → r ≤ 8 → (r ≡ 5 → ⊥) → r ≡ q → ⊥) → Never q (listAnswer n L)
 unfolding listAnswer
 list-never n L q other =
-    never-side q 3 _ (other 3 (omega arith) (omega arith) (λ z. omega arith))
-    (never-side q 4 _ (other 4 (omega arith) (omega arith) (λ z. omega arith))
-    (never-side q 6 _ (other 6 (omega arith) (omega arith) (λ z. omega arith))
-    (never-side q 7 _ (other 7 (omega arith) (omega arith) (λ z. omega arith))
-    (never-vertex q 8 _ (other 8 (omega arith) (omega arith) (λ z. omega arith))
-    (never-gives q (borders L) (edges L))
-    (unorderedVertex n L))
-    (alikeSide L))
-    (crowdedSide L))
-    (repeatedCorner L))
-    (unfitCorner n L)
+    never-check q (unfitCorner n L) 3 _ _ _ (other 3 (omega arith) (omega arith) (λ z. omega arith))
+    (never-check q (repeatedCorner L) 4 _ _ _ (other 4 (omega arith) (omega arith) (λ z. omega arith))
+    (never-check q (crowdedSide L) 6 _ _ _ (other 6 (omega arith) (omega arith) (λ z. omega arith))
+    (never-check q (alikeSide L) 7 _ _ _ (other 7 (omega arith) (omega arith) (λ z. omega arith))
+    (never-check q (unorderedVertex n L) 8 _ _ _ (other 8 (omega arith) (omega arith) (λ z. omega arith))
+    (never-gives q (borders L) (edges L))))))
 
 never-room : (q room : ℕ) (x : Answer) → (9 ≡ q → ⊥) → Never q x → Never q (roomCheck room x)
 unfolding roomCheck

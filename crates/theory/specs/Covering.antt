@@ -19,6 +19,7 @@ use Rattle.rules.specs.Recovery.{walk}
 use Rattle.theory.specs.Sides.{no-side-zero, sideAt-slot, slot-sideAt}
 use Rattle.theory.specs.Entries.{length-e2e}
 use Rattle.theory.specs.Orders.{Good, turn-origin, turn-inj, first-after, begins}
+use Rattle.theory.specs.Rims.{Ends}
 use Rattle.theory.specs.Walking.{Start, after, side, nowhere, start-at, Fan, walk-walked}
 
 -- W has the origin v of each side at v
@@ -69,7 +70,7 @@ module _ (L : List ℕ) (p : Pairing L (partner L)) (v c : ℕ) (o : List ℕ) (
           length-q = let (i, h, e) = x .all s a in omega arith
 
           -- on to the last of the order, whose turn is the first: else a border side would end at v
-          closed : Turn L (partner L) (at q (length q - 1)) (at q 0) ⊎ ((partner L (at q (length q - 1)) ≡ 0) × ((s : ℕ) → Side L s → Turn L (partner L) s (at q 0) → ⊥)) → Met o (at q 0)
+          closed : Ends L q → Met o (at q 0)
           closed (inl t) =
               let (j, h, e) = x .all c b in
               let g : j + (length q - 1 - j) ≡ length q - 1 = omega arith in
@@ -108,8 +109,7 @@ module _ (L : List ℕ) (p : Pairing L (partner L)) (v c : ℕ) (o : List ℕ) (
           let e = fan .once i (length o - 1) (omega arith) (omega arith) (turn-inj L p (at o i) last (at o (suc i)) a b (fan .turns i h) t) in
           absurd (omega arith)
 
-      ends : 0 < length o → (partner L last ≡ 0) ⊎ ((i : ℕ) × (i < length o) × Turn L (partner L) last (at o i))
-          → Turn L (partner L) last (at o 0) ⊎ ((partner L last ≡ 0) × ((s : ℕ) → Side L s → Turn L (partner L) s (at o 0) → ⊥))
+      ends : 0 < length o → (partner L last ≡ 0) ⊎ ((i : ℕ) × (i < length o) × Turn L (partner L) last (at o i)) → Ends L o
       ends some (inl z) = inr (z, nobodys some z)
       ends some (inr (i, h, t)) = inl (back i h t)
 

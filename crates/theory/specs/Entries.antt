@@ -127,7 +127,7 @@ module _ (L : List ℕ) where
       go (inl z) = omega (arith, e2e-border s a z, number-from s)
       go (inr z) = z (sym (e2e-paired s a z) ∙ e)
 
--- the V2e entry c of vertex v: of a vertex with a border side ending there, and of any other
+-- the V2e entry c of vertex v: of a vertex with a border side ending there, of another one with sides, and of one without
 pub data VertexEntry (L : List ℕ) (v c : ℕ) : Type 0 where
   rim : (s : ℕ) → Side L s → partner L s ≡ 0 → destination L s ≡ v → c ≡ 8 * borderNumber L s → VertexEntry L v c
   inner : ((s : ℕ) → Side L s → partner L s ≡ 0 → destination L s ≡ v → ⊥) → SideAt L v c → ((s : ℕ) → SideAt L v s → c ≤ s) → VertexEntry L v c

@@ -10,6 +10,7 @@ use lib.Dec.{eqb}
 use lib.ListN.{length}
 use Rattle.lists.specs.TestLaws.{true-of, false-of, decide, means-not, means-eq, means-lt, zero-or}
 use Rattle.lists.specs.Search.{at}
+use Rattle.lists.specs.SearchLaws.{Met}
 use Rattle.rules.specs.Elements.{elements, element, Side, next}
 use Rattle.rules.specs.Pairing.{Turn, SideAt, TurnOrder}
 use Rattle.rules.specs.Tables.{partner, borderNumber}
@@ -58,10 +59,6 @@ module _ (n : ℕ) (L : List ℕ) (start : ℕ) where
       go (stops z f) = let q : t ≡ 0 = cc in absurd (d q)
       go (back u f) = let q : t ≡ 0 = cc in absurd (d q)
       go (on r u k f) = let q : r ≡ t = cc in (rw q at u, rw q at k)
-
--- t stands in o
-abbrev Met : List ℕ → ℕ → Type 0
-Met o t = (i : ℕ) × (i < length o) × (at o i ≡ t)
 
 -- a ring begins where the walk about its vertex does
 pub start : (n : ℕ) (L : List ℕ) (v : ℕ) → 1 ≤ v → v ≤ n → (s : ℕ) × (startSide (built n L) v ≡ some s) × Start L v s
