@@ -6,6 +6,8 @@ BIG=4294967295
 class R(Exception): pass   # refusal
 def ref(k,a=0,b=0): raise R(k,a,b)
 
+def columns(rows): return 4 if any(r[3] for r in rows) else 3
+def rowsof(L): return [L[i:i+4] for i in range(0,len(L),4)]
 def build(n,rows):
     # accepted lists only
     m=len(rows)
@@ -28,7 +30,7 @@ def build(n,rows):
     bn={c:i+1 for i,c in enumerate(B)}
     E=[]
     for f,r in enumerate(rows,1):
-        for i in range(1,5):
+        for i in range(1,columns(rows)+1):
             c=8*f+i
             if c not in sides: E.append(0)
             elif c in partner: E.append(partner[c])
@@ -43,12 +45,14 @@ def build(n,rows):
     return V,E,B,(len(order)+len(B))//2
 
 class M:
-    def __init__(s,n,L,V,E,B): s.n,s.L,s.V,s.E,s.B=n,L,V,E,B
+    def __init__(s,n,told,L,V,E,B): s.n,s.told,s.L,s.V,s.E,s.B=n,told,L,V,E,B
     def check(s):
-        if s.n>1000000 or len(s.L)//4>1000000 or len(s.L)%4 or len(s.E)%4: ref(1)
+        if s.n>1000000 or len(s.L)//4>1000000 or len(s.L)%4: ref(1)
         m=len(s.L)//4
-        if len(s.V)!=s.n or len(s.E)!=4*m or len(s.B)>4*m: ref(2)
-        s.m=m
+        if s.told not in (0,3,4): ref(2)
+        c=s.told or columns(rowsof(s.L))
+        if len(s.V)!=s.n or len(s.E)!=c*m or len(s.B)>4*m: ref(2)
+        s.m,s.c=m,c
     def row(s,f): return s.L[4*(f-1):4*f]
     def corners(s,f):
         r=s.row(f)
@@ -61,7 +65,8 @@ class M:
     def ishalf(s,c): return s.isside(c) or s.isborder(c)
     def rE(s,c):
         f,i=divmod(c,8)
-        x=s.E[4*(f-1)+i-1]
+        if i>s.c: ref(12)   # a fourth side, told three columns
+        x=s.E[s.c*(f-1)+i-1]
         if not s.ishalf(x): ref(12)
         return x
     def rB(s,c):
@@ -218,15 +223,18 @@ for text in open(sys.argv[1]):
     if ";" not in text: continue
     label,rest=text.rstrip("\n").split(";",1)
     numbers=[int(x) for x in rest.replace(";"," ").replace(","," ").split()]
-    kind,a,b,c,codes,end,room,n=numbers[:8]; lengths=numbers[8:12]; entries=numbers[12:]
+    kind,a,b,c,codes,end,room,n,told=numbers[:9]; lengths=numbers[9:13]; entries=numbers[13:]
     out.append(label)
     if kind==1:
-        V,E,B,ed=build(n,[entries[i:i+4] for i in range(0,len(entries),4)])
+        V,E,B,ed=build(n,rowsof(entries))
+        assert lengths==[len(entries),len(V),len(E),0],label
         line("K",[0,len(B),ed])
         t=[entries,V,E,B]
         if a: t[a-1][b]=c
-    else: t=list(parts(entries,lengths))
-    m=M(n,*t)
+    else:
+        assert sum(lengths)==len(entries),label
+        t=list(parts(entries,lengths))
+    m=M(n,told,*t)
     if kind==3: steps(m,[a,b,c]); continue
     singles(m,codes); lists(m,end,room); walks(m,end)
 sys.stdout.write("\n".join(out)+"\n")
