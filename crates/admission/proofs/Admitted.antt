@@ -5,15 +5,16 @@ use mathlib.Core.Option.{Option}
 use mathlib.Core.Path.{_≡_, refl, ap, sym, _∙_}
 use Prim.Native.Nat.{ℕ, zero, suc, _*_, _≤_, _<_}
 use native.Mathlib.Omega.{arith}
-use lib.Dec.{T, leb, eqb}
+use lib.Dec.{T, eqb}
 use lib.ListN.{length}
-use Rattle.lists.specs.Tests.{both}
-use Rattle.lists.specs.TestLaws.{Means, means-both, means-eq, means-le}
-use Rattle.rules.specs.Elements.{maxVertex, maxElement, elements, number, Side}
+use Rattle.lists.specs.TestLaws.{means-both, means-eq, means-le, means-within}
+use Rattle.rules.specs.Elements.{elements, number, Side}
 use Rattle.halfedge.specs.Codes.{of-border, of-side}
 use Rattle.rules.specs.Pairing.{sizesFit}
-use Rattle.rules.specs.Refusals.{Answer, refused, callSizes, lengthChecks}
-use Rattle.rules.specs.Queries.{Mesh, asked, defined, found, bySide, isHalfEdge, isBorderCode}
+use Rattle.rules.specs.Refusals.{Answer, refused, lengthChecks}
+use Rattle.rules.specs.Queries.{Mesh, queryLengths, asked, defined, found, bySide, isHalfEdge, isBorderCode}
+use Rattle.theory.specs.FitRows.{means-sizes}
+use Rattle.theory.specs.Columns.{by-bounds}
 use Rattle.reads.specs.Meshes.{Fit, settle, Admits}
 use Rattle.reads.proofs.Tested.{half-border, half-side}
 use Rattle.reads.proofs.Readings.{border-then, side-then}
@@ -37,51 +38,41 @@ settle-none zero a h = refl
 settle-none (suc k) a h = absurd (omega arith)
 
 module _ (M : Mesh) where
-  abbrev lengths : Bool
-  lengths =
-      both (eqb (length (M .vertices)) (M .n))
-      (both (eqb (length (M .opposites)) (4 * elements (M .list))) (leb (length (M .border)) (4 * elements (M .list))))
-
-  abbrev sizes : Bool
-  sizes = callSizes (M .n) (M .list) (M .opposites)
-
-  fit-of : sizes ≡ true → lengths ≡ true → Fit M
-  unfolding callSizes sizesFit
+  fit-of : sizesFit (M .n) (M .list) ≡ true → queryLengths M ≡ true → Fit M
+  unfolding queryLengths
   fit-of s l =
       let m = elements (M .list) in
-      let fours : (X : _) → Means (eqb (length X) (4 * elements X)) (length X ≡ 4 * elements X) = λ X. means-eq _ _ in
-      let counts = means-both (means-le (M .n) maxVertex) (means-both (means-le m maxElement) (fours (M .list))) in
-      let tables = means-both (means-eq (length (M .opposites)) (4 * m)) (means-le (length (M .border)) (4 * m)) in
-      let ((a, (b, d)), e) = means-both counts (fours (M .opposites)) .says (holds s) in
-      let (f, (g, h)) = means-both (means-eq (length (M .vertices)) (M .n)) tables .says (holds l) in
-      record { vertices = f; opposites = omega arith; border = h; elements = b }
+      let (a, (b, d)) = means-sizes (M .n) (M .list) .says (holds s) in
+      let tables = means-both (means-eq (length (M .opposites)) (M .columns * m)) (means-le (length (M .border)) (4 * m)) in
+      let (c, (f, (g, h))) = means-both (means-within 3 4 (M .columns)) (means-both (means-eq (length (M .vertices)) (M .n)) tables) .says (holds l) in
+      record { vertices = f; columns = by-bounds (M .columns) (c .0) (c .1); opposites = g; border = h; elements = b }
 
   -- checks 1 and 2
-  pub sizes-found : sizes ≡ false → Admits M true 1
+  pub sizes-found : sizesFit (M .n) (M .list) ≡ false → Admits M true 1
   unfolding asked lengthChecks settle
   sizes-found s =
       record {
         fit = λ z. absurd (omega arith);
         found = λ z. tt;
-        settled = λ a. ap (λ (b : Bool). lengthChecks b lengths (defined true a)) s;
+        settled = λ a. ap (λ (b : Bool). lengthChecks b (queryLengths M) (defined true a)) s;
       }
 
-  pub lengths-found : sizes ≡ true → lengths ≡ false → Admits M true 2
+  pub lengths-found : sizesFit (M .n) (M .list) ≡ true → queryLengths M ≡ false → Admits M true 2
   unfolding asked lengthChecks settle
   lengths-found s l =
       record {
         fit = λ z. absurd (omega arith);
         found = λ z. tt;
-        settled = λ a. ap (λ (b : Bool). lengthChecks b lengths (defined true a)) s ∙ ap (λ (b : Bool). lengthChecks true b (defined true a)) l;
+        settled = λ a. ap (λ (b : Bool). lengthChecks b (queryLengths M) (defined true a)) s ∙ ap (λ (b : Bool). lengthChecks true b (defined true a)) l;
       }
 
-  pub none-found : sizes ≡ true → lengths ≡ true → Admits M true 0
+  pub none-found : sizesFit (M .n) (M .list) ≡ true → queryLengths M ≡ true → Admits M true 0
   unfolding asked defined lengthChecks settle
   none-found s l =
       record {
         fit = λ z. fit-of s l;
         found = λ z. tt;
-        settled = λ a. ap (λ (b : Bool). lengthChecks b lengths a) s ∙ ap (λ (b : Bool). lengthChecks true b a) l;
+        settled = λ a. ap (λ (b : Bool). lengthChecks b (queryLengths M) a) s ∙ ap (λ (b : Bool). lengthChecks true b a) l;
       }
 
   -- check 11 after them

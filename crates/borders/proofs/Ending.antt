@@ -15,39 +15,39 @@ use Rattle.lists.specs.Search.{at}
 use Rattle.lists.specs.SearchLaws.{le-or-lt, at-tab, count-bound}
 use Rattle.lists.specs.Parts.{part, at-part, length-part}
 use Rattle.rules.specs.Elements.{elements, Side, slot, destination, sideWith, countSides}
-use Rattle.rules.specs.Tables.{partner, isBorder, b2e, borderNumber, borders, e2e, borderInto, v2eEntry, v2e}
+use Rattle.rules.specs.Tables.{partner, isBorder, b2e, borderNumber, borders, wide, borderInto, v2eEntry, v2e}
 use Rattle.rules.specs.Recovery.{sideOfBorder}
 use Rattle.theory.specs.Sides.{slot-below, slot-less, side-positive}
 use Rattle.theory.specs.Least.{first-is, First}
 use Rattle.theory.specs.Pairings.{partner-opposed}
-use Rattle.theory.specs.Entries.{length-e2e, length-v2e, length-b2e, means-border, e2e-paired, e2e-border, b2e-border, number-to, numbered-border, border-no-side}
-use Rattle.theory.specs.Turns.{side-e2e, rim-side}
+use Rattle.theory.specs.Entries.{length-wide, length-v2e, length-b2e, means-border, wide-paired, wide-border, b2e-border, number-to, numbered-border, border-no-side}
+use Rattle.theory.specs.Turns.{side-wide, rim-side}
 use Rattle.walk.specs.Layout.{e2eIn}
 use Rattle.borders.specs.Numbers.{Numbered, Matched, Entry, rim, inner, Numbering}
 
 -- no side has the code of a border past the last
 module _ (L : List ℕ) (b : ℕ) (past : borders L < b) where
-  not-entry : (t : ℕ) → Side (e2e L) t → at (e2e L) (slot t) ≡ 8 * b → ⊥
+  not-entry : (t : ℕ) → Side (wide L) t → at (wide L) (slot t) ≡ 8 * b → ⊥
   not-entry t x e = go (zero-or (partner L t))
     where
       a : Side L t
-      a = side-e2e L t x
+      a = side-wide L t x
 
       go : (partner L t ≡ 0) ⊎ (partner L t ≡ 0 → ⊥) → ⊥
-      go (inl z) = omega (arith, number-to L t a z, e2e-border L t a z)
+      go (inl z) = omega (arith, number-to L t a z, wide-border L t a z)
       go (inr d) =
-          let o : partner L t ≡ 8 * b = sym (e2e-paired L t a d) ∙ e in
+          let o : partner L t ≡ 8 * b = sym (wide-paired L t a d) ∙ e in
           border-no-side L L b (rw o at (partner-opposed L t d .0))
 
-  pub no-side-of : b ≤ 4 * elements L → sideOfBorder (e2e L) (8 * b) ≡ 0
+  pub no-side-of : b ≤ 4 * elements L → sideOfBorder (wide L) (8 * b) ≡ 0
   unfolding sideOfBorder
   no-side-of h =
       let q : 8 * b / 8 ≡ b = omega arith in
-      let i : within 1 (length (e2e L)) (8 * b / 8) ≡ true =
-      true-of _ (means-within 1 (length (e2e L)) (8 * b / 8) .shows (rw (q, length-e2e L) ((omega arith), h))) in
+      let i : within 1 (length (wide L)) (8 * b / 8) ≡ true =
+      true-of _ (means-within 1 (length (wide L)) (8 * b / 8) .shows (rw (q, length-wide L) ((omega arith), h))) in
       rw (i, sideOfBorder)
-      (first-is (e2e L) (λ t. eqb (at (e2e L) (slot t)) (8 * b)) 0
-      (First.nobody refl (λ t x. not-T (eqb (at (e2e L) (slot t)) (8 * b)) (λ u. not-entry t x (means-eq _ _ .says u)))))
+      (first-is (wide L) (λ t. eqb (at (wide L) (slot t)) (8 * b)) 0
+      (First.nobody refl (λ t x. not-T (eqb (at (wide L) (slot t)) (8 * b)) (λ u. not-entry t x (means-eq _ _ .says u)))))
 
 module _ (L : List ℕ) (v : ℕ) where
   into : ℕ → Bool
@@ -92,20 +92,20 @@ module _ (n : ℕ) (L : List ℕ) (m : Matched n L) (k c : ℕ) (w w′ : List �
   unfolding borders countSides
   few = omega (arith, count-bound (sideWith L (isBorder L)) (length L), m .fit .fours)
 
-  linked : (b : ℕ) → 1 ≤ b → b ≤ 4 * elements L → at (b2e L) (b - 1) ≡ sideOfBorder (e2e L) (8 * b)
+  linked : (b : ℕ) → 1 ≤ b → b ≤ 4 * elements L → at (b2e L) (b - 1) ≡ sideOfBorder (wide L) (8 * b)
   linked b l h = go (le-or-lt b (borders L))
     where
-      go : (b ≤ borders L) ⊎ (borders L < b) → at (b2e L) (b - 1) ≡ sideOfBorder (e2e L) (8 * b)
+      go : (b ≤ borders L) ⊎ (borders L < b) → at (b2e L) (b - 1) ≡ sideOfBorder (wide L) (8 * b)
       go (inl i) =
           let (t, a, z, e) = numbered-border L b l i in
-          ap (λ (x : ℕ). at (b2e L) (x - 1)) (sym e) ∙ b2e-border L t a z ∙ sym (rim-side L t a z) ∙ ap (λ (x : ℕ). sideOfBorder (e2e L) (8 * x)) e
+          ap (λ (x : ℕ). at (b2e L) (x - 1)) (sym e) ∙ b2e-border L t a z ∙ sym (rim-side L t a z) ∙ ap (λ (x : ℕ). sideOfBorder (wide L) (8 * x)) e
       go (inr i) =
           List·getD-eq-default (b2e L) 0 (omega (arith, length-b2e L)) ∙ sym (no-side-of L b i h)
 
-  opposites : e2eIn n (elements L) w′ ≡ e2e L
+  opposites : e2eIn n (elements L) w′ ≡ wide L
   opposites =
       let long = length-part n (4 * elements L) w′ (omega (arith, inside)) in
-      ext-getD 0 (part n (4 * elements L) w′) (e2e L) (long ∙ sym (length-e2e L))
+      ext-getD 0 (part n (4 * elements L) w′) (wide L) (long ∙ sym (length-wide L))
       (λ i h. let l : i < 4 * elements L = omega arith in at-part n (4 * elements L) w′ i l ∙ s .done i (omega (arith, m .fit .fours)))
 
   pub numbered : Numbered n L k c w w′

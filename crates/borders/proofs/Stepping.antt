@@ -16,11 +16,11 @@ use Rattle.lists.specs.SearchLaws.{lt-or-eq, le-not-lt, count-pass, count-fail,
 use Rattle.lists.specs.Changes.{at-snoc-other}
 use Rattle.lists.specs.Stores.{at-same, at-other}
 use Rattle.rules.specs.Elements.{maxElement, isSide, Side, slot, origin, destination, next, sideAt, sideWith, firstSide}
-use Rattle.rules.specs.Tables.{partner, isBorder, borderNumber, e2e}
+use Rattle.rules.specs.Tables.{partner, isBorder, borderNumber, wide}
 use Rattle.theory.specs.Sides.{side-facts, side-positive, sideAt-slot, slot-sideAt, slot-below}
 use Rattle.theory.specs.Least.{First, nobody, somebody, first-side}
 use Rattle.theory.specs.Steps.{next-side}
-use Rattle.theory.specs.Entries.{means-border, e2e-paired, e2e-border, e2e-empty}
+use Rattle.theory.specs.Entries.{means-border, wide-paired, wide-border, wide-empty}
 use Rattle.siblings.specs.Siblings.{sibling}
 use Rattle.siblings.specs.Uses.{sibling-side}
 use Rattle.borders.specs.Numbers.{Matched, Into, Entry, rim, inner, Numbering, Put, kept, put, entered}
@@ -81,7 +81,7 @@ module _ {n : ℕ} {L : List ℕ} (m : Matched n L) {p k c : ℕ} {w : List ℕ}
       inner (λ t i h. elim (lt-or-eq (slot t) p (omega arith)) [ inl l ↦ f t i l | inr q ↦ g t i q ]) e
 
   -- no border side begins at p, and its E2e entry stands
-  module _ (free : Side L (sideAt p) → partner L (sideAt p) ≡ 0 → ⊥) (entry : at w (n + p) ≡ at (e2e L) p) where
+  module _ (free : Side L (sideAt p) → partner L (sideAt p) ≡ 0 → ⊥) (entry : at w (n + p) ≡ at (wide L) p) where
     no-border : T (not (isBorderAt p))
     no-border =
         not-T (isBorderAt p)
@@ -101,7 +101,7 @@ module _ {n : ℕ} {L : List ℕ} (m : Matched n L) {p k c : ℕ} {w : List ℕ}
           sides = sides;
           done = λ q h.
               elim (lt-or-eq q p (omega arith))
-              [ inl l ↦ s .done q l | inr e ↦ subst (λ (i : ℕ). at w (n + i) ≡ at (e2e L) i) (sym e) entry ];
+              [ inl l ↦ s .done q l | inr e ↦ subst (λ (i : ℕ). at w (n + i) ≡ at (wide L) i) (sym e) entry ];
           ahead = λ t a h. s .ahead t a (omega arith);
           empty = λ q h i f. s .empty q (omega arith) i f;
           border = λ j h.
@@ -115,7 +115,7 @@ module _ {n : ℕ} {L : List ℕ} (m : Matched n L) {p k c : ℕ} {w : List ℕ}
   pub none-on : at w (n + p) ≡ 0 → Numbering n L (p + 1) k c w
   none-on e =
       let none = not-T (isSide L (sideAt p)) (side-not e) in
-      numbering-on (λ a z. side-not e a) (e ∙ sym (e2e-empty L p none)) c
+      numbering-on (λ a z. side-not e a) (e ∙ sym (wide-empty L p none)) c
       (s .sides
       ∙ sym (ap (count isSideAt) (add-one p) ∙ count-fail isSideAt p (not-T (isSideAt p) (λ t. side-not e (passes (isSide L (sideAt p)) true t .0)))))
 
@@ -125,7 +125,7 @@ module _ {n : ℕ} {L : List ℕ} (m : Matched n L) {p k c : ℕ} {w : List ℕ}
       let a = side-here d in
       let o : partner L (sideAt p) ≡ at w (n + p) = m .other (sideAt p) a (λ q. e (sibling-at a ∙ q)) ∙ sym (sibling-at a) in
       let x : partner L (sideAt p) ≡ 0 → ⊥ = λ z. d (sym o ∙ z) in
-      numbering-on (λ b z. x z) (sym o ∙ sym (e2e-paired L (sideAt p) a x) ∙ ap (at (e2e L)) (slot-sideAt p)) (c + 1) (side-count a)
+      numbering-on (λ b z. x z) (sym o ∙ sym (wide-paired L (sideAt p) a x) ∙ ap (at (wide L)) (slot-sideAt p)) (c + 1) (side-count a)
 
   -- the side at p is a border side
   module _ (a : Side L (sideAt p)) (same : at w (n + p) ≡ sideAt p) where
@@ -156,8 +156,8 @@ module _ {n : ℕ} {L : List ℕ} (m : Matched n L) {p k c : ℕ} {w : List ℕ}
     abbrev both-entered : List ℕ
     both-entered = entered n L p (k + 1) w
 
-    entered-e2e : at both-entered (n + p) ≡ 8 * (k + 1)
-    entered-e2e =
+    entered-wide : at both-entered (n + p) ≡ 8 * (k + 1)
+    entered-wide =
         at-other (set w (n + p) (8 * (k + 1))) (n + length L + (k + 1) - 1) (sideAt p) (n + p) (λ e. omega arith)
         ∙ at-same w (n + p) (8 * (k + 1)) (omega (arith, room))
 
@@ -240,18 +240,18 @@ module _ {n : ℕ} {L : List ℕ} (m : Matched n L) {p k c : ℕ} {w : List ℕ}
           go (inl e) = own-entry e (subst (λ (u : ℕ). Put (u - 1) (8 * (k + 1)) both-entered w′) (sym e) q) (s .vertices v l h)
           go (inr d) = other-entry v l h d (s .vertices v l h)
 
-      done-on : (j : ℕ) → j < p + 1 → at w′ (n + j) ≡ at (e2e L) j
+      done-on : (j : ℕ) → j < p + 1 → at w′ (n + j) ≡ at (wide L) j
       done-on j h = go (lt-or-eq j p (omega arith))
         where
-          go : (j < p) ⊎ (j ≡ p) → at w′ (n + j) ≡ at (e2e L) j
+          go : (j < p) ⊎ (j ≡ p) → at w′ (n + j) ≡ at (wide L) j
           go (inl l) = table-rest j (omega arith) (λ e. omega arith) ∙ s .done j l
           go (inr e) =
               ap (λ (i : ℕ). at w′ (n + i)) e
               ∙ table p
-              ∙ entered-e2e
+              ∙ entered-wide
               ∙ ap (λ (b : ℕ). 8 * b) (sym own-number)
-              ∙ sym (e2e-border L (sideAt p) a lone)
-              ∙ ap (at (e2e L)) (slot-sideAt p ∙ sym e)
+              ∙ sym (wide-border L (sideAt p) a lone)
+              ∙ ap (at (wide L)) (slot-sideAt p ∙ sym e)
 
       pub border-on : Numbering n L (p + 1) (k + 1) (c + 1) w′
       border-on =

@@ -9,7 +9,7 @@ use lib.ListN.{length, set}
 use Rattle.lists.specs.Search.{at, count, upto}
 use Rattle.lists.specs.Parts.{part}
 use Rattle.rules.specs.Elements.{elements, Side, slot, origin, destination, sideAt, sideWith, firstSide, countSides}
-use Rattle.rules.specs.Tables.{partner, isBorder, b2e, borderNumber, borders, e2e, v2e}
+use Rattle.rules.specs.Tables.{partner, isBorder, b2e, borderNumber, borders, wide, v2e}
 use Rattle.rules.specs.Refusals.{crowdedSide, alikeSide}
 use Rattle.theory.specs.FitRows.{Fit}
 use Rattle.siblings.specs.Siblings.{sibling}
@@ -30,7 +30,7 @@ pub record Numbered (n : ℕ) (L : List ℕ) (k c : ℕ) (w w′ : List ℕ) : T
   pub number : k ≡ borders L
   pub sides : c ≡ countSides L (λ s. true)
   pub vertices : v2eIn n w′ ≡ v2e n L
-  pub opposites : e2eIn n (elements L) w′ ≡ e2e L
+  pub opposites : e2eIn n (elements L) w′ ≡ wide L
   pub border : part (n + 4 * elements L) (borders L) w′ ≡ b2e L
   pub entries : (j : ℕ) → j < 4 * elements L → at w′ (n + 4 * elements L + j) ≡ at (b2e L) j
   pub linked : Linked n (elements L) w′
@@ -58,7 +58,7 @@ pub data Entry (L : List ℕ) (p v x : ℕ) : Type 0 where
 pub record Numbering (n : ℕ) (L : List ℕ) (p k c : ℕ) (w : List ℕ) : Type 0 where
   pub number : k ≡ count (sideWith L (isBorder L)) p
   pub sides : c ≡ count (sideWith L (λ s. true)) p
-  pub done : (q : ℕ) → q < p → at w (n + q) ≡ at (e2e L) q
+  pub done : (q : ℕ) → q < p → at w (n + q) ≡ at (wide L) q
   pub ahead : (s : ℕ) → Side L s → p ≤ slot s → at w (n + slot s) ≡ sibling L s
   pub empty : (q : ℕ) → p ≤ q → q < length L → (Side L (sideAt q) → ⊥) → at w (n + q) ≡ 0
   pub border : (j : ℕ) → j < length L → at w (n + length L + j) ≡ at (upto (sideWith L (isBorder L)) sideAt p) j

@@ -4,11 +4,10 @@ use walker::Walker;
 ghost use mathlib.Core.Path.{_≡_};
 ghost use Rattle.answer.specs.Numbers.{packedAnswer};
 ghost use Rattle.rules.specs.Refusals.{buildAnswer, buildLeaves, recoverAnswer, recoverList, recoverWork};
-ghost use Rattle.rules.specs.Queries.{oppositeAnswer, nextAnswer, previousAnswer, elementAnswer, originAnswer, destinationAnswer, acrossAnswer};
+ghost use Rattle.rules.specs.Queries.{told, columnsAnswer, oppositeAnswer, nextAnswer, previousAnswer, elementAnswer, originAnswer, destinationAnswer, acrossAnswer};
 ghost use Rattle.rules.specs.Queries.{halfEdgeBorderAnswer, vertexBorderAnswer, ringAnswer, ringLeaves, neighboursAnswer, neighboursLeaves, borderLoopAnswer};
 ghost use Rattle.rules.specs.Queries.{borderLoopLeaves, walkerStart, walkerStep};
 ghost use Rattle.build.specs.Building.{lent};
-ghost use Rattle.reads.specs.Meshes.{mesh};
 ghost use Rattle.walker.specs.Walkers.{calledBy};
 ghost use Rattle.borzhanu.specs.Walkers.{walkerIn, entriesOf};
 
@@ -28,161 +27,252 @@ pub extern "C" fn borzhanu_build(
     answer::pack(build::build(n, elements, v2e, e2e, b2e, work))
 }
 
-// The accepted element list that has exactly these tables.
+// How many columns the E2e of an element list has, 3 or 4: what queries are told.
+#[no_mangle]
+pub extern "C" fn borzhanu_columns(n: u32, elements: &[u32]) -> u64
+    ensures { λ r. ⌜ r ≡ packedAnswer (columnsAnswer n (now (elements .entry))) ⌝ }
+{
+    answer::pack(columns::columns(n, elements))
+}
+
+// The accepted element list of m rows that has exactly these tables.
 #[no_mangle]
 pub extern "C" fn borzhanu_recover(
     n: u32,
+    m: u32,
     v2e: &[u32],
     e2e: &[u32],
     elements: &mut [u32],
     work: &mut [u32],
 ) -> u64
-    ensures { λ r. ⌜ r ≡ packedAnswer (recoverAnswer n (now (v2e .entry)) (now (e2e .entry)) (now (elements .entry)) (now (work .entry))) ⌝ }
-    ensures { λ _. ⌜ now (elements .exit) ≡ recoverList n (now (v2e .entry)) (now (e2e .entry)) (now (elements .entry)) (now (work .entry)) ⌝ }
-    ensures { λ _. ⌜ now (work .exit) ≡ recoverWork n (now (v2e .entry)) (now (e2e .entry)) (now (elements .entry)) (now (work .entry)) ⌝ }
+    ensures { λ r. ⌜ r ≡ packedAnswer (recoverAnswer n m (now (v2e .entry)) (now (e2e .entry)) (now (elements .entry)) (now (work .entry))) ⌝ }
+    ensures { λ _. ⌜ now (elements .exit) ≡ recoverList n m (now (v2e .entry)) (now (e2e .entry)) (now (elements .entry)) (now (work .entry)) ⌝ }
+    ensures { λ _. ⌜ now (work .exit) ≡ recoverWork n m (now (v2e .entry)) (now (e2e .entry)) (now (elements .entry)) (now (work .entry)) ⌝ }
 {
-    answer::pack(recover::recover(n, v2e, e2e, elements, work))
+    answer::pack(recover::recover(n, m, v2e, e2e, elements, work))
 }
 
 // The half-edge that runs along the same edge the other way.
 #[no_mangle]
 pub extern "C" fn borzhanu_opposite(
     n: u32,
+    columns: u32,
     elements: &[u32],
     v2e: &[u32],
     e2e: &[u32],
     b2e: &[u32],
     code: u32,
 ) -> u64
-    ensures { λ r. ⌜ r ≡ packedAnswer (oppositeAnswer (mesh n (now (elements .entry)) (now (v2e .entry)) (now (e2e .entry)) (now (b2e .entry))) code) ⌝ }
+    ensures { λ r. ⌜ r ≡ packedAnswer (oppositeAnswer (told n columns (now (elements .entry)) (now (v2e .entry)) (now (e2e .entry)) (now (b2e .entry))) code) ⌝ }
 {
-    answer::pack(query::opposite(n, elements, v2e, e2e, b2e, code))
+    answer::pack(query::opposite(
+        n,
+        columns::seen(columns, elements),
+        elements,
+        v2e,
+        e2e,
+        b2e,
+        code,
+    ))
 }
 
 // The half-edge after a half-edge, in its element or along the border.
 #[no_mangle]
 pub extern "C" fn borzhanu_next(
     n: u32,
+    columns: u32,
     elements: &[u32],
     v2e: &[u32],
     e2e: &[u32],
     b2e: &[u32],
     code: u32,
 ) -> u64
-    ensures { λ r. ⌜ r ≡ packedAnswer (nextAnswer (mesh n (now (elements .entry)) (now (v2e .entry)) (now (e2e .entry)) (now (b2e .entry))) code) ⌝ }
+    ensures { λ r. ⌜ r ≡ packedAnswer (nextAnswer (told n columns (now (elements .entry)) (now (v2e .entry)) (now (e2e .entry)) (now (b2e .entry))) code) ⌝ }
 {
-    answer::pack(query::next(n, elements, v2e, e2e, b2e, code))
+    answer::pack(query::next(
+        n,
+        columns::seen(columns, elements),
+        elements,
+        v2e,
+        e2e,
+        b2e,
+        code,
+    ))
 }
 
 // The side before a side, in its element.
 #[no_mangle]
 pub extern "C" fn borzhanu_previous(
     n: u32,
+    columns: u32,
     elements: &[u32],
     v2e: &[u32],
     e2e: &[u32],
     b2e: &[u32],
     code: u32,
 ) -> u64
-    ensures { λ r. ⌜ r ≡ packedAnswer (previousAnswer (mesh n (now (elements .entry)) (now (v2e .entry)) (now (e2e .entry)) (now (b2e .entry))) code) ⌝ }
+    ensures { λ r. ⌜ r ≡ packedAnswer (previousAnswer (told n columns (now (elements .entry)) (now (v2e .entry)) (now (e2e .entry)) (now (b2e .entry))) code) ⌝ }
 {
-    answer::pack(query::previous(n, elements, v2e, e2e, b2e, code))
+    answer::pack(query::previous(
+        n,
+        columns::seen(columns, elements),
+        elements,
+        v2e,
+        e2e,
+        b2e,
+        code,
+    ))
 }
 
 // The element of a side.
 #[no_mangle]
 pub extern "C" fn borzhanu_element(
     n: u32,
+    columns: u32,
     elements: &[u32],
     v2e: &[u32],
     e2e: &[u32],
     b2e: &[u32],
     code: u32,
 ) -> u64
-    ensures { λ r. ⌜ r ≡ packedAnswer (elementAnswer (mesh n (now (elements .entry)) (now (v2e .entry)) (now (e2e .entry)) (now (b2e .entry))) code) ⌝ }
+    ensures { λ r. ⌜ r ≡ packedAnswer (elementAnswer (told n columns (now (elements .entry)) (now (v2e .entry)) (now (e2e .entry)) (now (b2e .entry))) code) ⌝ }
 {
-    answer::pack(query::element(n, elements, v2e, e2e, b2e, code))
+    answer::pack(query::element(
+        n,
+        columns::seen(columns, elements),
+        elements,
+        v2e,
+        e2e,
+        b2e,
+        code,
+    ))
 }
 
 // The vertex where a half-edge begins.
 #[no_mangle]
 pub extern "C" fn borzhanu_origin(
     n: u32,
+    columns: u32,
     elements: &[u32],
     v2e: &[u32],
     e2e: &[u32],
     b2e: &[u32],
     code: u32,
 ) -> u64
-    ensures { λ r. ⌜ r ≡ packedAnswer (originAnswer (mesh n (now (elements .entry)) (now (v2e .entry)) (now (e2e .entry)) (now (b2e .entry))) code) ⌝ }
+    ensures { λ r. ⌜ r ≡ packedAnswer (originAnswer (told n columns (now (elements .entry)) (now (v2e .entry)) (now (e2e .entry)) (now (b2e .entry))) code) ⌝ }
 {
-    answer::pack(query::origin(n, elements, v2e, e2e, b2e, code))
+    answer::pack(query::origin(
+        n,
+        columns::seen(columns, elements),
+        elements,
+        v2e,
+        e2e,
+        b2e,
+        code,
+    ))
 }
 
 // The vertex where a half-edge ends.
 #[no_mangle]
 pub extern "C" fn borzhanu_destination(
     n: u32,
+    columns: u32,
     elements: &[u32],
     v2e: &[u32],
     e2e: &[u32],
     b2e: &[u32],
     code: u32,
 ) -> u64
-    ensures { λ r. ⌜ r ≡ packedAnswer (destinationAnswer (mesh n (now (elements .entry)) (now (v2e .entry)) (now (e2e .entry)) (now (b2e .entry))) code) ⌝ }
+    ensures { λ r. ⌜ r ≡ packedAnswer (destinationAnswer (told n columns (now (elements .entry)) (now (v2e .entry)) (now (e2e .entry)) (now (b2e .entry))) code) ⌝ }
 {
-    answer::pack(query::destination(n, elements, v2e, e2e, b2e, code))
+    answer::pack(query::destination(
+        n,
+        columns::seen(columns, elements),
+        elements,
+        v2e,
+        e2e,
+        b2e,
+        code,
+    ))
 }
 
 // The element on the other side of a side, or 0 at a border.
 #[no_mangle]
 pub extern "C" fn borzhanu_across(
     n: u32,
+    columns: u32,
     elements: &[u32],
     v2e: &[u32],
     e2e: &[u32],
     b2e: &[u32],
     code: u32,
 ) -> u64
-    ensures { λ r. ⌜ r ≡ packedAnswer (acrossAnswer (mesh n (now (elements .entry)) (now (v2e .entry)) (now (e2e .entry)) (now (b2e .entry))) code) ⌝ }
+    ensures { λ r. ⌜ r ≡ packedAnswer (acrossAnswer (told n columns (now (elements .entry)) (now (v2e .entry)) (now (e2e .entry)) (now (b2e .entry))) code) ⌝ }
 {
-    answer::pack(query::across(n, elements, v2e, e2e, b2e, code))
+    answer::pack(query::across(
+        n,
+        columns::seen(columns, elements),
+        elements,
+        v2e,
+        e2e,
+        b2e,
+        code,
+    ))
 }
 
 // 1 for a border half-edge, 0 for a side.
 #[no_mangle]
 pub extern "C" fn borzhanu_halfedge_is_border(
     n: u32,
+    columns: u32,
     elements: &[u32],
     v2e: &[u32],
     e2e: &[u32],
     b2e: &[u32],
     code: u32,
 ) -> u64
-    ensures { λ r. ⌜ r ≡ packedAnswer (halfEdgeBorderAnswer (mesh n (now (elements .entry)) (now (v2e .entry)) (now (e2e .entry)) (now (b2e .entry))) code) ⌝ }
+    ensures { λ r. ⌜ r ≡ packedAnswer (halfEdgeBorderAnswer (told n columns (now (elements .entry)) (now (v2e .entry)) (now (e2e .entry)) (now (b2e .entry))) code) ⌝ }
 {
-    answer::pack(query::halfedge_is_border(n, elements, v2e, e2e, b2e, code))
+    answer::pack(query::halfedge_is_border(
+        n,
+        columns::seen(columns, elements),
+        elements,
+        v2e,
+        e2e,
+        b2e,
+        code,
+    ))
 }
 
 // 1 for a vertex on a border, 0 for another.
 #[no_mangle]
 pub extern "C" fn borzhanu_vertex_is_border(
     n: u32,
+    columns: u32,
     elements: &[u32],
     v2e: &[u32],
     e2e: &[u32],
     b2e: &[u32],
     v: u32,
 ) -> u64
-    ensures { λ r. ⌜ r ≡ packedAnswer (vertexBorderAnswer (mesh n (now (elements .entry)) (now (v2e .entry)) (now (e2e .entry)) (now (b2e .entry))) v) ⌝ }
+    ensures { λ r. ⌜ r ≡ packedAnswer (vertexBorderAnswer (told n columns (now (elements .entry)) (now (v2e .entry)) (now (e2e .entry)) (now (b2e .entry))) v) ⌝ }
 {
-    answer::pack(query::vertex_is_border(n, elements, v2e, e2e, b2e, v))
+    answer::pack(query::vertex_is_border(
+        n,
+        columns::seen(columns, elements),
+        elements,
+        v2e,
+        e2e,
+        b2e,
+        v,
+    ))
 }
 
 // The elements about a vertex, in turn order.
 #[no_mangle]
 pub extern "C" fn borzhanu_ring(
     n: u32,
+    columns: u32,
     elements: &[u32],
     v2e: &[u32],
     e2e: &[u32],
@@ -190,16 +280,26 @@ pub extern "C" fn borzhanu_ring(
     v: u32,
     out: &mut [u32],
 ) -> u64
-    ensures { λ r. ⌜ r ≡ packedAnswer (ringAnswer (mesh n (now (elements .entry)) (now (v2e .entry)) (now (e2e .entry)) (now (b2e .entry))) v (now (out .entry))) ⌝ }
-    ensures { λ _. ⌜ now (out .exit) ≡ ringLeaves (mesh n (now (elements .entry)) (now (v2e .entry)) (now (e2e .entry)) (now (b2e .entry))) v (now (out .entry)) ⌝ }
+    ensures { λ r. ⌜ r ≡ packedAnswer (ringAnswer (told n columns (now (elements .entry)) (now (v2e .entry)) (now (e2e .entry)) (now (b2e .entry))) v (now (out .entry))) ⌝ }
+    ensures { λ _. ⌜ now (out .exit) ≡ ringLeaves (told n columns (now (elements .entry)) (now (v2e .entry)) (now (e2e .entry)) (now (b2e .entry))) v (now (out .entry)) ⌝ }
 {
-    answer::pack(rings::ring(n, elements, v2e, e2e, b2e, v, out))
+    answer::pack(rings::ring(
+        n,
+        columns::seen(columns, elements),
+        elements,
+        v2e,
+        e2e,
+        b2e,
+        v,
+        out,
+    ))
 }
 
 // The vertices joined to a vertex by an edge, in turn order.
 #[no_mangle]
 pub extern "C" fn borzhanu_neighbours(
     n: u32,
+    columns: u32,
     elements: &[u32],
     v2e: &[u32],
     e2e: &[u32],
@@ -207,16 +307,26 @@ pub extern "C" fn borzhanu_neighbours(
     v: u32,
     out: &mut [u32],
 ) -> u64
-    ensures { λ r. ⌜ r ≡ packedAnswer (neighboursAnswer (mesh n (now (elements .entry)) (now (v2e .entry)) (now (e2e .entry)) (now (b2e .entry))) v (now (out .entry))) ⌝ }
-    ensures { λ _. ⌜ now (out .exit) ≡ neighboursLeaves (mesh n (now (elements .entry)) (now (v2e .entry)) (now (e2e .entry)) (now (b2e .entry))) v (now (out .entry)) ⌝ }
+    ensures { λ r. ⌜ r ≡ packedAnswer (neighboursAnswer (told n columns (now (elements .entry)) (now (v2e .entry)) (now (e2e .entry)) (now (b2e .entry))) v (now (out .entry))) ⌝ }
+    ensures { λ _. ⌜ now (out .exit) ≡ neighboursLeaves (told n columns (now (elements .entry)) (now (v2e .entry)) (now (e2e .entry)) (now (b2e .entry))) v (now (out .entry)) ⌝ }
 {
-    answer::pack(rings::neighbours(n, elements, v2e, e2e, b2e, v, out))
+    answer::pack(rings::neighbours(
+        n,
+        columns::seen(columns, elements),
+        elements,
+        v2e,
+        e2e,
+        b2e,
+        v,
+        out,
+    ))
 }
 
 // The border numbers of one hole, from b on.
 #[no_mangle]
 pub extern "C" fn borzhanu_border_loop(
     n: u32,
+    columns: u32,
     elements: &[u32],
     v2e: &[u32],
     e2e: &[u32],
@@ -224,15 +334,25 @@ pub extern "C" fn borzhanu_border_loop(
     b: u32,
     out: &mut [u32],
 ) -> u64
-    ensures { λ r. ⌜ r ≡ packedAnswer (borderLoopAnswer (mesh n (now (elements .entry)) (now (v2e .entry)) (now (e2e .entry)) (now (b2e .entry))) b (now (out .entry))) ⌝ }
-    ensures { λ _. ⌜ now (out .exit) ≡ borderLoopLeaves (mesh n (now (elements .entry)) (now (v2e .entry)) (now (e2e .entry)) (now (b2e .entry))) b (now (out .entry)) ⌝ }
+    ensures { λ r. ⌜ r ≡ packedAnswer (borderLoopAnswer (told n columns (now (elements .entry)) (now (v2e .entry)) (now (e2e .entry)) (now (b2e .entry))) b (now (out .entry))) ⌝ }
+    ensures { λ _. ⌜ now (out .exit) ≡ borderLoopLeaves (told n columns (now (elements .entry)) (now (v2e .entry)) (now (e2e .entry)) (now (b2e .entry))) b (now (out .entry)) ⌝ }
 {
-    answer::pack(rings::border_loop(n, elements, v2e, e2e, b2e, b, out))
+    answer::pack(rings::border_loop(
+        n,
+        columns::seen(columns, elements),
+        elements,
+        v2e,
+        e2e,
+        b2e,
+        b,
+        out,
+    ))
 }
 
 // A walker call on a record that a host holds as three numbers.
 fn called(
     n: u32,
+    columns: u32,
     elements: &[u32],
     v2e: &[u32],
     e2e: &[u32],
@@ -240,8 +360,8 @@ fn called(
     call: Call,
     walker: &mut [u32; 3],
 ) -> u64
-    ensures { λ r. ⌜ r ≡ packedAnswer (calledBy call (mesh n (now (elements .entry)) (now (v2e .entry)) (now (e2e .entry)) (now (b2e .entry))) (walkerIn (now (walker .entry))) .answer) ⌝ }
-    ensures { λ _. ⌜ now (walker .exit) ≡ entriesOf (calledBy call (mesh n (now (elements .entry)) (now (v2e .entry)) (now (e2e .entry)) (now (b2e .entry))) (walkerIn (now (walker .entry))) .walker) ⌝ }
+    ensures { λ r. ⌜ r ≡ packedAnswer (calledBy call (told n columns (now (elements .entry)) (now (v2e .entry)) (now (e2e .entry)) (now (b2e .entry))) (walkerIn (now (walker .entry))) .answer) ⌝ }
+    ensures { λ _. ⌜ now (walker .exit) ≡ entriesOf (calledBy call (told n columns (now (elements .entry)) (now (v2e .entry)) (now (e2e .entry)) (now (b2e .entry))) (walkerIn (now (walker .entry))) .walker) ⌝ }
 {
     let start = walker[0];
     let following = walker[1];
@@ -251,7 +371,8 @@ fn called(
         following,
         handed,
     };
-    let moved = walker::call_at(record, n, elements, v2e, e2e, b2e, call);
+    let seen = columns::seen(columns, elements);
+    let moved = walker::call_at(record, n, seen, elements, v2e, e2e, b2e, call);
     let left = moved.walker;
     *walker = [left.start, left.following, left.handed];
     let answered = moved.answer;
@@ -262,6 +383,7 @@ fn called(
 #[no_mangle]
 pub extern "C" fn borzhanu_walker_start(
     n: u32,
+    columns: u32,
     elements: &[u32],
     v2e: &[u32],
     e2e: &[u32],
@@ -269,24 +391,25 @@ pub extern "C" fn borzhanu_walker_start(
     v: u32,
     walker: &mut [u32; 3],
 ) -> u64
-    ensures { λ r. ⌜ r ≡ packedAnswer (walkerStart (mesh n (now (elements .entry)) (now (v2e .entry)) (now (e2e .entry)) (now (b2e .entry))) v (walkerIn (now (walker .entry))) .answer) ⌝ }
-    ensures { λ _. ⌜ now (walker .exit) ≡ entriesOf (walkerStart (mesh n (now (elements .entry)) (now (v2e .entry)) (now (e2e .entry)) (now (b2e .entry))) v (walkerIn (now (walker .entry))) .walker) ⌝ }
+    ensures { λ r. ⌜ r ≡ packedAnswer (walkerStart (told n columns (now (elements .entry)) (now (v2e .entry)) (now (e2e .entry)) (now (b2e .entry))) v (walkerIn (now (walker .entry))) .answer) ⌝ }
+    ensures { λ _. ⌜ now (walker .exit) ≡ entriesOf (walkerStart (told n columns (now (elements .entry)) (now (v2e .entry)) (now (e2e .entry)) (now (b2e .entry))) v (walkerIn (now (walker .entry))) .walker) ⌝ }
 {
-    called(n, elements, v2e, e2e, b2e, Call::Start(v), walker)
+    called(n, columns, elements, v2e, e2e, b2e, Call::Start(v), walker)
 }
 
 // The walker's element, 0 after the ring's last; the walker moves on.
 #[no_mangle]
 pub extern "C" fn borzhanu_walker_step(
     n: u32,
+    columns: u32,
     elements: &[u32],
     v2e: &[u32],
     e2e: &[u32],
     b2e: &[u32],
     walker: &mut [u32; 3],
 ) -> u64
-    ensures { λ r. ⌜ r ≡ packedAnswer (walkerStep (mesh n (now (elements .entry)) (now (v2e .entry)) (now (e2e .entry)) (now (b2e .entry))) (walkerIn (now (walker .entry))) .answer) ⌝ }
-    ensures { λ _. ⌜ now (walker .exit) ≡ entriesOf (walkerStep (mesh n (now (elements .entry)) (now (v2e .entry)) (now (e2e .entry)) (now (b2e .entry))) (walkerIn (now (walker .entry))) .walker) ⌝ }
+    ensures { λ r. ⌜ r ≡ packedAnswer (walkerStep (told n columns (now (elements .entry)) (now (v2e .entry)) (now (e2e .entry)) (now (b2e .entry))) (walkerIn (now (walker .entry))) .answer) ⌝ }
+    ensures { λ _. ⌜ now (walker .exit) ≡ entriesOf (walkerStep (told n columns (now (elements .entry)) (now (v2e .entry)) (now (e2e .entry)) (now (b2e .entry))) (walkerIn (now (walker .entry))) .walker) ⌝ }
 {
-    called(n, elements, v2e, e2e, b2e, Call::Step, walker)
+    called(n, columns, elements, v2e, e2e, b2e, Call::Step, walker)
 }

@@ -1,26 +1,33 @@
 -- What build leaves in the tables.
 -- Assumes nothing.
-use mathlib.Core.Path.{_≡_, refl, ap, sym, _∙_}
-use mathlib.Core.Bool.{true, false}
-use mathlib.Core.List.{List, _++_, append-nil}
+use mathlib.Core.Path.{_≡_, refl, ap, sym, subst, _∙_}
+use mathlib.Core.Bool.{Bool, true, false}
+use mathlib.Core.Logic.{_⊎_}
+use mathlib.Core.List.{List, _++_}
 use Prim.Native.Nat.{ℕ, _+_, _*_, _-_, _≤_, _<_}
 use native.Mathlib.Omega.{arith}
 use lib.Dec.{T, leb, eqb}
-use lib.ListN.{length, take, drop, replicate, drop-of-length-le, length-take, length-append, length-drop}
+use lib.ListN.{length, take, drop, replicate, length-take, length-append, length-drop}
 use lib.Seq.{take-append-seam}
 use Rattle.lists.specs.Tests.{both}
 use Rattle.lists.specs.TestLaws.{passes, means-eq, means-le}
 use Rattle.lists.specs.Search.{at}
-use Rattle.lists.specs.Parts.{part, part-take, length-part}
+use Rattle.lists.specs.Parts.{part, part-take}
 use Rattle.rules.specs.Elements.{maxVertex, maxElement, elements}
 use Rattle.rules.specs.Pairing.{sizesFit, unfitCorner, repeatedCorner}
-use Rattle.rules.specs.Tables.{borders, edges, b2e, e2e, v2e}
-use Rattle.rules.specs.Refusals.{Answer, gives, refused, Buffers, callSizes, callLengths, lengthChecks, workAfter, buildAnswer, buildLeaves}
+use Rattle.rules.specs.Tables.{borders, edges, b2e, columns, e2e, v2e}
+use Rattle.rules.specs.Refusals.{Answer, gives, refused, Buffers, callLengths, buildLengths, lengthChecks, workAfter, buildAnswer, buildLeaves}
 use Rattle.rules.specs.Refusals.{roomCheck, listAnswer, after, onto, crowdedSide, alikeSide, unorderedVertex}
 use Rattle.theory.specs.FitRows.{means-sizes}
+use Rattle.theory.specs.Columns.{three-or-four, narrowed, narrow-wide}
 use Rattle.theory.specs.Built.{borders-bound}
 use Rattle.theory.specs.Answers.{room-enough, room-short, past-check}
+use Rattle.buffers.specs.Whole.{onto-full}
 use Rattle.tabulate.specs.Results.{Sized, Holds, Tabulated}
+
+-- the four buffers
+abbrev pub lent : List ℕ → List ℕ → List ℕ → List ℕ → Buffers
+lent V2e E2e B2e work = record { vertices = V2e; opposites = E2e; border = B2e; work = work }
 
 -- the answer of checks 3 to 9, and the tables after it
 pub record Built (n : ℕ) (L : List ℕ) (a : Answer) (V2e E2e B2e V2e′ E2e′ B2e′ : List ℕ) : Type 0 where
@@ -29,16 +36,11 @@ pub record Built (n : ℕ) (L : List ℕ) (a : Answer) (V2e E2e B2e V2e′ E2e�
   pub opposites : E2e′ ≡ after a (e2e L) E2e
   pub border : B2e′ ≡ after a (onto (b2e L) B2e) B2e
 
--- the parts of the work buffer in the three tables, the rest of B2e as it was
-pub record Copied (n m k : ℕ) (w B2e V2e′ E2e′ B2e′ : List ℕ) : Type 0 where
+-- the parts of the work buffer in the three tables, E2e in c columns, the rest of B2e as it was
+pub record Copied (n c m k : ℕ) (w B2e V2e′ E2e′ B2e′ : List ℕ) : Type 0 where
   pub vertices : V2e′ ≡ take n w
-  pub opposites : E2e′ ≡ part n (4 * m) w
+  pub opposites : E2e′ ≡ narrowed c (part n (4 * m) w)
   pub border : B2e′ ≡ onto (part (n + 4 * m) k w) B2e
-
--- a list written over one of its own length is all that is there
-pub onto-full : (xs out : List ℕ) → length xs ≡ length out → onto xs out ≡ xs
-unfolding onto
-onto-full xs out e = ap (λ (r : List ℕ). xs ++ r) (drop-of-length-le out {i = length xs} (omega arith)) ∙ append-nil xs
 
 -- copies from the work buffer: from its start, and from a to e
 front-copied : (n : ℕ) (w out new : List ℕ) → n ≤ length w → length out ≡ n → new ≡ onto (take (n - 0) w) out → new ≡ take n w
@@ -50,31 +52,37 @@ part-copied : (a e k : ℕ) (w out new : List ℕ) → e ≡ a + k → new ≡ o
 part-copied a e k w out new h q =
     let z : e - a ≡ k = omega arith in q ∙ ap (λ (i : ℕ). onto (take i (drop a w)) out) z
 
-module _ (n m k : ℕ) (w V2e E2e B2e : List ℕ) {V2e′ E2e′ B2e′ : List ℕ} where
-  pub copied : (n + 4 * m + k ≤ length w) × (length V2e ≡ n) × (length E2e ≡ 4 * m) × (k ≤ length B2e) × (n ≤ maxVertex) × (m ≤ maxElement) →
-      V2e′ ≡ onto (take (n - 0) w) V2e → E2e′ ≡ onto (take (n + 4 * m - n) (drop n w)) E2e →
-      B2e′ ≡ onto (take (n + 4 * m + k - (n + 4 * m)) (drop (n + 4 * m) w)) B2e → Copied n m k w B2e V2e′ E2e′ B2e′
-  copied (inside, v, e, b, h, l) x y z =
+-- what is asked of the lengths before the tables are copied
+abbrev pub Lengths : ℕ → ℕ → ℕ → ℕ → List ℕ → List ℕ → List ℕ → List ℕ → Type 0
+Lengths n c m k w V2e E2e B2e =
+    (n + 4 * m + k ≤ length w) × (length V2e ≡ n) × (length E2e ≡ c * m) × (k ≤ length B2e)
+
+module _ (n c m k : ℕ) (w V2e E2e B2e : List ℕ) (long : Lengths n c m k w V2e E2e B2e) where
+  -- E2e in four columns, and its own length
+  pub to-put : let table = take (n + 4 * m - n) (drop n w) in (length table ≡ 4 * elements table) × (length E2e ≡ c * elements table)
+  to-put =
+      let table = take (n + 4 * m - n) (drop n w) in
+      let l : length table ≡ 4 * m = simp (length-take, length-drop) (omega arith) in
+      let e : elements table ≡ m = omega arith in (omega arith, long .2 ∙ ap (λ (i : ℕ). c * i) (sym e))
+
+  pub copied : {V2e′ E2e′ B2e′ : List ℕ} → V2e′ ≡ onto (take (n - 0) w) V2e → E2e′ ≡ narrowed c (take (n + 4 * m - n) (drop n w))
+      → B2e′ ≡ onto (take (n + 4 * m + k - (n + 4 * m)) (drop (n + 4 * m) w)) B2e → Copied n c m k w B2e V2e′ E2e′ B2e′
+  copied {V2e′} {E2e′} {B2e′} x y z =
+      let four : n + 4 * m - n ≡ 4 * m = omega arith in
       record {
-        vertices = front-copied n w V2e V2e′ (omega arith) v x;
-        opposites =
-            part-copied n (n + 4 * m) (4 * m) w E2e E2e′ refl y
-            ∙ onto-full (part n (4 * m) w) E2e (length-part n (4 * m) w (omega arith) ∙ sym e);
+        vertices = front-copied n w V2e V2e′ (omega arith) (long .1) x;
+        opposites = y ∙ ap (λ (i : ℕ). narrowed c (take i (drop n w))) four;
         border = part-copied (n + 4 * m) (n + 4 * m + k) k w B2e B2e′ refl z;
       }
 
--- what checks 1 and 2 say
-pub sizes-known : (n : ℕ) (X Y : List ℕ) → callSizes n X Y ≡ true → T (sizesFit n X) × (length Y ≡ 4 * elements Y)
-unfolding callSizes
-sizes-known n X Y e =
-    let (a, b) = passes (sizesFit n X) (eqb (length Y) (4 * elements Y)) (rw e tt) in (a, means-eq (length Y) (4 * elements Y) .says b)
-
-pub lengths-known : (n : ℕ) (X Y V2e work : List ℕ) → callLengths n X Y V2e work ≡ true → (length V2e ≡ n) × (length Y ≡ 4 * elements X) × (n + 16 * elements X ≤ length work)
+-- what check 2 says of a call with a work buffer
+pub lengths-known : (n m : ℕ) (others : Bool) (V2e work : List ℕ) → callLengths n m others V2e work ≡ true
+    → (length V2e ≡ n) × T others × (n + 16 * m ≤ length work)
 unfolding callLengths
-lengths-known n X Y V2e work e =
-    let (a, t) = passes (eqb (length V2e) n) (both (eqb (length Y) (4 * elements X)) (leb (n + 16 * elements X) (length work))) (rw e tt) in
-    let (b, c) = passes (eqb (length Y) (4 * elements X)) (leb (n + 16 * elements X) (length work)) t in
-    (means-eq (length V2e) n .says a, means-eq (length Y) (4 * elements X) .says b, means-le (n + 16 * elements X) (length work) .says c)
+lengths-known n m others V2e work e =
+    let (a, t) = passes (eqb (length V2e) n) (both others (leb (n + 16 * m) (length work))) (rw e tt) in
+    let (b, c) = passes others (leb (n + 16 * m) (length work)) t in
+    (means-eq (length V2e) n .says a, b, means-le (n + 16 * m) (length work) .says c)
 
 -- the scratch buffer is the front of the work buffer
 pub holds-front : (n : ℕ) (L w r : List ℕ) → length w ≡ n + 12 * elements L → borders L ≤ 4 * elements L → Holds n L w → Holds n L (w ++ r)
@@ -104,15 +112,16 @@ pub record Checked (n : ℕ) (L V2e E2e work : List ℕ) : Type 0 where
   pub size : elements L ≤ maxElement
   pub fours : length L ≡ 4 * elements L
   pub v2e-long : length V2e ≡ n
-  pub e2e-long : length E2e ≡ 4 * elements L
+  pub e2e-long : length E2e ≡ columns L * elements L
   pub room : n + 16 * elements L ≤ length work
 
-pub checked : {n : ℕ} {L V2e E2e work : List ℕ} → (callSizes n L E2e ≡ true) × (callLengths n L E2e V2e work ≡ true) → Checked n L V2e E2e work
-checked {n} {L} {V2e} {E2e} {work} (s, l) =
-    let sizes = sizes-known n L E2e s .0 in
+pub checked : (n : ℕ) (L V2e E2e B2e work : List ℕ) → sizesFit n L ≡ true → buildLengths n L (lent V2e E2e B2e work) ≡ true → Checked n L V2e E2e work
+unfolding buildLengths
+checked n L V2e E2e B2e work s l =
+    let sizes : T (sizesFit n L) = rw s tt in
     let (a, (b, c)) = means-sizes n L .says sizes in
-    let (v, e, r) = lengths-known n L E2e V2e work l in
-    record { sizes = sizes; vertices = a; size = b; fours = c; v2e-long = v; e2e-long = e; room = r }
+    let (v, e, r) = lengths-known n (elements L) (eqb (length E2e) (columns L * elements L)) V2e work l in
+    record { sizes = sizes; vertices = a; size = b; fours = c; v2e-long = v; e2e-long = means-eq _ _ .says e; room = r }
 
 -- checks 3 to 8 were made in the front of the work, which has become W, and t is their answer
 pub record Scratched (n : ℕ) (L : List ℕ) (t : Answer) (work W : List ℕ) : Type 0 where
@@ -171,52 +180,51 @@ module _ {n k e : ℕ} {L V2e E2e work W : List ℕ} {t : Answer} (x : Checked n
   number : k ≡ borders L
   number = counts-are n L k e (sym (s .stated) ∙ g)
 
-  pub commits : (a + 4 * elements L + i ≤ length W) × (length V2e ≡ a) × (length E2e ≡ 4 * elements L) × (i ≤ length B2e) × (a ≤ maxVertex) × (elements L ≤ maxElement)
-  commits = (
-    omega (arith, x .room, s .long, number, borders-bound L, x .fours),
-    x .v2e-long ∙ sym index,
-    x .e2e-long,
-    enough,
-    omega (arith, x .vertices),
-    x .size,
-  )
+  -- c is the number of the list's columns
+  module _ {c : ℕ} (columned : c ≡ columns L) where
+    pub commits : Lengths a c (elements L) i W V2e E2e B2e × ((a ≤ maxVertex) × (elements L ≤ maxElement) × ((c ≡ 3) ⊎ (c ≡ 4)))
+    commits = (
+      (
+        omega (arith, x .room, s .long, number, borders-bound L, x .fours),
+        x .v2e-long ∙ sym index,
+        x .e2e-long ∙ ap (λ (j : ℕ). j * elements L) (sym columned),
+        enough,
+      ),
+      (omega (arith, x .vertices), x .size, subst (λ (j : ℕ). (j ≡ 3) ⊎ (j ≡ 4)) (sym columned) (three-or-four L)),
+    )
 
-  pub counts-on : {V2e′ E2e′ B2e′ : List ℕ} → Copied a (elements L) i W B2e V2e′ E2e′ B2e′ → Built n L (gives k e) V2e E2e B2e V2e′ E2e′ B2e′ × (length W ≡ length work)
-  unfolding after
-  counts-on {V2e′} {E2e′} {B2e′} c =
-      let y : Copied n (elements L) (borders L) W B2e V2e′ E2e′ B2e′ = rw (index, count, number) at c in
-      let h = s .holds k e g in (
-        record {
-          answer = sym (room-enough (length B2e) k e (omega arith)) ∙ ap (roomCheck (length B2e)) (sym g ∙ s .stated);
-          vertices = y .vertices ∙ h .vertices;
-          opposites = y .opposites ∙ h .opposites;
-          border = y .border ∙ ap (λ (b : List ℕ). onto b B2e) (h .border);
-        },
-        s .long,
-      )
-
--- the four buffers
-abbrev pub lent : List ℕ → List ℕ → List ℕ → List ℕ → Buffers
-lent V2e E2e B2e work = record { vertices = V2e; opposites = E2e; border = B2e; work = work }
+    pub counts-on : {V2e′ E2e′ B2e′ : List ℕ} → Copied a c (elements L) i W B2e V2e′ E2e′ B2e′ → Built n L (gives k e) V2e E2e B2e V2e′ E2e′ B2e′ × (length W ≡ length work)
+    unfolding after
+    counts-on {V2e′} {E2e′} {B2e′} z =
+        let y : Copied n (columns L) (elements L) (borders L) W B2e V2e′ E2e′ B2e′ = rw (index, count, number, columned) at z in
+        let h = s .holds k e g in (
+          record {
+            answer = sym (room-enough (length B2e) k e (omega arith)) ∙ ap (roomCheck (length B2e)) (sym g ∙ s .stated);
+            vertices = y .vertices ∙ h .vertices;
+            opposites = y .opposites ∙ ap (narrowed (columns L)) (h .opposites) ∙ narrow-wide L;
+            border = y .border ∙ ap (λ (b : List ℕ). onto b B2e) (h .border);
+          },
+          s .long,
+        )
 
 -- the whole call: refused by checks 1 or 2, or as the later checks say
 module _ (n : ℕ) (L V2e E2e B2e work : List ℕ) where
   abbrev w : Buffers
   w = record { vertices = V2e; opposites = E2e; border = B2e; work = work }
 
-  refused-leaves : (r : ℕ) → buildAnswer n L w ≡ refused r 0 0 → workAfter (callSizes n L E2e) (callLengths n L E2e V2e work) work ≡ work → w ≡ buildLeaves n L w
+  refused-leaves : (r : ℕ) → buildAnswer n L w ≡ refused r 0 0 → workAfter (sizesFit n L) (buildLengths n L w) work ≡ work → w ≡ buildLeaves n L w
   unfolding buildLeaves after
   refused-leaves r e f =
-      sym (ap (λ (a : Answer). lent (after a (v2e n L) V2e) (after a (e2e L) E2e) (after a (onto (b2e L) B2e) B2e) (workAfter (callSizes n L E2e) (callLengths n L E2e V2e work) work)) e
+      sym (ap (λ (a : Answer). lent (after a (v2e n L) V2e) (after a (e2e L) E2e) (after a (onto (b2e L) B2e) B2e) (workAfter (sizesFit n L) (buildLengths n L w) work)) e
       ∙ ap (lent V2e E2e B2e) f)
 
-  pub unsized : {a : Answer} → a ≡ refused 1 0 0 → callSizes n L E2e ≡ false → (a ≡ buildAnswer n L w) × (w ≡ buildLeaves n L w)
+  pub unsized : {a : Answer} → a ≡ refused 1 0 0 → sizesFit n L ≡ false → (a ≡ buildAnswer n L w) × (w ≡ buildLeaves n L w)
   unfolding buildAnswer lengthChecks workAfter
   unsized r e =
       let a : buildAnswer n L w ≡ refused 1 0 0 = rw (e, lengthChecks) in
       (r ∙ sym a, refused-leaves 1 a (rw (e, workAfter)))
 
-  pub unlengthened : {a : Answer} → a ≡ refused 2 0 0 → callSizes n L E2e ≡ true → callLengths n L E2e V2e work ≡ false →
+  pub unlengthened : {a : Answer} → a ≡ refused 2 0 0 → sizesFit n L ≡ true → buildLengths n L w ≡ false →
       (a ≡ buildAnswer n L w) × (w ≡ buildLeaves n L w)
   unfolding buildAnswer lengthChecks workAfter
   unlengthened r e f =
@@ -224,13 +232,13 @@ module _ (n : ℕ) (L V2e E2e B2e work : List ℕ) where
       (r ∙ sym a, refused-leaves 2 a (rw (e, f, workAfter)))
 
   -- all of the work is cleared
-  pub built : {a : Answer} {V2e′ E2e′ B2e′ work′ : List ℕ} {l : ℕ} → (callSizes n L E2e ≡ true) × (callLengths n L E2e V2e work ≡ true) →
+  pub built : {a : Answer} {V2e′ E2e′ B2e′ work′ : List ℕ} {l : ℕ} → (sizesFit n L ≡ true) × (buildLengths n L w ≡ true) →
       Built n L a V2e E2e B2e V2e′ E2e′ B2e′ × (l ≡ length work) → work′ ≡ replicate l 0 →
       (a ≡ buildAnswer n L w) × (lent V2e′ E2e′ B2e′ work′ ≡ buildLeaves n L w)
   unfolding buildAnswer buildLeaves lengthChecks workAfter
   built {a} (e, f) (x, long) z =
       let g : a ≡ buildAnswer n L w = x .answer ∙ sym (rw (e, f, lengthChecks)) in
-      let y : workAfter (callSizes n L E2e) (callLengths n L E2e V2e work) work ≡ replicate (length work) 0 = rw (e, f, workAfter) in (
+      let y : workAfter (sizesFit n L) (buildLengths n L w) work ≡ replicate (length work) 0 = rw (e, f, workAfter) in (
         g,
         λ i.
             record {

@@ -1,10 +1,12 @@
 // Half-edge numbers and element rows, document 01, "Element list and half-edge numbers".
+ghost use mathlib.Core.Logic.{_⊎_};
 ghost use mathlib.Core.Path.{_≡_};
 ghost use Prim.Native.Nat.{_+_, _*_, _≤_, _<_};
 ghost use lib.Dec.{eqb};
 ghost use Rattle.lists.specs.Search.{at};
 ghost use Rattle.lists.specs.Tests.{within};
 ghost use Rattle.rules.specs.Elements.{maxElement, maxBorder, element, number, sidesBy, slot, sideAt};
+ghost use Rattle.rules.specs.Tables.{e2eSlot};
 ghost use Rattle.halfedge.specs.Codes.{sideCode, borderCode, knownCode};
 ghost use Rattle.halfedge.specs.Rows.{rowOf, cornerOf, byKind, nextSide, previousSide};
 
@@ -174,6 +176,14 @@ pub fn slot_of(s: u32) -> usize
     ensures { λ r. ⌜ r ≡ slot s ⌝ }
 {
     wide(4 * (element_of(s) - 1) + (number_of(s) - 1))
+}
+
+// The entry of E2e, in this many columns, that is side s's.
+pub fn e2e_slot(columns: u32, s: u32) -> usize
+    requires { ⌜ ((columns ≡ 3) ⊎ (columns ≡ 4)) × ((1 ≤ element s) × (1 ≤ number s)) ⌝ }
+    ensures { λ r. ⌜ r ≡ e2eSlot columns s ⌝ }
+{
+    wide(columns * (element_of(s) - 1) + (number_of(s) - 1))
 }
 
 // The first of two numbers for a triangle, the second for a quadrilateral. A fourth entry of 0 makes a triangle.

@@ -7,18 +7,18 @@ use Prim.Native.Nat.{ℕ, _+_, _*_, _/_, _≤_}
 use native.Mathlib.Omega.{arith}
 use borrow.Author.Tests.{eq-eqb, ne-eqb}
 use mathlib.Core.Logic.{_⊎_, inl, inr}
-use lib.Dec.{eqb}
 use lib.ListN.{length, take, drop, length-append, length-drop}
 use lib.Seq.{take-at, take-all, length-take-le}
-use Rattle.lists.specs.TestLaws.{true-of, both-pass, means-both, means-eq, means-le, decide}
+use Rattle.lists.specs.TestLaws.{true-of, means-both, means-eq, means-le, decide}
 use Rattle.lists.specs.SearchLaws.{length-tab}
 use Rattle.rules.specs.Elements.{elements}
 use Rattle.rules.specs.Pairing.{sizesFit}
-use Rattle.rules.specs.Tables.{borders, v2e, e2e, b2e}
-use Rattle.rules.specs.Refusals.{Answer, gives, refused, Buffers, callSizes, callLengths, lengthChecks, roomCheck, listAnswer, buildAnswer, buildLeaves, after, onto}
+use Rattle.rules.specs.Tables.{borders, v2e, columns, e2e, b2e}
+use Rattle.rules.specs.Refusals.{Answer, gives, refused, Buffers, callLengths, buildLengths, lengthChecks, roomCheck, listAnswer, buildAnswer, buildLeaves, after, onto}
 use Rattle.theory.specs.Answers.{room-enough}
 use Rattle.theory.specs.Built.{borders-bound}
-use Rattle.theory.specs.Entries.{length-v2e, length-e2e, length-b2e}
+use Rattle.theory.specs.Entries.{length-v2e, length-b2e}
+use Rattle.theory.specs.Columns.{three-or-four, length-e2e}
 use Rattle.theory.specs.FitRows.{means-sizes}
 use Rattle.build.specs.Building.{counts-are, lent}
 use Rattle.text.specs.Form.{firstBad, theN, theM, theList, theNumber}
@@ -27,8 +27,8 @@ use Rattle.text.specs.FirstBytes.{first-bytes, form-short}
 use Rattle.text.specs.Reading.{parsed, listAfter, parsed-bad, parsed-form}
 use Rattle.text.specs.declared.Parsed.{Parsed}
 use Rattle.text.specs.declared.Parsed.the-variants.{Mesh, Bad, Short}
-use Rattle.print.specs.Lines.{Written, tableLines, refusalLine, shownIf, shownTables, shownRefusal}
-use Rattle.print.specs.LineLaws.{has-room}
+use Rattle.print.specs.Lines.{Written, tableLines, refusalLine, widthOf, hasRoom, shownIf, shownTables, shownRefusal}
+use Rattle.print.specs.LineLaws.{width-three, width-four, has-room}
 use Rattle.listed.specs.Listing.{answerLines, meshLines, listing}
 
 -- a mesh of at most 200 vertices and 200 elements, with buffers of fit lengths and room for every border side
@@ -37,29 +37,24 @@ pub record Fits (n : ℕ) (L : List ℕ) (w : Buffers) : Type 0 where
   pub small : elements L ≤ 200
   pub fours : length L ≡ 4 * elements L
   pub vertices : length (w .vertices) ≡ n
-  pub opposites : length (w .opposites) ≡ length L
+  pub opposites : length (w .opposites) ≡ columns L * elements L
   pub border : length L ≤ length (w .border)
   pub work : n + 16 * elements L ≤ length (w .work)
 
 module _ {n : ℕ} {L : List ℕ} {w : Buffers} (fit : Fits n L w) where
-  sized : callSizes n L (w .opposites) ≡ true
-  unfolding callSizes
+  sized : sizesFit n L ≡ true
   sized =
       let few : n ≤ 1_000_000 = omega (arith, fit .few) in
       let small : elements L ≤ 1_000_000 = omega (arith, fit .small) in
-      let fours : length (w .opposites) ≡ 4 * elements (w .opposites) = omega (arith, fit .opposites, fit .fours) in
-      true-of _
-      (both-pass (sizesFit n L) (eqb (length (w .opposites)) (4 * elements (w .opposites)))
-      (means-sizes n L .shows (few, (small, fit .fours)))
-      (means-eq (length (w .opposites)) (4 * elements (w .opposites)) .shows fours))
+      true-of _ (means-sizes n L .shows (few, (small, fit .fours)))
 
-  lengthened : callLengths n L (w .opposites) (w .vertices) (w .work) ≡ true
-  unfolding callLengths
+  lengthened : buildLengths n L w ≡ true
+  unfolding buildLengths callLengths
   lengthened =
       true-of _
       (means-both (means-eq (length (w .vertices)) n)
-      (means-both (means-eq (length (w .opposites)) (4 * elements L)) (means-le (n + 16 * elements L) (length (w .work)))) .shows
-      (fit .vertices, (fit .opposites ∙ fit .fours, fit .work)))
+      (means-both (means-eq (length (w .opposites)) (columns L * elements L)) (means-le (n + 16 * elements L) (length (w .work)))) .shows
+      (fit .vertices, (fit .opposites, fit .work)))
 
   roomy : roomCheck (length (w .border)) (listAnswer n L) ≡ listAnswer n L
   unfolding roomCheck
@@ -104,18 +99,32 @@ module _ {n : ℕ} {L : List ℕ} {w : Buffers} (fit : Fits n L w) where
     cut : take k B2e ≡ b2e L
     cut = ap (take k) border-is ∙ take-at (b2e L) (drop (length (b2e L)) (w .border)) k (length-b2e L ∙ sym count)
 
-    lines : tableLines V2e E2e (take k B2e) ≡ meshLines n L
+    lines : tableLines (columns L) V2e E2e (take k B2e) ≡ meshLines n L
     unfolding meshLines answerLines
     lines = rw (vertices-are, opposites-are, cut) (ap (answerLines n L) (given ∙ fit-answer))
 
-    pub tables-shown : {size : ℕ} → 22_022 ≤ size → shownTables size V2e E2e (take k B2e) ≡ meshLines n L
-    tables-shown {size} h =
+    -- the rows of E2e are the elements
+    rows : length E2e / columns L ≡ elements L
+    rows = ap (λ (X : List ℕ). length X / columns L) opposites-are ∙ ap (λ (l : ℕ). l / columns L) (length-e2e L) ∙ go (three-or-four L)
+      where
+        go : (columns L ≡ 3) ⊎ (columns L ≡ 4) → columns L * elements L / columns L ≡ elements L
+        go (inl e) = rw e (omega arith)
+        go (inr e) = rw e (omega arith)
+
+    -- c is the number of the list's columns
+    pub tables-shown : {size c : ℕ} → 22_022 ≤ size → c ≡ columns L → shownTables size (widthOf c) V2e E2e (take k B2e) ≡ meshLines n L
+    tables-shown {size} {c} h e =
         let v : length V2e ≡ n = ap length vertices-are ∙ length-v2e L n in
-        let o : length E2e ≡ 4 * elements L = ap length opposites-are ∙ length-e2e L in
         let b : length (take k B2e) ≡ borders L = ap length cut ∙ length-b2e L in
-        ap (λ x. shownIf x (tableLines V2e E2e (take k B2e)))
-        (has-room size 0 (length V2e + length (take k B2e) + 5 * elements E2e + 1) (omega (arith, borders-bound L, fit .few, fit .small, fit .fours)))
+        let numbers = length V2e + length (take k B2e) + 5 * (length E2e / columns L) + 1 in
+        let room : hasRoom size 0 numbers ≡ true = has-room size 0 numbers (omega (arith, rows, borders-bound L, fit .few, fit .small, fit .fours)) in
+        ap (λ (i : ℕ). shownTables size i V2e E2e (take k B2e)) (ap widthOf e ∙ own (three-or-four L))
+        ∙ ap (λ x. shownIf x (tableLines (columns L) V2e E2e (take k B2e))) room
         ∙ lines
+      where
+        own : (columns L ≡ 3) ⊎ (columns L ≡ 4) → widthOf (columns L) ≡ columns L
+        own (inl e) = width-three e ∙ sym e
+        own (inr e) = let d : columns L ≡ 3 → ⊥ = λ z. omega arith in width-four d ∙ sym e
 
 -- the lines of a text by cases
 module _ (t : List ℕ) where
@@ -193,21 +202,34 @@ module _ (t L : List ℕ) {p : Parsed} (room : length L ≡ 800) (said : p ≡ p
       go (inl (z, g)) = let z : _≡_ {A = ℕ} 0 1 = cc in omega arith
       go (inr (d, g)) = let z : _≡_ {A = ℕ} 0 1 = cc in omega arith
 
--- the mesh that was read, with parts v and e long of buffers for the largest mesh
+-- the mesh that was read, with parts v, e and o long of buffers for the largest mesh
 module _ {t L : List ℕ} {n v e : ℕ} (k : Read t L n v e) where
   pub mesh-is : meshLines n (take e L) ≡ listing t
   mesh-is = ap (meshLines n) (k .rows) ∙ ap (λ (i : ℕ). meshLines i (theList t)) (k .vertices) ∙ sym (listing-form t (k .form))
 
-  pub fits : (V2e E2e B2e work : List ℕ) → length V2e ≡ 200 → length E2e ≡ 800 → length B2e ≡ 800 → length work ≡ 3_400
-      → Fits n (take e L) (lent (take v V2e) (take e E2e) B2e work)
-  fits V2e E2e B2e work a b c d =
-      let l : length (take e L) ≡ e = ap length (k .rows) ∙ k .many in
+  pub read-long : length (take e L) ≡ e
+  read-long = ap length (k .rows) ∙ k .many
+
+  -- E2e has at most 800 entries
+  pub few-entries : (m : ℕ) {c o : ℕ} → c ≡ columns (take e L) → o ≡ c * m → e ≡ 4 * m → (o ≡ columns (take e L) * m) × (o ≤ 800)
+  few-entries m {c} {o} f g h = (g ∙ ap (λ (i : ℕ). i * m) f, go (three-or-four (take e L)))
+    where
+      go : (columns (take e L) ≡ 3) ⊎ (columns (take e L) ≡ 4) → o ≤ 800
+      go (inl z) = rw (g ∙ ap (λ (i : ℕ). i * m) (f ∙ z)) (omega (arith, k .small))
+      go (inr z) = rw (g ∙ ap (λ (i : ℕ). i * m) (f ∙ z)) (omega (arith, k .small))
+
+  pub fits : (V2e E2e B2e work : List ℕ) (m : ℕ) {c o : ℕ} → length V2e ≡ 200 → length E2e ≡ 800 → length B2e ≡ 800 → length work ≡ 3_400
+      → c ≡ columns (take e L) → o ≡ c * m → e ≡ 4 * m → Fits n (take e L) (lent (take v V2e) (take o E2e) B2e work)
+  fits V2e E2e B2e work m {c} {o} a b d w f g h =
+      let l = read-long in
+      let (long, few) = few-entries m f g h in
+      let rows : elements (take e L) ≡ m = omega arith in
       record {
         few = k .few;
         small = omega (arith, k .small);
         fours = omega (arith, k .fours);
         vertices = length-take-le v V2e (omega (arith, k .few, k .wide)) ∙ k .wide;
-        opposites = length-take-le e E2e (omega (arith, k .small)) ∙ sym l;
+        opposites = length-take-le o E2e (omega arith) ∙ long ∙ ap (λ (i : ℕ). columns (take e L) * i) (sym rows);
         border = omega (arith, k .small);
         work = omega (arith, k .small, k .few);
       }

@@ -3,6 +3,7 @@ ghost use mathlib.Core.Path.{_≡_};
 ghost use Prim.Native.Nat.{_≤_};
 ghost use lib.Dec.{leb};
 ghost use lib.ListN.{length};
+ghost use Rattle.rules.specs.Tables.{columns as columnsIn};
 ghost use Rattle.build.specs.Building.{lent};
 ghost use Rattle.print.specs.Lines.{Written, Counts, shownIf};
 ghost use Rattle.listed.specs.Listing.{meshLines, listing};
@@ -14,6 +15,7 @@ use text::Parsed;
 // Writes the lines of the mesh, or of build's refusal.
 fn list_mesh(
     n: u32,
+    columns: u32,
     list: &[u32],
     v2e: &mut [u32],
     e2e: &mut [u32],
@@ -21,7 +23,7 @@ fn list_mesh(
     work: &mut [u32],
     out: &mut [u8],
 ) -> usize
-    requires { ⌜ Fits n (now list) (lent (now v2e) (now e2e) (now b2e) (now work)) ⌝ }
+    requires { ⌜ Fits n (now list) (lent (now v2e) (now e2e) (now b2e) (now work)) × (columns ≡ columnsIn (now list)) ⌝ }
     requires { ⌜ 22_022 ≤ length (now out) ⌝ }
     ensures { λ r. ⌜ Written (now (out .entry)) 0 (meshLines n (now (list .entry))) (now (out .exit)) r ⌝ }
     ensures { λ r. ⌜ Counts r (now (out .exit)) ⌝ }
@@ -30,7 +32,7 @@ fn list_mesh(
     match a {
         Answer::Gives { first, second: _ } => {
             let k = wide(first);
-            print::print_tables(out, v2e, e2e, &b2e[..k])
+            print::print_tables(out, columns, v2e, e2e, &b2e[..k])
         }
         Answer::Refused {
             number,
@@ -59,8 +61,20 @@ fn list_in(
     match p {
         Parsed::Mesh { n, m } => {
             let v = wide(n);
-            let e = 4 * wide(m);
-            list_mesh(n, &list[..e], &mut v2e[..v], &mut e2e[..e], b2e, work, out)
+            let rows = wide(m);
+            let e = 4 * rows;
+            let columns = columns::columns_of(&list[..e]);
+            let o = wide(columns) * rows;
+            list_mesh(
+                n,
+                columns,
+                &list[..e],
+                &mut v2e[..v],
+                &mut e2e[..o],
+                b2e,
+                work,
+                out,
+            )
         }
         Parsed::Bad { line } => print::print_refusal(out, 14, line, 0),
         Parsed::Short => 0,

@@ -8,7 +8,7 @@ use Prim.Native.Nat.{ℕ, zero, suc, _+_, _-_, _≤_, _<_}
 use native.Mathlib.Omega.{arith}
 use lib.Dec.{T, ltb, eqb, T-not, nltb→le}
 use lib.ListN.{length, set, replicate, length-append, length-set, List·getD-append}
-use lib.Seq.{getD-at, getD-set-same, getD-set-other}
+use lib.Seq.{getD-at, getD-set-same, getD-set-other, ext-getD}
 use Rattle.lists.specs.TestLaws.{Test, pass, fail, test, true-of, false-of, means-lt, means-eq, means-not, decide}
 use Rattle.lists.specs.Search.{at, least, count, upto, tab, zeros}
 
@@ -229,6 +229,14 @@ at-tab (suc n) f i h = go (lt-or-eq i n h) (λ k. at-tab n f i k)
     go : (i < n) ⊎ (i ≡ n) → (i < n → at (tab n f) i ≡ f i) → at (tab n f ++ (f n ∷ [])) i ≡ f i
     go (inl k) r = rw (List·getD-append (tab n f) (f n ∷ []) 0 i (omega (arith, length-tab n f))) (r k)
     go (inr k) r = getD-at (tab n f) (f n) [] 0 i (length-tab n f ∙ sym k) ∙ ap f (sym k)
+
+-- a list with these entries is the table, and functions that agree below n make one table
+pub is-tab : (n : ℕ) (f : ℕ → ℕ) (xs : List ℕ) → length xs ≡ n → ((i : ℕ) → i < n → at xs i ≡ f i) → xs ≡ tab n f
+is-tab n f xs l h =
+    ext-getD 0 xs (tab n f) (l ∙ sym (length-tab n f)) (λ i k. h i (omega arith) ∙ sym (at-tab n f i (omega arith)))
+
+pub tab-same : (n : ℕ) (f g : ℕ → ℕ) → ((i : ℕ) → i < n → f i ≡ g i) → tab n f ≡ tab n g
+tab-same n f g h = is-tab n g (tab n f) (length-tab n f) (λ i l. at-tab n f i l ∙ h i l)
 
 -- x stands in the list o; it does or it doesn't
 abbrev pub Met : List ℕ → ℕ → Type 0

@@ -1,18 +1,28 @@
 -- Stores in a list of numbers, and what a list keeps of another.
 -- Assumes nothing.
-use mathlib.Core.Path.{_≡_, refl, ap, _∙_}
+use mathlib.Core.Path.{_≡_, refl, ap, sym, _∙_}
+use mathlib.Core.Logic.{_⊎_, inl, inr}
 use mathlib.Core.List.{List, _++_}
 use Prim.Native.Nat.{ℕ, _+_, _-_, _≤_, _<_}
 use native.Mathlib.Omega.{arith}
 use lib.ListN.{length, set, drop, length-set, length-append, length-drop, List·getD-append}
 use lib.Seq.{getD-set-same, getD-set-other, getD-append-add, getD-drop}
 use Rattle.lists.specs.Search.{at}
+use Rattle.lists.specs.SearchLaws.{lt-or-eq}
 
 pub at-same : (W : List ℕ) (i x : ℕ) → i < length W → at (set W i x) i ≡ x
 at-same W i x h = getD-set-same W i x 0 h
 
 pub at-other : (W : List ℕ) (i x j : ℕ) → (j ≡ i → ⊥) → at (set W i x) j ≡ at W j
 at-other W i x j d = getD-set-other W i j x 0 d
+
+-- up to i the entries are those of f, and f i is written at i
+pub by-set : (f : ℕ → ℕ) (W : List ℕ) (i x : ℕ) → i < length W → x ≡ f i → ((j : ℕ) → j < i → at W j ≡ f j) → (j : ℕ) → j < i + 1 → at (set W i x) j ≡ f j
+by-set f W i x h e g j l = go (lt-or-eq j i (omega arith))
+  where
+    go : (j < i) ⊎ (j ≡ i) → at (set W i x) j ≡ f j
+    go (inl k) = at-other W i x j (λ z. omega arith) ∙ g j k
+    go (inr z) = ap (at (set W i x)) z ∙ at-same W i x h ∙ e ∙ ap f (sym z)
 
 -- W is as long as U, and has the same entries from place k on
 pub record Kept (k : ℕ) (U W : List ℕ) : Type 0 where

@@ -33,13 +33,22 @@ enum Step {
     Lost,
 }
 
-fn shown_by(walk: Walk, n: u32, list: &[u32], v2e: &[u32], e2e: &[u32], b2e: &[u32], x: u32) -> Read
-    requires { ⌜ Stands walk (mesh n (now list) (now v2e) (now e2e) (now b2e)) x ⌝ }
-    ensures { λ r. ⌜ readOf r ≡ shownBy walk (mesh n (now (list .entry)) (now (v2e .entry)) (now (e2e .entry)) (now (b2e .entry))) x ⌝ }
+fn shown_by(
+    walk: Walk,
+    n: u32,
+    columns: u32,
+    list: &[u32],
+    v2e: &[u32],
+    e2e: &[u32],
+    b2e: &[u32],
+    x: u32,
+) -> Read
+    requires { ⌜ Stands walk (mesh n columns (now list) (now v2e) (now e2e) (now b2e)) x ⌝ }
+    ensures { λ r. ⌜ readOf r ≡ shownBy walk (mesh n columns (now (list .entry)) (now (v2e .entry)) (now (e2e .entry)) (now (b2e .entry))) x ⌝ }
 {
     match walk {
         Walk::Elements => Read::Value(element_of(x)),
-        Walk::Ends => read_destination(n, list, v2e, e2e, b2e, x),
+        Walk::Ends => read_destination(n, columns, list, v2e, e2e, b2e, x),
         Walk::Borders => Read::Value(x),
     }
 }
@@ -47,6 +56,7 @@ fn shown_by(walk: Walk, n: u32, list: &[u32], v2e: &[u32], e2e: &[u32], b2e: &[u
 fn next_by(
     walk: Walk,
     n: u32,
+    columns: u32,
     list: &[u32],
     v2e: &[u32],
     e2e: &[u32],
@@ -54,19 +64,20 @@ fn next_by(
     start: u32,
     x: u32,
 ) -> Read
-    requires { ⌜ (let M = mesh n (now list) (now v2e) (now e2e) (now b2e) in Fit M × Stands walk M x) ⌝ }
-    ensures { λ r. ⌜ readOf r ≡ nextBy walk (mesh n (now (list .entry)) (now (v2e .entry)) (now (e2e .entry)) (now (b2e .entry))) start x ⌝ }
+    requires { ⌜ (let M = mesh n columns (now list) (now v2e) (now e2e) (now b2e) in Fit M × Stands walk M x) ⌝ }
+    ensures { λ r. ⌜ readOf r ≡ nextBy walk (mesh n columns (now (list .entry)) (now (v2e .entry)) (now (e2e .entry)) (now (b2e .entry))) start x ⌝ }
 {
     match walk {
-        Walk::Elements => ring_next(n, list, v2e, e2e, b2e, start, x),
-        Walk::Ends => ring_next(n, list, v2e, e2e, b2e, start, x),
-        Walk::Borders => loop_next(n, list, v2e, e2e, b2e, start, x),
+        Walk::Elements => ring_next(n, columns, list, v2e, e2e, b2e, start, x),
+        Walk::Ends => ring_next(n, columns, list, v2e, e2e, b2e, start, x),
+        Walk::Borders => loop_next(n, columns, list, v2e, e2e, b2e, start, x),
     }
 }
 
 fn visit(
     walk: Walk,
     n: u32,
+    columns: u32,
     list: &[u32],
     v2e: &[u32],
     e2e: &[u32],
@@ -74,14 +85,14 @@ fn visit(
     start: u32,
     x: u32,
 ) -> Step
-    requires { ⌜ (let M = mesh n (now list) (now v2e) (now e2e) (now b2e) in Fit M × Stands walk M x) ⌝ }
-    ensures { λ r. ⌜ Stepped walk (mesh n (now (list .entry)) (now (v2e .entry)) (now (e2e .entry)) (now (b2e .entry))) start x r ⌝ }
+    requires { ⌜ (let M = mesh n columns (now list) (now v2e) (now e2e) (now b2e) in Fit M × Stands walk M x) ⌝ }
+    ensures { λ r. ⌜ Stepped walk (mesh n columns (now (list .entry)) (now (v2e .entry)) (now (e2e .entry)) (now (b2e .entry))) start x r ⌝ }
 {
-    let listed = shown_by(walk, n, list, v2e, e2e, b2e, x);
+    let listed = shown_by(walk, n, columns, list, v2e, e2e, b2e, x);
     let Read::Value(shown) = listed else {
         return Step::Lost;
     };
-    let following = next_by(walk, n, list, v2e, e2e, b2e, start, x);
+    let following = next_by(walk, n, columns, list, v2e, e2e, b2e, start, x);
     let Read::Value(next) = following else {
         return Step::Lost;
     };
@@ -92,6 +103,7 @@ fn visit(
 fn count(
     walk: Walk,
     n: u32,
+    columns: u32,
     list: &[u32],
     v2e: &[u32],
     e2e: &[u32],
@@ -99,8 +111,8 @@ fn count(
     limit: u32,
     start: u32,
 ) -> Read
-    requires { ⌜ (let M = mesh n (now list) (now v2e) (now e2e) (now b2e) in Fit M × Begins walk M start) ⌝ }
-    ensures { λ r. ⌜ readOf r ≡ sizeOf (walked walk (mesh n (now (list .entry)) (now (v2e .entry)) (now (e2e .entry)) (now (b2e .entry))) start limit start) ⌝ }
+    requires { ⌜ (let M = mesh n columns (now list) (now v2e) (now e2e) (now b2e) in Fit M × Begins walk M start) ⌝ }
+    ensures { λ r. ⌜ readOf r ≡ sizeOf (walked walk (mesh n columns (now (list .entry)) (now (v2e .entry)) (now (e2e .entry)) (now (b2e .entry))) start limit start) ⌝ }
 {
     let mut x = start;
     let mut count: u32 = 0;
@@ -108,7 +120,7 @@ fn count(
         if limit <= count {
             return Read::Broken;
         }
-        let step = visit(walk, n, list, v2e, e2e, b2e, start, x);
+        let step = visit(walk, n, columns, list, v2e, e2e, b2e, start, x);
         let Step::To { shown: _, next } = step else {
             return Read::Broken;
         };
@@ -122,6 +134,7 @@ fn count(
 fn write(
     walk: Walk,
     n: u32,
+    columns: u32,
     list: &[u32],
     v2e: &[u32],
     e2e: &[u32],
@@ -131,14 +144,14 @@ fn write(
     size: usize,
     out: &mut [u32],
 )
-    requires { ⌜ (let M = mesh n (now list) (now v2e) (now e2e) (now b2e) in Fit M × Begins walk M start) ⌝ }
-    requires { ⌜ (sizeOf (walked walk (mesh n (now list) (now v2e) (now e2e) (now b2e)) start size start) ≡ some size) × (from + size ≤ length (now out)) ⌝ }
-    ensures { λ _. ⌜ now (out .exit) ≡ sets (now (out .entry)) from (listOf (walked walk (mesh n (now (list .entry)) (now (v2e .entry)) (now (e2e .entry)) (now (b2e .entry))) start size start)) ⌝ }
+    requires { ⌜ (let M = mesh n columns (now list) (now v2e) (now e2e) (now b2e) in Fit M × Begins walk M start) ⌝ }
+    requires { ⌜ (sizeOf (walked walk (mesh n columns (now list) (now v2e) (now e2e) (now b2e)) start size start) ≡ some size) × (from + size ≤ length (now out)) ⌝ }
+    ensures { λ _. ⌜ now (out .exit) ≡ sets (now (out .entry)) from (listOf (walked walk (mesh n columns (now (list .entry)) (now (v2e .entry)) (now (e2e .entry)) (now (b2e .entry))) start size start)) ⌝ }
 {
     let mut x = start;
     let mut at: usize = 0;
     while at < size {
-        let step = visit(walk, n, list, v2e, e2e, b2e, start, x);
+        let step = visit(walk, n, columns, list, v2e, e2e, b2e, start, x);
         let Step::To { shown, next } = step else {
             return;
         };
@@ -173,6 +186,7 @@ fn lead(prior: u32, out: &mut [u32])
 pub fn list_walk(
     walk: Walk,
     n: u32,
+    columns: u32,
     list: &[u32],
     v2e: &[u32],
     e2e: &[u32],
@@ -182,11 +196,11 @@ pub fn list_walk(
     prior: u32,
     out: &mut [u32],
 ) -> Answer
-    requires { ⌜ (let M = mesh n (now list) (now v2e) (now e2e) (now b2e) in Fit M × Begins walk M start) ⌝ }
+    requires { ⌜ (let M = mesh n columns (now list) (now v2e) (now e2e) (now b2e) in Fit M × Begins walk M start) ⌝ }
     requires { ⌜ limit ≤ maxBorder ⌝ }
-    ensures { λ r. ⌜ Lists (preceded prior (walked walk (mesh n (now (list .entry)) (now (v2e .entry)) (now (e2e .entry)) (now (b2e .entry))) start limit start)) (now (out .entry)) (numbers r) (now (out .exit)) ⌝ }
+    ensures { λ r. ⌜ Lists (preceded prior (walked walk (mesh n columns (now (list .entry)) (now (v2e .entry)) (now (e2e .entry)) (now (b2e .entry))) start limit start)) (now (out .entry)) (numbers r) (now (out .exit)) ⌝ }
 {
-    let counted = count(walk, n, list, v2e, e2e, b2e, limit, start);
+    let counted = count(walk, n, columns, list, v2e, e2e, b2e, limit, start);
     let Read::Value(size) = counted else {
         return refuse(12);
     };
@@ -199,6 +213,7 @@ pub fn list_walk(
     write(
         walk,
         n,
+        columns,
         list,
         v2e,
         e2e,

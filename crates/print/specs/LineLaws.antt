@@ -7,12 +7,12 @@ use Prim.Native.Nat.{ℕ, zero, suc, _+_, _*_, _-_, _/_, _%_, _^_, _≤_, _<_}
 use native.Mathlib.Nat.{pow-succ', add-zero}
 use native.Mathlib.Numerals.{add-one}
 use native.Mathlib.Omega.{arith}
-use borrow.Author.Tests.{lt-ltb, le-ltb}
-use lib.Dec.{ltb, nltb→le}
+use borrow.Author.Tests.{lt-ltb, le-ltb, eq-eqb, ne-eqb}
+use lib.Dec.{ltb, eqb, nltb→le}
 use lib.ListN.{length, take, drop, set, length-append}
 use lib.Seq.{sets, sets-eq, length-sets, take-at}
 use Rattle.lists.specs.TestLaws.{Test, pass, fail, test, means-lt}
-use Rattle.print.specs.Lines.{lastDigits, digits, joined, Written, Counts, shownIf, hasRoom}
+use Rattle.print.specs.Lines.{widthOf, rowLine, lastDigits, digits, joined, Written, Counts, shownIf, hasRoom}
 
 -- room for more digits than there are changes nothing
 last-one : (k x : ℕ) → x < 10 → lastDigits (suc k) x ≡ (48 + x) ∷ []
@@ -87,3 +87,20 @@ counts l s {r} h (e, f) =
     let n : r ≡ length s = omega arith in
     let g : length s ≤ length l = omega arith in
     rw (n, f, printed l s g) (omega (arith, length-sets l 0 s), refl)
+
+-- a table's width by its columns, its rows within it, and their lines by width and number
+pub width-three : {c : ℕ} → c ≡ 3 → widthOf c ≡ 3
+width-three {c} e = rw (eq-eqb c 3 e, widthOf)
+
+pub width-four : {c : ℕ} → (c ≡ 3 → ⊥) → widthOf c ≡ 4
+width-four {c} d = rw (ne-eqb c 3 d, widthOf)
+
+pub rows-inside : (c l : ℕ) {w m : ℕ} → w ≡ widthOf c → m ≡ l / widthOf c → (w ≤ 4) × ((k : ℕ) → k < m → w * k + w ≤ l)
+rows-inside c l e f = rw (e, f) (go (eqb c 3))
+  where
+    go : (b : Bool) → let w : ℕ = elim b [ true ↦ 3 | false ↦ 4 ] in (w ≤ 4) × ((k : ℕ) → k < l / w → w * k + w ≤ l)
+    go true = (omega arith, λ k h. omega arith)
+    go false = (omega arith, λ k h. omega arith)
+
+pub rows-same : (e : List ℕ) {w w′ m m′ : ℕ} → w ≡ w′ → m ≡ m′ → joined (rowLine w e) m ≡ joined (rowLine w′ e) m′
+rows-same e {w′ = w′} {m = m} f g = ap (λ (i : ℕ). joined (rowLine i e) m) f ∙ ap (joined (rowLine w′ e)) g

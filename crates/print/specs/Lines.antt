@@ -4,11 +4,10 @@ use mathlib.Core.Bool.{Bool, true, false}
 use mathlib.Core.List.{List, [], _∷_, _++_}
 use mathlib.Core.Path.{_≡_}
 use Prim.Native.Nat.{ℕ, zero, suc, _+_, _*_, _-_, _/_, _%_, _≤_}
-use lib.Dec.{ltb}
-use lib.ListN.{length, take}
+use lib.Dec.{ltb, eqb}
+use lib.ListN.{length, take, drop}
 use lib.Seq.{sets}
 use Rattle.lists.specs.Search.{at}
-use Rattle.rules.specs.Elements.{elements, row}
 
 -- the decimal digits of x, as many as there are, at most k
 unfoldable pub lastDigits : ℕ → ℕ → List ℕ
@@ -35,13 +34,17 @@ items xs = joined (item xs) (length xs)
 abbrev pub lineOf : ℕ → List ℕ → List ℕ
 lineOf letter xs = letter ∷ (items xs ++ (10 ∷ []))
 
--- "one E line for each element"
-abbrev pub rowLine : List ℕ → ℕ → List ℕ
-rowLine e k = lineOf 69 (row e (k + 1))
+-- "one E line for each element", with as many entries as E2e has columns (document 02, point 10)
+abbrev pub rowLine : ℕ → List ℕ → ℕ → List ℕ
+rowLine c e k = lineOf 69 (take c (drop (c * k) e))
 
--- "It prints V with the V2e entries, one E line for each element, B with the B2e entries"
-abbrev pub tableLines : List ℕ → List ℕ → List ℕ → List ℕ
-tableLines v e b = lineOf 86 v ++ (joined (rowLine e) (elements e) ++ lineOf 66 b)
+-- "It prints V with the V2e entries, one E line for each element, B with the B2e entries"; E2e in c columns
+abbrev pub tableLines : ℕ → List ℕ → List ℕ → List ℕ → List ℕ
+tableLines c v e b = lineOf 86 v ++ (joined (rowLine c e) (length e / c) ++ lineOf 66 b)
+
+-- three columns, or four
+abbrev pub widthOf : ℕ → ℕ
+widthOf c = elim (eqb c 3) [ true ↦ 3 | false ↦ 4 ]
 
 -- "A refusal prints R, number, and the two place numbers"
 abbrev pub refusalLine : ℕ → ℕ → ℕ → List ℕ
@@ -71,6 +74,6 @@ abbrev pub shownRefusal : ℕ → ℕ → ℕ → ℕ → List ℕ
 shownRefusal size r a b = shownIf (hasRoom size 0 3) (refusalLine r a b)
 
 -- a row counts as five numbers, for its own 11 bytes
-abbrev pub shownTables : ℕ → List ℕ → List ℕ → List ℕ → List ℕ
-shownTables size v e b =
-    shownIf (hasRoom size 0 (length v + length b + 5 * elements e + 1)) (tableLines v e b)
+abbrev pub shownTables : ℕ → ℕ → List ℕ → List ℕ → List ℕ → List ℕ
+shownTables size c v e b =
+    shownIf (hasRoom size 0 (length v + length b + 5 * (length e / c) + 1)) (tableLines c v e b)

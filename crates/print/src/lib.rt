@@ -1,9 +1,9 @@
 // The lines that the listing program prints, document 01, "The listing program".
 ghost use mathlib.Core.List.{[], _∷_};
-ghost use Prim.Native.Nat.{_+_, _*_, _≤_, _<_};
+ghost use mathlib.Core.Path.{_≡_};
+ghost use Prim.Native.Nat.{ℕ, _+_, _*_, _/_, _≤_, _<_};
 ghost use lib.ListN.{length};
-ghost use Rattle.rules.specs.Elements.{elements};
-ghost use Rattle.print.specs.Lines.{digits, joined, item, items, lineOf, rowLine, Written, Counts, shownLine, shownRefusal, shownTables};
+ghost use Rattle.print.specs.Lines.{digits, joined, item, items, lineOf, widthOf, rowLine, Written, Counts, shownLine, shownRefusal, shownTables};
 
 // Writes the byte b at place p. Each such call answers the next place.
 fn put_byte(out: &mut [u8], p: usize, b: u8) -> usize
@@ -71,28 +71,29 @@ fn put_line(out: &mut [u8], at: usize, letter: u8, numbers: &[u32]) -> usize
     put_byte(out, q, b'\n')
 }
 
-// Writes the line of element k + 1.
-fn put_row(out: &mut [u8], at: usize, e2e: &[u32], k: usize) -> usize
+// Writes the line of element k + 1, from a table of c columns.
+fn put_row(out: &mut [u8], at: usize, c: usize, e2e: &[u32], k: usize) -> usize
     requires { ⌜ at + 55 ≤ length (now out) ⌝ }
-    requires { ⌜ k < elements (now e2e) ⌝ }
-    ensures { λ r. ⌜ Written (now (out .entry)) at (rowLine (now (e2e .entry)) k) (now (out .exit)) r ⌝ }
+    requires { ⌜ (c ≤ 4) × (c * k + c ≤ length (now e2e)) ⌝ }
+    ensures { λ r. ⌜ Written (now (out .entry)) at (rowLine c (now (e2e .entry)) k) (now (out .exit)) r ⌝ }
     ensures { λ r. ⌜ r ≤ at + 55 ⌝ }
 {
-    let a = 4 * k;
-    let e = a + 4;
+    let a = c * k;
+    let e = a + c;
     put_line(out, at, b'E', &e2e[a..e])
 }
 
-// Writes a line for each element.
-fn put_rows(out: &mut [u8], at: usize, e2e: &[u32]) -> usize
-    requires { ⌜ at + 55 * elements (now e2e) ≤ length (now out) ⌝ }
-    ensures { λ r. ⌜ Written (now (out .entry)) at (joined (rowLine (now (e2e .entry))) (elements (now (e2e .entry)))) (now (out .exit)) r ⌝ }
-    ensures { λ r. ⌜ r ≤ at + 55 * elements (now (e2e .entry)) ⌝ }
+// Writes a line for each of m elements.
+fn put_rows(out: &mut [u8], at: usize, c: usize, m: usize, e2e: &[u32]) -> usize
+    requires { ⌜ at + 55 * m ≤ length (now out) ⌝ }
+    requires { ⌜ (c ≤ 4) × ((k : ℕ) → k < m → c * k + c ≤ length (now e2e)) ⌝ }
+    ensures { λ r. ⌜ Written (now (out .entry)) at (joined (rowLine c (now (e2e .entry))) m) (now (out .exit)) r ⌝ }
+    ensures { λ r. ⌜ r ≤ at + 55 * m ⌝ }
 {
     let mut p = at;
     let mut k = 0;
-    while k < e2e.len() / 4 {
-        p = put_row(out, p, e2e, k);
+    while k < m {
+        p = put_row(out, p, c, e2e, k);
         k += 1;
     }
     p
@@ -121,15 +122,37 @@ pub fn print_refusal(out: &mut [u8], number: u32, first: u32, second: u32) -> us
     print_line(out, 0, b'R', &numbers)
 }
 
+// Three columns, or four.
+fn width(columns: u32) -> usize
+    ensures { λ r. ⌜ r ≡ widthOf columns ⌝ }
+{
+    if columns == 3 {
+        return 3;
+    }
+    4
+}
+
+// How many rows a table has.
+fn row_count(columns: u32, entries: usize) -> usize
+    ensures { λ r. ⌜ r ≡ entries / widthOf columns ⌝ }
+    ensures { λ r. ⌜ 3 * r ≤ entries ⌝ }
+{
+    if columns == 3 {
+        return entries / 3;
+    }
+    entries / 4
+}
+
 // Writes the lines of the three tables at the start of `out`; nothing without room.
-pub fn print_tables(out: &mut [u8], v2e: &[u32], e2e: &[u32], b2e: &[u32]) -> usize
-    ensures { λ r. ⌜ Written (now (out .entry)) 0 (shownTables (length (now (out .entry))) (now (v2e .entry)) (now (e2e .entry)) (now (b2e .entry))) (now (out .exit)) r ⌝ }
+pub fn print_tables(out: &mut [u8], columns: u32, v2e: &[u32], e2e: &[u32], b2e: &[u32]) -> usize
+    ensures { λ r. ⌜ Written (now (out .entry)) 0 (shownTables (length (now (out .entry))) (widthOf columns) (now (v2e .entry)) (now (e2e .entry)) (now (b2e .entry))) (now (out .exit)) r ⌝ }
     ensures { λ r. ⌜ Counts r (now (out .exit)) ⌝ }
 {
-    if out.len() / 11 <= v2e.len() + b2e.len() + 5 * (e2e.len() / 4) + 1 {
+    let m = row_count(columns, e2e.len());
+    if out.len() / 11 <= v2e.len() + b2e.len() + 5 * m + 1 {
         return 0;
     }
     let p = put_line(out, 0, b'V', v2e);
-    let q = put_rows(out, p, e2e);
+    let q = put_rows(out, p, width(columns), m, e2e);
     put_line(out, q, b'B', b2e)
 }

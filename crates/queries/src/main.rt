@@ -8,7 +8,8 @@
 //   2 to 4   of 1, what is changed (0 nothing, 1 the list, 2 V2e, 3 E2e, 4 B2e), which entry, and to what; of 3, the walker's record
 //   5 to 7   below which number codes are asked, below which vertices and borders, and the room for lists
 //   8        n
-//   9 to 12  the lengths of the list, V2e, E2e and B2e; of 1, the last is found by build
+//   9        the columns that each call is told, 0 to look at the list
+//   10 to 13 the lengths of the list, V2e, E2e and B2e; of 1, the last is found by build
 // and then the entries of the list, V2e, E2e and B2e; of 1, the tables are put behind the list once they are built.
 ghost use Prim.Native.Nat.{_≤_, _<_};
 ghost use lib.ListN.{length};
@@ -27,10 +28,10 @@ fn part_start(numbers: &[u32; 128], part: usize) -> usize
     requires { ⌜ part ≤ 3 ⌝ }
     ensures { λ r. ⌜ r ≤ 128 ⌝ }
 {
-    let mut start = 13;
+    let mut start = 14;
     let mut i = 0;
     while i < part {
-        start = cases::part_end(start, numbers[9 + i]);
+        start = cases::part_end(start, numbers[10 + i]);
         i += 1;
     }
     start
@@ -40,9 +41,14 @@ fn part(numbers: &[u32; 128], i: usize) -> &[u32]
     requires { ⌜ i ≤ 3 ⌝ }
 {
     let start = part_start(numbers, i);
-    let end = cases::part_end(start, numbers[9 + i]);
+    let end = cases::part_end(start, numbers[10 + i]);
     let whole = &numbers[..];
     &whole[start..end]
+}
+
+// The columns by which a call goes.
+fn seen(numbers: &[u32; 128]) -> u32 {
+    columns::seen(numbers[9], part(numbers, 0))
 }
 
 // The number that a call gives, or 1000 and the refusal. 9000 where a number that must be 0 isn't.
@@ -70,6 +76,7 @@ fn coded(a: Answer) -> u32 {
 fn single(
     letter: u8,
     n: u32,
+    columns: u32,
     list: &[u32],
     v2e: &[u32],
     e2e: &[u32],
@@ -77,15 +84,15 @@ fn single(
     x: u32,
 ) -> Answer {
     match letter {
-        b'O' => query::opposite(n, list, v2e, e2e, b2e, x),
-        b'X' => query::next(n, list, v2e, e2e, b2e, x),
-        b'P' => query::previous(n, list, v2e, e2e, b2e, x),
-        b'E' => query::element(n, list, v2e, e2e, b2e, x),
-        b'F' => query::origin(n, list, v2e, e2e, b2e, x),
-        b'T' => query::destination(n, list, v2e, e2e, b2e, x),
-        b'A' => query::across(n, list, v2e, e2e, b2e, x),
-        b'H' => query::halfedge_is_border(n, list, v2e, e2e, b2e, x),
-        _ => query::vertex_is_border(n, list, v2e, e2e, b2e, x),
+        b'O' => query::opposite(n, columns, list, v2e, e2e, b2e, x),
+        b'X' => query::next(n, columns, list, v2e, e2e, b2e, x),
+        b'P' => query::previous(n, columns, list, v2e, e2e, b2e, x),
+        b'E' => query::element(n, columns, list, v2e, e2e, b2e, x),
+        b'F' => query::origin(n, columns, list, v2e, e2e, b2e, x),
+        b'T' => query::destination(n, columns, list, v2e, e2e, b2e, x),
+        b'A' => query::across(n, columns, list, v2e, e2e, b2e, x),
+        b'H' => query::halfedge_is_border(n, columns, list, v2e, e2e, b2e, x),
+        _ => query::vertex_is_border(n, columns, list, v2e, e2e, b2e, x),
     }
 }
 
@@ -93,6 +100,7 @@ fn ask(letter: u8, numbers: &[u32; 128], x: u32) -> u32 {
     coded(single(
         letter,
         numbers[8],
+        seen(numbers),
         part(numbers, 0),
         part(numbers, 1),
         part(numbers, 2),
@@ -136,6 +144,7 @@ fn singles(numbers: &[u32; 128]) {
 fn listed(
     letter: u8,
     n: u32,
+    columns: u32,
     list: &[u32],
     v2e: &[u32],
     e2e: &[u32],
@@ -144,9 +153,9 @@ fn listed(
     out: &mut [u32],
 ) -> Answer {
     match letter {
-        b'R' => rings::ring(n, list, v2e, e2e, b2e, x, out),
-        b'N' => rings::neighbours(n, list, v2e, e2e, b2e, x, out),
-        _ => rings::border_loop(n, list, v2e, e2e, b2e, x, out),
+        b'R' => rings::ring(n, columns, list, v2e, e2e, b2e, x, out),
+        b'N' => rings::neighbours(n, columns, list, v2e, e2e, b2e, x, out),
+        _ => rings::border_loop(n, columns, list, v2e, e2e, b2e, x, out),
     }
 }
 
@@ -154,6 +163,7 @@ fn call(letter: u8, numbers: &[u32; 128], x: u32, out: &mut [u32]) -> [u32; 3] {
     cases::numbers_of(listed(
         letter,
         numbers[8],
+        seen(numbers),
         part(numbers, 0),
         part(numbers, 1),
         part(numbers, 2),
@@ -196,6 +206,7 @@ fn called(numbers: &[u32; 128], w: Walker, call: Call) -> Moved {
     walker::call_at(
         w,
         numbers[8],
+        seen(numbers),
         part(numbers, 0),
         part(numbers, 1),
         part(numbers, 2),
@@ -278,11 +289,11 @@ fn build_parts(numbers: &mut [u32; 128]) {
     let mut v2e = [LEFT; 40];
     let mut e2e = [LEFT; 40];
     let mut b2e = [LEFT; 40];
-    let v = cases::length(numbers[10], 40);
-    let e = cases::length(numbers[11], 40);
+    let v = cases::length(numbers[11], 40);
+    let e = cases::length(numbers[12], 40);
     let t = tabulate(numbers, &mut v2e[0..v], &mut e2e[0..e], &mut b2e);
     cases::emit_line(b'K', &t);
-    numbers[12] = t[1];
+    numbers[13] = t[1];
     copy_parts(numbers, &v2e, &e2e, &b2e);
 }
 

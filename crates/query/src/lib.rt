@@ -57,38 +57,62 @@ fn found(r: Read) -> Answer
 }
 
 // The E2e or B2e entry of a half-edge.
-pub fn opposite(n: u32, list: &[u32], v2e: &[u32], e2e: &[u32], b2e: &[u32], code: u32) -> Answer
-    ensures { λ r. ⌜ numbers r ≡ oppositeAnswer (mesh n (now (list .entry)) (now (v2e .entry)) (now (e2e .entry)) (now (b2e .entry))) code ⌝ }
+pub fn opposite(
+    n: u32,
+    columns: u32,
+    list: &[u32],
+    v2e: &[u32],
+    e2e: &[u32],
+    b2e: &[u32],
+    code: u32,
+) -> Answer
+    ensures { λ r. ⌜ numbers r ≡ oppositeAnswer (mesh n columns (now (list .entry)) (now (v2e .entry)) (now (e2e .entry)) (now (b2e .entry))) code ⌝ }
 {
-    let refusal = half_edge_refusal(n, list, v2e, e2e, b2e, code);
+    let refusal = half_edge_refusal(n, columns, list, v2e, e2e, b2e, code);
     if 0 < refusal {
         return refuse(refusal);
     }
     if is_border(code) {
-        return found(read_border_side(n, list, v2e, e2e, b2e, code));
+        return found(read_border_side(n, columns, list, v2e, e2e, b2e, code));
     }
-    found(read_opposite(n, list, v2e, e2e, b2e, code))
+    found(read_opposite(n, columns, list, v2e, e2e, b2e, code))
 }
 
 // The half-edge after a half-edge, in its element or along the border.
-pub fn next(n: u32, list: &[u32], v2e: &[u32], e2e: &[u32], b2e: &[u32], code: u32) -> Answer
-    ensures { λ r. ⌜ numbers r ≡ nextAnswer (mesh n (now (list .entry)) (now (v2e .entry)) (now (e2e .entry)) (now (b2e .entry))) code ⌝ }
+pub fn next(
+    n: u32,
+    columns: u32,
+    list: &[u32],
+    v2e: &[u32],
+    e2e: &[u32],
+    b2e: &[u32],
+    code: u32,
+) -> Answer
+    ensures { λ r. ⌜ numbers r ≡ nextAnswer (mesh n columns (now (list .entry)) (now (v2e .entry)) (now (e2e .entry)) (now (b2e .entry))) code ⌝ }
 {
-    let refusal = half_edge_refusal(n, list, v2e, e2e, b2e, code);
+    let refusal = half_edge_refusal(n, columns, list, v2e, e2e, b2e, code);
     if 0 < refusal {
         return refuse(refusal);
     }
     if is_border(code) {
-        return found(border_next(n, list, v2e, e2e, b2e, code));
+        return found(border_next(n, columns, list, v2e, e2e, b2e, code));
     }
     give(next_code(list, code))
 }
 
 // The side before a side in its element.
-pub fn previous(n: u32, list: &[u32], v2e: &[u32], e2e: &[u32], b2e: &[u32], code: u32) -> Answer
-    ensures { λ r. ⌜ numbers r ≡ previousAnswer (mesh n (now (list .entry)) (now (v2e .entry)) (now (e2e .entry)) (now (b2e .entry))) code ⌝ }
+pub fn previous(
+    n: u32,
+    columns: u32,
+    list: &[u32],
+    v2e: &[u32],
+    e2e: &[u32],
+    b2e: &[u32],
+    code: u32,
+) -> Answer
+    ensures { λ r. ⌜ numbers r ≡ previousAnswer (mesh n columns (now (list .entry)) (now (v2e .entry)) (now (e2e .entry)) (now (b2e .entry))) code ⌝ }
 {
-    let refusal = side_refusal(n, list, v2e, e2e, b2e, code);
+    let refusal = side_refusal(n, columns, list, v2e, e2e, b2e, code);
     if 0 < refusal {
         return refuse(refusal);
     }
@@ -96,10 +120,18 @@ pub fn previous(n: u32, list: &[u32], v2e: &[u32], e2e: &[u32], b2e: &[u32], cod
 }
 
 // The element of a side.
-pub fn element(n: u32, list: &[u32], v2e: &[u32], e2e: &[u32], b2e: &[u32], code: u32) -> Answer
-    ensures { λ r. ⌜ numbers r ≡ elementAnswer (mesh n (now (list .entry)) (now (v2e .entry)) (now (e2e .entry)) (now (b2e .entry))) code ⌝ }
+pub fn element(
+    n: u32,
+    columns: u32,
+    list: &[u32],
+    v2e: &[u32],
+    e2e: &[u32],
+    b2e: &[u32],
+    code: u32,
+) -> Answer
+    ensures { λ r. ⌜ numbers r ≡ elementAnswer (mesh n columns (now (list .entry)) (now (v2e .entry)) (now (e2e .entry)) (now (b2e .entry))) code ⌝ }
 {
-    let refusal = side_refusal(n, list, v2e, e2e, b2e, code);
+    let refusal = side_refusal(n, columns, list, v2e, e2e, b2e, code);
     if 0 < refusal {
         return refuse(refusal);
     }
@@ -107,42 +139,66 @@ pub fn element(n: u32, list: &[u32], v2e: &[u32], e2e: &[u32], b2e: &[u32], code
 }
 
 // The vertex from which a half-edge runs.
-pub fn origin(n: u32, list: &[u32], v2e: &[u32], e2e: &[u32], b2e: &[u32], code: u32) -> Answer
-    ensures { λ r. ⌜ numbers r ≡ originAnswer (mesh n (now (list .entry)) (now (v2e .entry)) (now (e2e .entry)) (now (b2e .entry))) code ⌝ }
+pub fn origin(
+    n: u32,
+    columns: u32,
+    list: &[u32],
+    v2e: &[u32],
+    e2e: &[u32],
+    b2e: &[u32],
+    code: u32,
+) -> Answer
+    ensures { λ r. ⌜ numbers r ≡ originAnswer (mesh n columns (now (list .entry)) (now (v2e .entry)) (now (e2e .entry)) (now (b2e .entry))) code ⌝ }
 {
-    let refusal = half_edge_refusal(n, list, v2e, e2e, b2e, code);
+    let refusal = half_edge_refusal(n, columns, list, v2e, e2e, b2e, code);
     if 0 < refusal {
         return refuse(refusal);
     }
     if is_border(code) {
-        return found(border_origin(n, list, v2e, e2e, b2e, code));
+        return found(border_origin(n, columns, list, v2e, e2e, b2e, code));
     }
-    found(read_origin(n, list, v2e, e2e, b2e, code))
+    found(read_origin(n, columns, list, v2e, e2e, b2e, code))
 }
 
 // The vertex to which a half-edge runs.
-pub fn destination(n: u32, list: &[u32], v2e: &[u32], e2e: &[u32], b2e: &[u32], code: u32) -> Answer
-    ensures { λ r. ⌜ numbers r ≡ destinationAnswer (mesh n (now (list .entry)) (now (v2e .entry)) (now (e2e .entry)) (now (b2e .entry))) code ⌝ }
+pub fn destination(
+    n: u32,
+    columns: u32,
+    list: &[u32],
+    v2e: &[u32],
+    e2e: &[u32],
+    b2e: &[u32],
+    code: u32,
+) -> Answer
+    ensures { λ r. ⌜ numbers r ≡ destinationAnswer (mesh n columns (now (list .entry)) (now (v2e .entry)) (now (e2e .entry)) (now (b2e .entry))) code ⌝ }
 {
-    let refusal = half_edge_refusal(n, list, v2e, e2e, b2e, code);
+    let refusal = half_edge_refusal(n, columns, list, v2e, e2e, b2e, code);
     if 0 < refusal {
         return refuse(refusal);
     }
     if is_border(code) {
-        return found(border_destination(n, list, v2e, e2e, b2e, code));
+        return found(border_destination(n, columns, list, v2e, e2e, b2e, code));
     }
-    found(read_destination(n, list, v2e, e2e, b2e, code))
+    found(read_destination(n, columns, list, v2e, e2e, b2e, code))
 }
 
 // The element across a side, 0 at a border.
-pub fn across(n: u32, list: &[u32], v2e: &[u32], e2e: &[u32], b2e: &[u32], code: u32) -> Answer
-    ensures { λ r. ⌜ numbers r ≡ acrossAnswer (mesh n (now (list .entry)) (now (v2e .entry)) (now (e2e .entry)) (now (b2e .entry))) code ⌝ }
+pub fn across(
+    n: u32,
+    columns: u32,
+    list: &[u32],
+    v2e: &[u32],
+    e2e: &[u32],
+    b2e: &[u32],
+    code: u32,
+) -> Answer
+    ensures { λ r. ⌜ numbers r ≡ acrossAnswer (mesh n columns (now (list .entry)) (now (v2e .entry)) (now (e2e .entry)) (now (b2e .entry))) code ⌝ }
 {
-    let refusal = side_refusal(n, list, v2e, e2e, b2e, code);
+    let refusal = side_refusal(n, columns, list, v2e, e2e, b2e, code);
     if 0 < refusal {
         return refuse(refusal);
     }
-    let opposed = read_opposite(n, list, v2e, e2e, b2e, code);
+    let opposed = read_opposite(n, columns, list, v2e, e2e, b2e, code);
     let Read::Value(t) = opposed else {
         return refuse(12);
     };
@@ -155,15 +211,16 @@ pub fn across(n: u32, list: &[u32], v2e: &[u32], e2e: &[u32], b2e: &[u32], code:
 // 1 for a border half-edge, 0 for a side.
 pub fn halfedge_is_border(
     n: u32,
+    columns: u32,
     list: &[u32],
     v2e: &[u32],
     e2e: &[u32],
     b2e: &[u32],
     code: u32,
 ) -> Answer
-    ensures { λ r. ⌜ numbers r ≡ halfEdgeBorderAnswer (mesh n (now (list .entry)) (now (v2e .entry)) (now (e2e .entry)) (now (b2e .entry))) code ⌝ }
+    ensures { λ r. ⌜ numbers r ≡ halfEdgeBorderAnswer (mesh n columns (now (list .entry)) (now (v2e .entry)) (now (e2e .entry)) (now (b2e .entry))) code ⌝ }
 {
-    let refusal = half_edge_refusal(n, list, v2e, e2e, b2e, code);
+    let refusal = half_edge_refusal(n, columns, list, v2e, e2e, b2e, code);
     if 0 < refusal {
         return refuse(refusal);
     }
@@ -173,19 +230,20 @@ pub fn halfedge_is_border(
 // 1 for a vertex whose V2e entry is a border, 2 for one whose entry is 0, 0 for another.
 pub fn vertex_is_border(
     n: u32,
+    columns: u32,
     list: &[u32],
     v2e: &[u32],
     e2e: &[u32],
     b2e: &[u32],
     v: u32,
 ) -> Answer
-    ensures { λ r. ⌜ numbers r ≡ vertexBorderAnswer (mesh n (now (list .entry)) (now (v2e .entry)) (now (e2e .entry)) (now (b2e .entry))) v ⌝ }
+    ensures { λ r. ⌜ numbers r ≡ vertexBorderAnswer (mesh n columns (now (list .entry)) (now (v2e .entry)) (now (e2e .entry)) (now (b2e .entry))) v ⌝ }
 {
-    let refusal = vertex_refusal(n, list, v2e, e2e, b2e, v);
+    let refusal = vertex_refusal(n, columns, list, v2e, e2e, b2e, v);
     if 0 < refusal {
         return refuse(refusal);
     }
-    let entry = read_vertex_entry(n, list, v2e, e2e, b2e, v);
+    let entry = read_vertex_entry(n, columns, list, v2e, e2e, b2e, v);
     let Read::Value(code) = entry else {
         return refuse(12);
     };

@@ -1,6 +1,7 @@
 -- A query's mesh, and what the checks before its answer find.
 -- Assumes nothing.
 use mathlib.Core.Bool.{Bool}
+use mathlib.Core.Logic.{_⊎_}
 use mathlib.Core.List.{List}
 use mathlib.Core.Path.{_≡_}
 use Prim.Native.Nat.{ℕ, zero, suc, _*_, _≤_}
@@ -10,13 +11,14 @@ use Rattle.rules.specs.Elements.{maxElement, elements}
 use Rattle.rules.specs.Refusals.{Answer, refused}
 use Rattle.rules.specs.Queries.{Mesh, asked, defined}
 
-abbrev pub mesh : ℕ → List ℕ → List ℕ → List ℕ → List ℕ → Mesh
-mesh n list v2e e2e b2e = record { n = n; list = list; vertices = v2e; opposites = e2e; border = b2e }
+abbrev pub mesh : ℕ → ℕ → List ℕ → List ℕ → List ℕ → List ℕ → Mesh
+mesh n columns list v2e e2e b2e = record { n = n; columns = columns; list = list; vertices = v2e; opposites = e2e; border = b2e }
 
 -- what checks 1 and 2 leave
 pub record Fit (M : Mesh) : Type 0 where
   pub vertices : length (M .vertices) ≡ M .n
-  pub opposites : length (M .opposites) ≡ length (M .list)
+  pub columns : (M .columns ≡ 3) ⊎ (M .columns ≡ 4)
+  pub opposites : length (M .opposites) ≡ M .columns * elements (M .list)
   pub border : length (M .border) ≤ 4 * elements (M .list)
   pub elements : elements (M .list) ≤ maxElement
 

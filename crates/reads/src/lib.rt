@@ -1,8 +1,9 @@
 // What a query reads from the tables: a value that names something, or a broken entry.
 use halfedge::HalfEdge;
+use halfedge::e2e_slot;
 use halfedge::element_of;
 use halfedge::is_border;
-use halfedge::slot_of;
+use halfedge::number_of;
 use halfedge::wide;
 use sides::destination_of;
 use sides::is_side;
@@ -34,8 +35,16 @@ fn checked(valid: bool, x: u32) -> Read
     Read::Value(x)
 }
 
-pub fn is_vertex(n: u32, list: &[u32], v2e: &[u32], e2e: &[u32], b2e: &[u32], v: u32) -> bool
-    ensures { λ r. ⌜ r ≡ isVertex (mesh n (now (list .entry)) (now (v2e .entry)) (now (e2e .entry)) (now (b2e .entry))) v ⌝ }
+pub fn is_vertex(
+    n: u32,
+    columns: u32,
+    list: &[u32],
+    v2e: &[u32],
+    e2e: &[u32],
+    b2e: &[u32],
+    v: u32,
+) -> bool
+    ensures { λ r. ⌜ r ≡ isVertex (mesh n columns (now (list .entry)) (now (v2e .entry)) (now (e2e .entry)) (now (b2e .entry))) v ⌝ }
 {
     if v < 1 {
         return false;
@@ -52,8 +61,16 @@ pub fn is_border_number(b2e: &[u32], b: u32) -> bool
     wide(b) <= b2e.len()
 }
 
-fn is_border_code(n: u32, list: &[u32], v2e: &[u32], e2e: &[u32], b2e: &[u32], code: u32) -> bool
-    ensures { λ r. ⌜ r ≡ isBorderCode (mesh n (now (list .entry)) (now (v2e .entry)) (now (e2e .entry)) (now (b2e .entry))) code ⌝ }
+fn is_border_code(
+    n: u32,
+    columns: u32,
+    list: &[u32],
+    v2e: &[u32],
+    e2e: &[u32],
+    b2e: &[u32],
+    code: u32,
+) -> bool
+    ensures { λ r. ⌜ r ≡ isBorderCode (mesh n columns (now (list .entry)) (now (v2e .entry)) (now (e2e .entry)) (now (b2e .entry))) code ⌝ }
 {
     if !is_border(code) {
         return false;
@@ -61,44 +78,73 @@ fn is_border_code(n: u32, list: &[u32], v2e: &[u32], e2e: &[u32], b2e: &[u32], c
     is_border_number(b2e, element_of(code))
 }
 
-pub fn is_half_edge(n: u32, list: &[u32], v2e: &[u32], e2e: &[u32], b2e: &[u32], code: u32) -> bool
-    ensures { λ r. ⌜ r ≡ isHalfEdge (mesh n (now (list .entry)) (now (v2e .entry)) (now (e2e .entry)) (now (b2e .entry))) code ⌝ }
+pub fn is_half_edge(
+    n: u32,
+    columns: u32,
+    list: &[u32],
+    v2e: &[u32],
+    e2e: &[u32],
+    b2e: &[u32],
+    code: u32,
+) -> bool
+    ensures { λ r. ⌜ r ≡ isHalfEdge (mesh n columns (now (list .entry)) (now (v2e .entry)) (now (e2e .entry)) (now (b2e .entry))) code ⌝ }
 {
     if is_side(list, code) {
         return true;
     }
-    is_border_code(n, list, v2e, e2e, b2e, code)
+    is_border_code(n, columns, list, v2e, e2e, b2e, code)
 }
 
 // What V2e may hold of a vertex: 0 where it is unused, or a half-edge.
-fn is_entry(n: u32, list: &[u32], v2e: &[u32], e2e: &[u32], b2e: &[u32], code: u32) -> bool
-    ensures { λ r. ⌜ r ≡ isEntry (mesh n (now (list .entry)) (now (v2e .entry)) (now (e2e .entry)) (now (b2e .entry))) code ⌝ }
+fn is_entry(
+    n: u32,
+    columns: u32,
+    list: &[u32],
+    v2e: &[u32],
+    e2e: &[u32],
+    b2e: &[u32],
+    code: u32,
+) -> bool
+    ensures { λ r. ⌜ r ≡ isEntry (mesh n columns (now (list .entry)) (now (v2e .entry)) (now (e2e .entry)) (now (b2e .entry))) code ⌝ }
 {
     if code == 0 {
         return true;
     }
-    is_half_edge(n, list, v2e, e2e, b2e, code)
+    is_half_edge(n, columns, list, v2e, e2e, b2e, code)
 }
 
-pub fn read_opposite(n: u32, list: &[u32], v2e: &[u32], e2e: &[u32], b2e: &[u32], s: u32) -> Read
-    requires { ⌜ Fit (mesh n (now list) (now v2e) (now e2e) (now b2e)) × Side (now list) s ⌝ }
-    ensures { λ r. ⌜ readOf r ≡ readOpposite (mesh n (now (list .entry)) (now (v2e .entry)) (now (e2e .entry)) (now (b2e .entry))) s ⌝ }
+pub fn read_opposite(
+    n: u32,
+    columns: u32,
+    list: &[u32],
+    v2e: &[u32],
+    e2e: &[u32],
+    b2e: &[u32],
+    s: u32,
+) -> Read
+    requires { ⌜ Fit (mesh n columns (now list) (now v2e) (now e2e) (now b2e)) × Side (now list) s ⌝ }
+    ensures { λ r. ⌜ readOf r ≡ readOpposite (mesh n columns (now (list .entry)) (now (v2e .entry)) (now (e2e .entry)) (now (b2e .entry))) s ⌝ }
 {
-    let opposed = e2e[slot_of(s)];
-    let valid = is_half_edge(n, list, v2e, e2e, b2e, opposed);
+    // A fourth side has no entry in three columns.
+    if columns < number_of(s) {
+        return Read::Broken;
+    }
+    let opposed = e2e[e2e_slot(columns, s)];
+    let valid = is_half_edge(n, columns, list, v2e, e2e, b2e, opposed);
     checked(valid, opposed)
 }
 
 pub fn read_border_side(
     n: u32,
+    columns: u32,
     list: &[u32],
     v2e: &[u32],
     e2e: &[u32],
     b2e: &[u32],
     code: u32,
 ) -> Read
-    requires { ⌜ T (isBorderCode (mesh n (now list) (now v2e) (now e2e) (now b2e)) code) ⌝ }
-    ensures { λ r. ⌜ readOf r ≡ readBorderSide (mesh n (now (list .entry)) (now (v2e .entry)) (now (e2e .entry)) (now (b2e .entry))) code ⌝ }
+    requires { ⌜ T (isBorderCode (mesh n columns (now list) (now v2e) (now e2e) (now b2e)) code) ⌝ }
+    ensures { λ r. ⌜ readOf r ≡ readBorderSide (mesh n columns (now (list .entry)) (now (v2e .entry)) (now (e2e .entry)) (now (b2e .entry))) code ⌝ }
 {
     let side = b2e[wide(element_of(code)) - 1];
     let valid = is_side(list, side);
@@ -107,88 +153,130 @@ pub fn read_border_side(
 
 pub fn read_vertex_entry(
     n: u32,
+    columns: u32,
     list: &[u32],
     v2e: &[u32],
     e2e: &[u32],
     b2e: &[u32],
     v: u32,
 ) -> Read
-    requires { ⌜ Fit (mesh n (now list) (now v2e) (now e2e) (now b2e)) × T (isVertex (mesh n (now list) (now v2e) (now e2e) (now b2e)) v) ⌝ }
-    ensures { λ r. ⌜ readOf r ≡ readVertexEntry (mesh n (now (list .entry)) (now (v2e .entry)) (now (e2e .entry)) (now (b2e .entry))) v ⌝ }
+    requires { ⌜ Fit (mesh n columns (now list) (now v2e) (now e2e) (now b2e)) × T (isVertex (mesh n columns (now list) (now v2e) (now e2e) (now b2e)) v) ⌝ }
+    ensures { λ r. ⌜ readOf r ≡ readVertexEntry (mesh n columns (now (list .entry)) (now (v2e .entry)) (now (e2e .entry)) (now (b2e .entry))) v ⌝ }
 {
     let code = v2e[wide(v) - 1];
-    let valid = is_entry(n, list, v2e, e2e, b2e, code);
+    let valid = is_entry(n, columns, list, v2e, e2e, b2e, code);
     checked(valid, code)
 }
 
-pub fn read_origin(n: u32, list: &[u32], v2e: &[u32], e2e: &[u32], b2e: &[u32], s: u32) -> Read
+pub fn read_origin(
+    n: u32,
+    columns: u32,
+    list: &[u32],
+    v2e: &[u32],
+    e2e: &[u32],
+    b2e: &[u32],
+    s: u32,
+) -> Read
     requires { ⌜ Side (now list) s ⌝ }
-    ensures { λ r. ⌜ readOf r ≡ readOrigin (mesh n (now (list .entry)) (now (v2e .entry)) (now (e2e .entry)) (now (b2e .entry))) s ⌝ }
+    ensures { λ r. ⌜ readOf r ≡ readOrigin (mesh n columns (now (list .entry)) (now (v2e .entry)) (now (e2e .entry)) (now (b2e .entry))) s ⌝ }
 {
     let v = origin_of(list, s);
-    let valid = is_vertex(n, list, v2e, e2e, b2e, v);
+    let valid = is_vertex(n, columns, list, v2e, e2e, b2e, v);
     checked(valid, v)
 }
 
-pub fn read_destination(n: u32, list: &[u32], v2e: &[u32], e2e: &[u32], b2e: &[u32], s: u32) -> Read
+pub fn read_destination(
+    n: u32,
+    columns: u32,
+    list: &[u32],
+    v2e: &[u32],
+    e2e: &[u32],
+    b2e: &[u32],
+    s: u32,
+) -> Read
     requires { ⌜ Side (now list) s ⌝ }
-    ensures { λ r. ⌜ readOf r ≡ readDestination (mesh n (now (list .entry)) (now (v2e .entry)) (now (e2e .entry)) (now (b2e .entry))) s ⌝ }
+    ensures { λ r. ⌜ readOf r ≡ readDestination (mesh n columns (now (list .entry)) (now (v2e .entry)) (now (e2e .entry)) (now (b2e .entry))) s ⌝ }
 {
     let v = destination_of(list, s);
-    let valid = is_vertex(n, list, v2e, e2e, b2e, v);
+    let valid = is_vertex(n, columns, list, v2e, e2e, b2e, v);
     checked(valid, v)
 }
 
 // The origin of a border half-edge.
-pub fn border_origin(n: u32, list: &[u32], v2e: &[u32], e2e: &[u32], b2e: &[u32], code: u32) -> Read
-    requires { ⌜ T (isBorderCode (mesh n (now list) (now v2e) (now e2e) (now b2e)) code) ⌝ }
-    ensures { λ r. ⌜ (let M = mesh n (now (list .entry)) (now (v2e .entry)) (now (e2e .entry)) (now (b2e .entry)) in readOf r ≡ andThen (readBorderSide M code) (readDestination M)) ⌝ }
-{
-    let side = read_border_side(n, list, v2e, e2e, b2e, code);
-    let Read::Value(s) = side else {
-        return Read::Broken;
-    };
-    read_destination(n, list, v2e, e2e, b2e, s)
-}
-
-pub fn border_destination(
+pub fn border_origin(
     n: u32,
+    columns: u32,
     list: &[u32],
     v2e: &[u32],
     e2e: &[u32],
     b2e: &[u32],
     code: u32,
 ) -> Read
-    requires { ⌜ T (isBorderCode (mesh n (now list) (now v2e) (now e2e) (now b2e)) code) ⌝ }
-    ensures { λ r. ⌜ (let M = mesh n (now (list .entry)) (now (v2e .entry)) (now (e2e .entry)) (now (b2e .entry)) in readOf r ≡ andThen (readBorderSide M code) (readOrigin M)) ⌝ }
+    requires { ⌜ T (isBorderCode (mesh n columns (now list) (now v2e) (now e2e) (now b2e)) code) ⌝ }
+    ensures { λ r. ⌜ (let M = mesh n columns (now (list .entry)) (now (v2e .entry)) (now (e2e .entry)) (now (b2e .entry)) in readOf r ≡ andThen (readBorderSide M code) (readDestination M)) ⌝ }
 {
-    let side = read_border_side(n, list, v2e, e2e, b2e, code);
+    let side = read_border_side(n, columns, list, v2e, e2e, b2e, code);
     let Read::Value(s) = side else {
         return Read::Broken;
     };
-    read_origin(n, list, v2e, e2e, b2e, s)
+    read_destination(n, columns, list, v2e, e2e, b2e, s)
+}
+
+pub fn border_destination(
+    n: u32,
+    columns: u32,
+    list: &[u32],
+    v2e: &[u32],
+    e2e: &[u32],
+    b2e: &[u32],
+    code: u32,
+) -> Read
+    requires { ⌜ T (isBorderCode (mesh n columns (now list) (now v2e) (now e2e) (now b2e)) code) ⌝ }
+    ensures { λ r. ⌜ (let M = mesh n columns (now (list .entry)) (now (v2e .entry)) (now (e2e .entry)) (now (b2e .entry)) in readOf r ≡ andThen (readBorderSide M code) (readOrigin M)) ⌝ }
+{
+    let side = read_border_side(n, columns, list, v2e, e2e, b2e, code);
+    let Read::Value(s) = side else {
+        return Read::Broken;
+    };
+    read_origin(n, columns, list, v2e, e2e, b2e, s)
 }
 
 // The border half-edge after a border half-edge.
-pub fn border_next(n: u32, list: &[u32], v2e: &[u32], e2e: &[u32], b2e: &[u32], code: u32) -> Read
-    requires { ⌜ (let M = mesh n (now list) (now v2e) (now e2e) (now b2e) in Fit M × T (isBorderCode M code)) ⌝ }
-    ensures { λ r. ⌜ readOf r ≡ borderNext (mesh n (now (list .entry)) (now (v2e .entry)) (now (e2e .entry)) (now (b2e .entry))) code ⌝ }
+pub fn border_next(
+    n: u32,
+    columns: u32,
+    list: &[u32],
+    v2e: &[u32],
+    e2e: &[u32],
+    b2e: &[u32],
+    code: u32,
+) -> Read
+    requires { ⌜ (let M = mesh n columns (now list) (now v2e) (now e2e) (now b2e) in Fit M × T (isBorderCode M code)) ⌝ }
+    ensures { λ r. ⌜ readOf r ≡ borderNext (mesh n columns (now (list .entry)) (now (v2e .entry)) (now (e2e .entry)) (now (b2e .entry))) code ⌝ }
 {
-    let end = border_destination(n, list, v2e, e2e, b2e, code);
+    let end = border_destination(n, columns, list, v2e, e2e, b2e, code);
     let Read::Value(v) = end else {
         return Read::Broken;
     };
     let following = v2e[wide(v) - 1];
-    let valid = is_border_code(n, list, v2e, e2e, b2e, following);
+    let valid = is_border_code(n, columns, list, v2e, e2e, b2e, following);
     checked(valid, following)
 }
 
 // The side with which the ring of a vertex begins; 0 where the vertex is unused.
-pub fn start_side(n: u32, list: &[u32], v2e: &[u32], e2e: &[u32], b2e: &[u32], v: u32) -> Read
-    requires { ⌜ (let M = mesh n (now list) (now v2e) (now e2e) (now b2e) in Fit M × T (isVertex M v)) ⌝ }
-    ensures { λ r. ⌜ readOf r ≡ startSide (mesh n (now (list .entry)) (now (v2e .entry)) (now (e2e .entry)) (now (b2e .entry))) v ⌝ }
+pub fn start_side(
+    n: u32,
+    columns: u32,
+    list: &[u32],
+    v2e: &[u32],
+    e2e: &[u32],
+    b2e: &[u32],
+    v: u32,
+) -> Read
+    requires { ⌜ (let M = mesh n columns (now list) (now v2e) (now e2e) (now b2e) in Fit M × T (isVertex M v)) ⌝ }
+    ensures { λ r. ⌜ readOf r ≡ startSide (mesh n columns (now (list .entry)) (now (v2e .entry)) (now (e2e .entry)) (now (b2e .entry))) v ⌝ }
 {
-    let entry = read_vertex_entry(n, list, v2e, e2e, b2e, v);
+    let entry = read_vertex_entry(n, columns, list, v2e, e2e, b2e, v);
     let Read::Value(first) = entry else {
         return Read::Broken;
     };
@@ -198,7 +286,7 @@ pub fn start_side(n: u32, list: &[u32], v2e: &[u32], e2e: &[u32], b2e: &[u32], v
     if !is_border(first) {
         return Read::Value(first);
     }
-    let side = read_border_side(n, list, v2e, e2e, b2e, first);
+    let side = read_border_side(n, columns, list, v2e, e2e, b2e, first);
     let Read::Value(s) = side else {
         return Read::Broken;
     };
@@ -209,6 +297,7 @@ pub fn start_side(n: u32, list: &[u32], v2e: &[u32], e2e: &[u32], b2e: &[u32], v
 // The side after s in the ring that began with a start side; 0 where the ring stops.
 pub fn ring_next(
     n: u32,
+    columns: u32,
     list: &[u32],
     v2e: &[u32],
     e2e: &[u32],
@@ -216,10 +305,10 @@ pub fn ring_next(
     start: u32,
     s: u32,
 ) -> Read
-    requires { ⌜ Fit (mesh n (now list) (now v2e) (now e2e) (now b2e)) × Side (now list) s ⌝ }
-    ensures { λ r. ⌜ readOf r ≡ onward (mesh n (now (list .entry)) (now (v2e .entry)) (now (e2e .entry)) (now (b2e .entry))) start s ⌝ }
+    requires { ⌜ Fit (mesh n columns (now list) (now v2e) (now e2e) (now b2e)) × Side (now list) s ⌝ }
+    ensures { λ r. ⌜ readOf r ≡ onward (mesh n columns (now (list .entry)) (now (v2e .entry)) (now (e2e .entry)) (now (b2e .entry))) start s ⌝ }
 {
-    let across = read_opposite(n, list, v2e, e2e, b2e, s);
+    let across = read_opposite(n, columns, list, v2e, e2e, b2e, s);
     let Read::Value(t) = across else {
         return Read::Broken;
     };
@@ -236,6 +325,7 @@ pub fn ring_next(
 // The border number after x in the loop that began with b; 0 where the loop closes.
 pub fn loop_next(
     n: u32,
+    columns: u32,
     list: &[u32],
     v2e: &[u32],
     e2e: &[u32],
@@ -243,11 +333,11 @@ pub fn loop_next(
     b: u32,
     x: u32,
 ) -> Read
-    requires { ⌜ Fit (mesh n (now list) (now v2e) (now e2e) (now b2e)) × ((1 ≤ x) × (x ≤ length (now b2e))) ⌝ }
-    ensures { λ r. ⌜ readOf r ≡ loopNext (mesh n (now (list .entry)) (now (v2e .entry)) (now (e2e .entry)) (now (b2e .entry))) b x ⌝ }
+    requires { ⌜ Fit (mesh n columns (now list) (now v2e) (now e2e) (now b2e)) × ((1 ≤ x) × (x ≤ length (now b2e))) ⌝ }
+    ensures { λ r. ⌜ readOf r ≡ loopNext (mesh n columns (now (list .entry)) (now (v2e .entry)) (now (e2e .entry)) (now (b2e .entry))) b x ⌝ }
 {
     let border = HalfEdge::border(x);
-    let following = border_next(n, list, v2e, e2e, b2e, border.code);
+    let following = border_next(n, columns, list, v2e, e2e, b2e, border.code);
     let Read::Value(code) = following else {
         return Read::Broken;
     };
@@ -259,11 +349,19 @@ pub fn loop_next(
 }
 
 // The vertex before the ring of v: where V2e of v is a border, that border half-edge's destination, else 0.
-pub fn prior_vertex(n: u32, list: &[u32], v2e: &[u32], e2e: &[u32], b2e: &[u32], v: u32) -> Read
-    requires { ⌜ (let M = mesh n (now list) (now v2e) (now e2e) (now b2e) in Fit M × T (isVertex M v)) ⌝ }
-    ensures { λ r. ⌜ readOf r ≡ priorVertex (mesh n (now (list .entry)) (now (v2e .entry)) (now (e2e .entry)) (now (b2e .entry))) v ⌝ }
+pub fn prior_vertex(
+    n: u32,
+    columns: u32,
+    list: &[u32],
+    v2e: &[u32],
+    e2e: &[u32],
+    b2e: &[u32],
+    v: u32,
+) -> Read
+    requires { ⌜ (let M = mesh n columns (now list) (now v2e) (now e2e) (now b2e) in Fit M × T (isVertex M v)) ⌝ }
+    ensures { λ r. ⌜ readOf r ≡ priorVertex (mesh n columns (now (list .entry)) (now (v2e .entry)) (now (e2e .entry)) (now (b2e .entry))) v ⌝ }
 {
-    let entry = read_vertex_entry(n, list, v2e, e2e, b2e, v);
+    let entry = read_vertex_entry(n, columns, list, v2e, e2e, b2e, v);
     let Read::Value(code) = entry else {
         return Read::Broken;
     };
@@ -273,5 +371,5 @@ pub fn prior_vertex(n: u32, list: &[u32], v2e: &[u32], e2e: &[u32], b2e: &[u32],
     if !is_border(code) {
         return Read::Value(0);
     }
-    border_destination(n, list, v2e, e2e, b2e, code)
+    border_destination(n, columns, list, v2e, e2e, b2e, code)
 }

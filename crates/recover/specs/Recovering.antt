@@ -2,34 +2,41 @@
 -- Assumes nothing.
 use mathlib.Core.Path.{_≡_, refl, ap, sym, subst, _∙_}
 use mathlib.Core.Bool.{Bool, true, false}
+use mathlib.Core.Logic.{_⊎_}
 use mathlib.Core.List.{List, _++_}
-use Prim.Native.Nat.{ℕ, _+_, _*_, _-_, _/_, _≤_}
+use Prim.Native.Nat.{ℕ, _+_, _*_, _-_, _≤_}
 use native.Mathlib.Omega.{arith}
-use lib.Dec.{T, leb, eqb, not-T}
+use lib.Dec.{T, eqb, not-T}
 use lib.ListN.{length, take, drop, replicate, length-take, length-drop, length-append}
 use Rattle.lists.specs.Tests.{both, same}
-use Rattle.lists.specs.TestLaws.{true-of, false-of, both-pass, means-eq}
-use lib.Seq.{take-at, drop-at, take-append-seam, take-all}
+use Rattle.lists.specs.TestLaws.{true-of, false-of, both-pass, means-both, means-either, means-eq}
+use lib.Seq.{take-at, drop-at, take-all}
 use Rattle.lists.specs.Parts.{part, part-take, put-take, put-drop, put-length}
-use Rattle.rules.specs.Elements.{elements, maxVertex, maxElement}
-use Rattle.rules.specs.Pairing.{sizesFit, unfitCorner, repeatedCorner, rowsFit}
-use Rattle.rules.specs.Tables.{borders, e2e, v2e}
-use Rattle.rules.specs.Recovery.{walkTo, walk}
+use Rattle.rules.specs.Elements.{elements}
+use Rattle.rules.specs.Pairing.{callSizes, sizesFit, unfitCorner, repeatedCorner, rowsFit}
+use Rattle.rules.specs.Tables.{borders, columns, e2e, v2e}
+use Rattle.rules.specs.Recovery.{widened, walkTo, walk}
 use Rattle.rules.specs.Refusals.{Answer, gives, refused, crowdedSide, alikeSide, unorderedVertex, listAnswer, accepts}
-use Rattle.rules.specs.Refusals.{recovers, callSizes, callLengths, lengthChecks, workAfter, after, onto, recoverAnswer, recoverList, recoverWork}
+use Rattle.rules.specs.Refusals.{recovers, recoverLengths, lengthChecks, workAfter, after, onto, recoverAnswer, recoverList, recoverWork}
 use Rattle.theory.specs.Answers.{past-check, ordered-answer}
-use Rattle.theory.specs.FitRows.{means-sizes}
+use Rattle.theory.specs.FitRows.{means-call-sizes, means-sizes}
 use Rattle.theory.specs.Deciding.{means-accepted}
+use Rattle.theory.specs.Columns.{three-or-four, length-widened, narrowed, narrow-wide}
 use Rattle.theory.specs.Built.{borders-bound}
 use Rattle.walk.specs.Layout.{Sizes, Walking}
 use Rattle.links.specs.Links.{LinkedBy}
 use Rattle.tabulate.specs.Results.{Sized, Tabulated}
-use Rattle.build.specs.Building.{holds-front, onto-full, sizes-known, lengths-known}
+use Rattle.buffers.specs.Whole.{onto-full}
+use Rattle.build.specs.Building.{holds-front, lengths-known}
 
--- the tables stand at the front
-pub record Filled (n : ℕ) (V2e E2e w w′ : List ℕ) : Type 0 where
+-- E2e has three columns or four
+abbrev pub EitherLong : ℕ → List ℕ → Type 0
+EitherLong m E2e = (length E2e ≡ 3 * m) ⊎ (length E2e ≡ 4 * m)
+
+-- the tables stand at the front, E2e in four columns
+pub record Filled (n m : ℕ) (V2e E2e w w′ : List ℕ) : Type 0 where
   pub vertices : take n w′ ≡ V2e
-  pub opposites : part n (length E2e) w′ ≡ E2e
+  pub opposites : part n (4 * m) w′ ≡ widened m E2e
   pub long : length w′ ≡ length w
 
 -- after counts, and with the same tables
@@ -62,16 +69,16 @@ module _ (n : ℕ) (L : List ℕ) where
       let z : _≡_ {A = ℕ} 0 1 = cc in omega arith))
 
   -- so the comparison decides recovery
-  pub agreement : (V2e E2e V2e′ E2e′ : List ℕ) → T (sizesFit n L) → walk V2e E2e ≡ L
+  pub agreement : (m : ℕ) (V2e E2e V2e′ E2e′ : List ℕ) → T (sizesFit n L) → walk V2e (widened m E2e) ≡ L
       → ((k e : ℕ) → listAnswer n L ≡ gives k e → (V2e′ ≡ v2e n L) × (E2e′ ≡ e2e L))
-      → agrees (listAnswer n L) V2e′ E2e′ V2e E2e ≡ recovers n V2e E2e
+      → agrees (listAnswer n L) V2e′ E2e′ V2e E2e ≡ recovers n m V2e E2e
   unfolding recovers
-  agreement V2e E2e V2e′ E2e′ t w h = go (listAnswer n L) refl
+  agreement m V2e E2e V2e′ E2e′ t w h = go (listAnswer n L) refl
     where
-      whole : recovers n V2e E2e ≡ both (accepts n L) (both (same (v2e n L) V2e) (same (e2e L) E2e))
+      whole : recovers n m V2e E2e ≡ both (accepts n L) (both (same (v2e n L) V2e) (same (e2e L) E2e))
       whole = ap (λ (X : List ℕ). both (accepts n X) (both (same (v2e n X) V2e) (same (e2e X) E2e))) w
 
-      go : (a : Answer) → listAnswer n L ≡ a → agrees a V2e′ E2e′ V2e E2e ≡ recovers n V2e E2e
+      go : (a : Answer) → listAnswer n L ≡ a → agrees a V2e′ E2e′ V2e E2e ≡ recovers n m V2e E2e
       go (gives k e) g =
           let (p, q) = h k e g in
           let y : accepts n L ≡ true = true-of (accepts n L) (counts-accepted t k e g) in
@@ -79,19 +86,26 @@ module _ (n : ℕ) (L : List ℕ) where
           ∙ sym (whole ∙ ap (λ (b : Bool). both b (both (same (v2e n L) V2e) (same (e2e L) E2e))) y)
       go (refused r a b) g = sym (whole ∙ ap (λ (c : Bool). both c (both (same (v2e n L) V2e) (same (e2e L) E2e))) (refusal-unaccepted r a b g))
 
--- the two tables copied in, one after the other
-pub filled : {n : ℕ} {V2e E2e w w₁ ys : List ℕ} → length V2e ≡ n → n + length E2e ≤ length w → w₁ ≡ onto V2e w
-    → ys ≡ onto E2e (part n (length w₁ - n) w₁) → Filled n V2e E2e w (take n w₁ ++ (ys ++ drop (length w₁ - n) (drop n w₁)))
-unfolding onto
-filled {n} {V2e} {E2e} {w} {w₁} {ys} l h e f =
-    let long : length w₁ ≡ length w = ap length e ∙ simp (length-append, length-drop) (omega arith) in
-    let room : n ≤ length w₁ = omega arith in
-    let many : length ys ≡ length w₁ - n = ap length f ∙ simp (length-append, length-drop, length-take, length-drop) (omega arith) in
-    record {
-      vertices = put-take n w₁ ys room (length w₁ - n) ∙ ap (take n) e ∙ take-at V2e (drop (length V2e) w) n l;
-      opposites = ap (take (length E2e)) (put-drop n w₁ ys room ∙ f) ∙ take-append-seam E2e _;
-      long = put-length n w₁ ys room many ∙ long;
-    }
+-- the two tables put in, one after the other
+module _ (n m : ℕ) (V2e E2e w w₁ : List ℕ) (l : length V2e ≡ n) (h : n + 4 * m ≤ length w) (e : w₁ ≡ onto V2e w) where
+  long-first : length w₁ ≡ length w
+  unfolding onto
+  long-first = ap length e ∙ simp (length-append, length-drop) (omega arith)
+
+  pub to-spread : length (take (n + 4 * m - n) (drop n w₁)) ≡ 4 * m
+  to-spread = simp (length-take, length-drop) (omega (arith, long-first))
+
+  pub filled : {ys : List ℕ} → ys ≡ widened m E2e → Filled n m V2e E2e w (take n w₁ ++ (ys ++ drop (n + 4 * m - n) (drop n w₁)))
+  unfolding onto
+  filled {ys} f =
+      let many : length ys ≡ 4 * m = ap length f ∙ length-widened m E2e in
+      let room : n ≤ length w₁ = omega (arith, long-first) in
+      let front : length (take n w₁) ≡ n = simp length-take (omega arith) in
+      record {
+        vertices = put-take n w₁ ys room (n + 4 * m - n) ∙ ap (take n) e ∙ take-at V2e (drop (length V2e) w) n l;
+        opposites = ap (take (4 * m)) (drop-at (take n w₁) _ n front) ∙ take-at ys _ (4 * m) many ∙ f;
+        long = simp (length-append, length-take, length-append, length-drop, length-drop) (omega (arith, long-first));
+      }
 
 -- the comparison after counts
 module _ {a : Answer} {k e : ℕ} (is : a ≡ gives k e) (V2e′ E2e′ V2e E2e : List ℕ) where
@@ -102,19 +116,18 @@ module _ {a : Answer} {k e : ℕ} (is : a ≡ gives k e) (V2e′ E2e′ V2e E2e 
   compares d f g = g ∙ sym (ap (λ (x : Answer). agrees x V2e′ E2e′ V2e E2e) is ∙ ap (λ (b : Bool). both b (same E2e′ E2e)) (sym d ∙ f))
 
 -- the list that was proposed was tried; what is kept behind the scratch buffer is still there
-pub record Tried (n : ℕ) (V2e E2e : List ℕ) (r : Bool) (w w′ : List ℕ) : Type 0 where
-  pub answer : r ≡ recovers n V2e E2e
-  pub rest : drop (n + 12 * elements E2e) w′ ≡ drop (n + 12 * elements E2e) w
+pub record Tried (n m : ℕ) (V2e E2e : List ℕ) (r : Bool) (w w′ : List ℕ) : Type 0 where
+  pub answer : r ≡ recovers n m V2e E2e
+  pub rest : drop (n + 12 * m) w′ ≡ drop (n + 12 * m) w
   pub long : length w′ ≡ length w
 
 pub record ToTry (n : ℕ) (V2e E2e L w : List ℕ) : Type 0 where
   pub sized : Sized n L (take (n + 12 * elements L) w)
   pub inside : n + 12 * elements L ≤ length w
-  pub as-long : length E2e ≡ length L
-  pub given : walk V2e E2e ≡ L
+  pub given : walk V2e (widened (elements L) E2e) ≡ L
 
 -- the scratch buffer s that the list's tables are tried in, and what is kept behind it; k is n as an index
-module _ {n k : ℕ} {V2e E2e L w : List ℕ} (p : ToTry n V2e E2e L w) (wide : k ≡ n) {a : Answer} {s : List ℕ}
+module _ {n k : ℕ} {V2e E2e L w : List ℕ} (p : ToTry n V2e E2e L w) (index : k ≡ n) {a : Answer} {s : List ℕ}
     (x : Tabulated n L (listAnswer n L) a (take (k + 12 * elements L - 0) w) s) where
   abbrev kept : List ℕ
   kept = drop (k + 12 * elements L - 0) w
@@ -125,47 +138,41 @@ module _ {n k : ℕ} {V2e E2e L w : List ℕ} (p : ToTry n V2e E2e L w) (wide : 
   scratch-long : length s ≡ n + 12 * elements L
   scratch-long = x .long ∙ simp length-take (omega (arith, p .inside))
 
-  sizes : (n ≤ maxVertex) × ((elements L ≤ maxElement) × (length L ≡ 4 * elements L))
-  sizes = means-sizes n L .says (p .sized .sizes)
-
-  as-many : elements E2e ≡ elements L
-  as-many = omega (arith, p .as-long)
-
   tried-long : length w′ ≡ length w
   tried-long = simp (length-append, length-drop) (omega (arith, scratch-long, p .inside))
 
-  module _ {j : ℕ} (again : j ≡ n) where
-    pub to-compare : j + length E2e ≤ length w′
-    to-compare = omega (arith, tried-long, p .inside, p .as-long, sizes .1 .1)
+  -- c is the number of the list's columns
+  module _ {j c : ℕ} (again : j ≡ n) (columned : c ≡ columns L) where
+    pub to-compare : (j + 4 * elements L ≤ length w′) × ((c ≡ 3) ⊎ (c ≡ 4))
+    to-compare = (omega (arith, tried-long, p .inside), subst (λ (i : ℕ). (i ≡ 3) ⊎ (i ≡ 4)) (sym columned) (three-or-four L))
 
-    pub tried : {r : Bool} → r ≡ agrees a (take j w′) (part j (length E2e) w′) V2e E2e → Tried n V2e E2e r w w′
+    pub tried : {r : Bool} → r ≡ agrees a (take j w′) (narrowed c (part j (4 * elements L) w′)) V2e E2e → Tried n (elements L) V2e E2e r w w′
     tried e =
         let z : k + 12 * elements L - 0 ≡ n + 12 * elements L = omega arith in
-        let bound : borders L ≤ 4 * elements L = omega (arith, borders-bound L, sizes) in
+        let (most, (few, fours)) = means-sizes n L .says (p .sized .sizes) in
+        let bound : borders L ≤ 4 * elements L = omega (arith, borders-bound L) in
+        let own = narrowed (columns L) (part n (4 * elements L) w′) in
         record {
           answer =
-              rw again at e
-              ∙ ap (λ (y : Answer). agrees y (take n w′) (part n (length E2e) w′) V2e E2e) (x .answer)
-              ∙ agreement n L V2e E2e (take n w′) (part n (length E2e) w′) (p .sized .sizes) (p .given)
+              rw (again, columned) at e
+              ∙ ap (λ (y : Answer). agrees y (take n w′) own V2e E2e) (x .answer)
+              ∙ agreement n L (elements L) V2e E2e (take n w′) own (p .sized .sizes) (p .given)
               (λ k c g.
               let h = holds-front n L s kept scratch-long bound (x .holds k c (x .answer ∙ g)) in
-              (h .vertices, ap (λ (i : ℕ). part n i w′) (p .as-long ∙ sizes .1 .1) ∙ h .opposites));
-          rest =
-              ap (λ (i : ℕ). drop (n + 12 * i) w′) as-many
-              ∙ drop-at s kept (n + 12 * elements L) scratch-long
-              ∙ ap (λ (i : ℕ). drop i w) (z ∙ ap (λ (i : ℕ). n + 12 * i) (sym as-many));
+              (h .vertices, ap (narrowed (columns L)) (h .opposites) ∙ narrow-wide L));
+          rest = drop-at s kept (n + 12 * elements L) scratch-long ∙ ap (λ (i : ℕ). drop i w) z;
           long = tried-long;
         }
 
 -- the list that the walk over the tables gives stands at the end
 pub record Walked (n m : ℕ) (V2e E2e w w′ : List ℕ) : Type 0 where
-  pub given : drop (n + 8 * m) w′ ≡ walk V2e E2e
+  pub given : drop (n + 8 * m) w′ ≡ walk V2e (widened m E2e)
   pub long : length w′ ≡ length w
 
-pub walk-filled : {n m : ℕ} {V2e E2e w w₁ w₂ w₃ : List ℕ} → Sizes n m w → length V2e ≡ n → length E2e ≡ 4 * m
-    → Filled n V2e E2e w w₁ → LinkedBy n m w₁ w₂ → Walking n m n w₂ w₃ → Walked n m V2e E2e w w₃
+pub walk-filled : {n m : ℕ} {V2e E2e w w₁ w₂ w₃ : List ℕ} → Sizes n m w → length V2e ≡ n
+    → Filled n m V2e E2e w w₁ → LinkedBy n m w₁ w₂ → Walking n m n w₂ w₃ → Walked n m V2e E2e w w₃
 unfolding walk
-walk-filled {n} {m} {V2e} {E2e} {w} {w₁} {w₂} {w₃} z l k x y q =
+walk-filled {n} {m} {V2e} {E2e} {w} {w₁} {w₂} {w₃} z l x y q =
     let o = n + 4 * m in
     let a : o ≤ length w₁ = omega (arith, x .long, z .long) in
     let b : o ≤ length w₂ = omega (arith, y .long, x .long, z .long) in
@@ -175,8 +182,8 @@ walk-filled {n} {m} {V2e} {E2e} {w} {w₁} {w₂} {w₃} z l k x y q =
       given =
           q .new
           ∙ ap (λ (X : List ℕ). walkTo X (part n (4 * m) w₂) n) (kept 0 n (omega arith) ∙ x .vertices)
-          ∙ ap (λ (X : List ℕ). walkTo V2e X n) (kept n (4 * m) (omega arith) ∙ ap (λ (i : ℕ). part n i w₁) (sym k) ∙ x .opposites)
-          ∙ ap (walkTo V2e E2e) (sym l);
+          ∙ ap (λ (X : List ℕ). walkTo V2e X n) (kept n (4 * m) (omega arith) ∙ x .opposites)
+          ∙ ap (walkTo V2e (widened m E2e)) (sym l);
       long = q .long ∙ y .long ∙ x .long;
     }
 
@@ -184,13 +191,13 @@ pub record Roomy (n m : ℕ) (V2e E2e list w : List ℕ) : Type 0 where
   pub vertices : n ≤ 1_000_000
   pub elements : m ≤ 1_000_000
   pub v2e-long : length V2e ≡ n
-  pub e2e-long : length E2e ≡ 4 * m
+  pub e2e-long : EitherLong m E2e
   pub list-long : length list ≡ 4 * m
   pub room : n + 16 * m ≤ length w
 
 -- the walk's list stands in the element list, and what was there behind the scratch buffer
 pub record Proposed (n m : ℕ) (V2e E2e list w list′ w′ : List ℕ) : Type 0 where
-  pub given : walk V2e E2e ≡ list′
+  pub given : walk V2e (widened m E2e) ≡ list′
   pub kept : part (n + 12 * m) (4 * m) w′ ≡ list
   pub long : length w′ ≡ length w
   pub list-long : length list′ ≡ 4 * m
@@ -199,6 +206,10 @@ pub record Proposed (n m : ℕ) (V2e E2e list w list′ w′ : List ℕ) : Type 
 module _ {n m : ℕ} {V2e E2e list w s : List ℕ} (r : Roomy n m V2e E2e list w) (walked : Walked n m V2e E2e (take (n + 12 * m - 0) w) s) where
   abbrev end : ℕ
   end = n + 12 * m
+
+  -- the walk's list
+  abbrev back : List ℕ
+  back = walk V2e (widened m E2e)
 
   scratch : length s ≡ end
   scratch = walked .long ∙ simp length-take (omega (arith, r .room))
@@ -213,7 +224,7 @@ module _ {n m : ℕ} {V2e E2e list w s : List ℕ} (r : Roomy n m V2e E2e list w
   inside : end ≤ length w₁
   inside = omega (arith, long₁, r .room)
 
-  walk-long : length (walk V2e E2e) ≡ 4 * m
+  walk-long : length back ≡ 4 * m
   walk-long = sym (ap length (walked .given)) ∙ simp length-drop (omega (arith, scratch))
 
   module _ {ys : List ℕ} (saved : ys ≡ onto list (part end (length w₁ - end) w₁)) where
@@ -232,13 +243,13 @@ module _ {n m : ℕ} {V2e E2e list w s : List ℕ} (r : Roomy n m V2e E2e list w
         let k : end - o ≡ 4 * m = omega arith in
         let long₂ : length w₂ ≡ length w = put-length end w₁ ys inside many ∙ long₁ in
         let front : take end w₂ ≡ s = put-take end w₁ ys inside (length w₁ - end) ∙ take-at s (drop (end - 0) w) end scratch in
-        let read : part o (end - o) w₂ ≡ walk V2e E2e =
+        let read : part o (end - o) w₂ ≡ back =
         ap (λ (i : ℕ). part o i w₂) k
         ∙ sym (part-take o (4 * m) end w₂ (omega arith) (omega (arith, long₂, r .room)))
         ∙ ap (part o (4 * m)) front
         ∙ ap (take (4 * m)) (walked .given)
-        ∙ take-all (4 * m) (walk V2e E2e) (omega (arith, walk-long)) in
-        let got : list′ ≡ walk V2e E2e = e ∙ ap (λ (X : List ℕ). onto X list) read ∙ onto-full (walk V2e E2e) list (walk-long ∙ sym (r .list-long)) in
+        ∙ take-all (4 * m) back (omega (arith, walk-long)) in
+        let got : list′ ≡ back = e ∙ ap (λ (X : List ℕ). onto X list) read ∙ onto-full back list (walk-long ∙ sym (r .list-long)) in
         record {
           given = sym got;
           kept = ap (take (4 * m)) (put-drop end w₁ ys inside ∙ saved) ∙ take-at list _ (4 * m) (r .list-long);
@@ -247,94 +258,92 @@ module _ {n m : ℕ} {V2e E2e list w s : List ℕ} (r : Roomy n m V2e E2e list w
         }
 
 -- the answer of check 10, and the element list after it
-pub record Recovered (n : ℕ) (V2e E2e : List ℕ) (a : Answer) (list list′ : List ℕ) : Type 0 where
-  pub answer : a ≡ elim (recovers n V2e E2e) [ true ↦ gives 0 0 | false ↦ refused 10 0 0 ]
-  pub left : list′ ≡ after a (walk V2e E2e) list
-
--- sizes go by the length alone
-pub sizes-same : (n : ℕ) (X Y : List ℕ) → length X ≡ length Y → T (sizesFit n X) → T (sizesFit n Y)
-unfolding sizesFit
-sizes-same n X Y e t =
-    subst (λ (k : ℕ). T (both (leb n maxVertex) (both (leb (k / 4) maxElement) (eqb k (4 * (k / 4)))))) e t
+pub record Recovered (n m : ℕ) (V2e E2e : List ℕ) (a : Answer) (list list′ : List ℕ) : Type 0 where
+  pub answer : a ≡ elim (recovers n m V2e E2e) [ true ↦ gives 0 0 | false ↦ refused 10 0 0 ]
+  pub left : list′ ≡ after a (walk V2e (widened m E2e)) list
 
 -- checks 1 and 2 found nothing
-pub record Passed (n : ℕ) (V2e E2e list work : List ℕ) : Type 0 where
-  pub sizes : callSizes n E2e list ≡ true
-  pub lengths : callLengths n E2e list V2e work ≡ true
+pub record Passed (n m : ℕ) (V2e E2e list work : List ℕ) : Type 0 where
+  pub sizes : callSizes n m list ≡ true
+  pub lengths : recoverLengths n m V2e E2e list work ≡ true
 
-module _ {n : ℕ} {V2e E2e list work : List ℕ} (q : Passed n V2e E2e list work) where
-  pub sized : T (sizesFit n E2e)
-  sized = sizes-known n E2e list (q .sizes) .0
-
-  pub roomy : Roomy n (elements E2e) V2e E2e list work
+module _ {n m : ℕ} {V2e E2e list work : List ℕ} (q : Passed n m V2e E2e list work) where
+  pub roomy : Roomy n m V2e E2e list work
+  unfolding recoverLengths
   roomy =
-      let z = means-sizes n E2e .says sized in
-      let l = lengths-known n E2e list V2e work (q .lengths) in
-      record { vertices = z .0; elements = z .1 .0; v2e-long = l .0; e2e-long = z .1 .1; list-long = l .1; room = l .2 }
+      let (most, (few, fours)) = means-call-sizes n m list .says (rw (q .sizes) tt) in
+      let (v, t, r) = lengths-known n m _ V2e work (q .lengths) in
+      let either-long = means-either (means-eq (length E2e) (3 * m)) (means-eq (length E2e) (4 * m)) in
+      let (l, e) = means-both (means-eq (length list) (4 * m)) either-long .says t in
+      record { vertices = most; elements = few; v2e-long = v; e2e-long = e; list-long = l; room = r }
 
-  module _ {list₁ work₁ : List ℕ} (p : Proposed n (elements E2e) V2e E2e list work list₁ work₁) where
+  module _ {list₁ work₁ : List ℕ} (p : Proposed n m V2e E2e list work list₁ work₁) where
+    pub as-many : elements list₁ ≡ m
+    as-many = omega (arith, p .list-long)
+
     pub to-try : ToTry n V2e E2e list₁ work₁
     to-try =
-        let as-many : elements list₁ ≡ elements E2e = omega (arith, p .list-long) in
-        let inside : n + 12 * elements list₁ ≤ length work₁ = omega (arith, p .long, roomy .room) in
-        let e : length E2e ≡ length list₁ = roomy .e2e-long ∙ sym (p .list-long) in
+        let inside : n + 12 * elements list₁ ≤ length work₁ = omega (arith, as-many, p .long, roomy .room) in
+        let sizes = means-sizes n list₁ .shows (roomy .vertices, (omega (arith, as-many, roomy .elements), omega (arith, p .list-long))) in
         record {
-          sized = record { sizes = sizes-same n E2e list₁ e sized; long = (simp length-take (omega arith)) };
+          sized = record { sizes = sizes; long = simp length-take (omega arith) };
           inside = inside;
-          as-long = e;
-          given = p .given;
+          given = ap (λ (i : ℕ). walk V2e (widened i E2e)) as-many ∙ p .given;
         }
 
-    module _ {b : Bool} {work₂ : List ℕ} (t : Tried n V2e E2e b work₁ work₂) where
+    module _ {b : Bool} {work₂ : List ℕ} (t : Tried n m V2e E2e b work₁ work₂) where
       abbrev kept-at : ℕ
-      kept-at = n + 12 * elements E2e
+      kept-at = n + 12 * m
 
       still-long : length work₂ ≡ length work
       still-long = t .long ∙ p .long
 
-      pub kept-inside : kept-at + 4 * elements E2e ≤ length work₂
+      pub kept-inside : kept-at + 4 * m ≤ length work₂
       kept-inside = omega (arith, still-long, roomy .room)
 
-      pub recovered-list : b ≡ true → {a : Answer} → a ≡ gives 0 0 → Recovered n V2e E2e a list list₁ × (length work₂ ≡ length work)
+      pub recovered-list : b ≡ true → {a : Answer} → a ≡ gives 0 0 → Recovered n m V2e E2e a list list₁ × (length work₂ ≡ length work)
       unfolding after
       recovered-list e g = (rw g (record { answer = rw (← t .answer, e); left = sym (p .given) }), still-long)
 
       -- the list that was there is put back
       pub recovered-none : b ≡ false → {a : Answer} → a ≡ refused 10 0 0
-          → {list₂ : List ℕ} → list₂ ≡ onto (part kept-at (kept-at + 4 * elements E2e - kept-at) work₂) list₁
-          → Recovered n V2e E2e a list list₂ × (length work₂ ≡ length work)
+          → {list₂ : List ℕ} → list₂ ≡ onto (part kept-at (kept-at + 4 * m - kept-at) work₂) list₁
+          → Recovered n m V2e E2e a list list₂ × (length work₂ ≡ length work)
       unfolding after
       recovered-none e g f =
-          let k : kept-at + 4 * elements E2e - kept-at ≡ 4 * elements E2e = omega arith in
-          let read : part kept-at (kept-at + 4 * elements E2e - kept-at) work₂ ≡ list =
-          ap (take (kept-at + 4 * elements E2e - kept-at)) (t .rest) ∙ ap (λ (i : ℕ). part kept-at i work₁) k ∙ p .kept in
+          let k : kept-at + 4 * m - kept-at ≡ 4 * m = omega arith in
+          let read : part kept-at (kept-at + 4 * m - kept-at) work₂ ≡ list =
+          ap (take (kept-at + 4 * m - kept-at)) (t .rest) ∙ ap (λ (i : ℕ). part kept-at i work₁) k ∙ p .kept in
           let back = f ∙ ap (λ (X : List ℕ). onto X list₁) read ∙ onto-full list list₁ (roomy .list-long ∙ sym (p .list-long)) in
           (rw g (record { answer = rw (← t .answer, e); left = back }), still-long)
 
 -- what the whole call answers and leaves
-abbrev pub Whole : ℕ → List ℕ → List ℕ → List ℕ → List ℕ → Answer → List ℕ → List ℕ → Type 0
-Whole n V2e E2e list work a list′ work′ =
-    (a ≡ recoverAnswer n V2e E2e list work) × ((list′ ≡ recoverList n V2e E2e list work) × (work′ ≡ recoverWork n V2e E2e list work))
+abbrev pub Whole : ℕ → ℕ → List ℕ → List ℕ → List ℕ → List ℕ → Answer → List ℕ → List ℕ → Type 0
+Whole n m V2e E2e list work a list′ work′ =
+    (a ≡ recoverAnswer n m V2e E2e list work) × ((list′ ≡ recoverList n m V2e E2e list work) × (work′ ≡ recoverWork n m V2e E2e list work))
 
 -- refused by checks 1 or 2, or as check 10 says
-module _ (n : ℕ) (V2e E2e list work : List ℕ) {a : Answer} where
-  pub unsized : callSizes n E2e list ≡ false → a ≡ refused 1 0 0 → Whole n V2e E2e list work a list work
+module _ (n m : ℕ) (V2e E2e list work : List ℕ) {a : Answer} where
+  pub unsized : callSizes n m list ≡ false → a ≡ refused 1 0 0 → Whole n m V2e E2e list work a list work
   unfolding recoverAnswer recoverList recoverWork lengthChecks workAfter after
   unsized e g =
-      let x : recoverAnswer n V2e E2e list work ≡ refused 1 0 0 = rw (e, lengthChecks) in
-      (g ∙ sym x, (sym (ap (λ (y : Answer). after y (walk V2e E2e) list) x), sym (rw (e, workAfter))))
+      let x : recoverAnswer n m V2e E2e list work ≡ refused 1 0 0 = rw (e, lengthChecks) in
+      (g ∙ sym x, (sym (ap (λ (y : Answer). after y (walk V2e (widened m E2e)) list) x), sym (rw (e, workAfter))))
 
-  pub unlengthened : callSizes n E2e list ≡ true → callLengths n E2e list V2e work ≡ false → a ≡ refused 2 0 0 → Whole n V2e E2e list work a list work
+  pub unlengthened : callSizes n m list ≡ true → recoverLengths n m V2e E2e list work ≡ false → a ≡ refused 2 0 0
+      → Whole n m V2e E2e list work a list work
   unfolding recoverAnswer recoverList recoverWork lengthChecks workAfter after
   unlengthened e f g =
-      let x : recoverAnswer n V2e E2e list work ≡ refused 2 0 0 = rw (e, f, lengthChecks) in
-      (g ∙ sym x, (sym (ap (λ (y : Answer). after y (walk V2e E2e) list) x), sym (rw (e, f, workAfter))))
+      let x : recoverAnswer n m V2e E2e list work ≡ refused 2 0 0 = rw (e, f, lengthChecks) in
+      (g ∙ sym x, (sym (ap (λ (y : Answer). after y (walk V2e (widened m E2e)) list) x), sym (rw (e, f, workAfter))))
 
-  pub whole : {list′ work′ : List ℕ} → Passed n V2e E2e list work → Recovered n V2e E2e a list list′ → work′ ≡ replicate (length work) 0
-      → Whole n V2e E2e list work a list′ work′
+  -- m as an index is k
+  pub whole : {k : ℕ} {list′ work′ : List ℕ} → k ≡ m → Passed n m V2e E2e list work → Recovered n k V2e E2e a list list′
+      → work′ ≡ replicate (length work) 0 → Whole n m V2e E2e list work a list′ work′
   unfolding recoverAnswer recoverList recoverWork lengthChecks workAfter
-  whole q x z =
+  whole {k} {list′} i q y z =
+      let x = subst (λ (j : ℕ). Recovered n j V2e E2e a list list′) i y in
       let e = q .sizes in
       let f = q .lengths in
-      let g : a ≡ recoverAnswer n V2e E2e list work = x .answer ∙ sym (rw (e, f, lengthChecks)) in
-      (g, (x .left ∙ ap (λ (y : Answer). after y (walk V2e E2e) list) g, z ∙ sym (rw (e, f, workAfter))))
+      let g : a ≡ recoverAnswer n m V2e E2e list work = x .answer ∙ sym (rw (e, f, lengthChecks)) in
+      (g, (x .left ∙ ap (λ (y : Answer). after y (walk V2e (widened m E2e)) list) g, z ∙ sym (rw (e, f, workAfter))))

@@ -5,7 +5,8 @@
 // The numbers of a case in `stdin` (crate `cases`) are
 //   1       1 where the case is also run with each entry changed, else 0
 //   2       n
-//   3 to 6  the lengths of V2e, E2e, the list and the work buffer
+//   3       m
+//   4 to 7  the lengths of V2e, E2e, the list and the work buffer
 // and then the entries of V2e and E2e.
 ghost use Prim.Native.Nat.{_≤_, _<_};
 ghost use lib.ListN.{length};
@@ -17,7 +18,7 @@ const LIST: u32 = 7;
 const WORK: u32 = 5;
 
 // The place of V2e's first entry.
-const FIRST: usize = 7;
+const FIRST: usize = 8;
 
 // The changes, by the letter that their counts are printed with: an entry made greater by 1; made 0; made that of the entry after
 // it; and both exchanged.
@@ -31,26 +32,26 @@ const SWAPPED: u8 = b'S';
 
 // Where V2e ends and E2e starts.
 fn e2e_start(numbers: &[u32; 128]) -> usize
-    ensures { λ r. ⌜ (7 ≤ r) × (r ≤ 128) ⌝ }
+    ensures { λ r. ⌜ (8 ≤ r) × (r ≤ 128) ⌝ }
 {
-    cases::part_end(FIRST, numbers[3])
+    cases::part_end(FIRST, numbers[4])
 }
 
 fn e2e_end(numbers: &[u32; 128]) -> usize
     ensures { λ r. ⌜ r ≤ 128 ⌝ }
 {
-    cases::part_end(e2e_start(numbers), numbers[4])
+    cases::part_end(e2e_start(numbers), numbers[5])
 }
 
 fn v2e(numbers: &[u32; 128]) -> &[u32] {
     let end = e2e_start(numbers);
     let whole = &numbers[..];
-    &whole[7..end]
+    &whole[8..end]
 }
 
 fn e2e(numbers: &[u32; 128]) -> &[u32] {
     let start = e2e_start(numbers);
-    let end = cases::part_end(start, numbers[4]);
+    let end = cases::part_end(start, numbers[5]);
     let whole = &numbers[..];
     &whole[start..end]
 }
@@ -82,8 +83,8 @@ fn has_same(numbers: &[u32; 128], list: &[u32], vs: &mut [u32], es: &mut [u32]) 
 fn has_tables(numbers: &[u32; 128], list: &[u32]) -> bool {
     let mut vs = [0u32; 12];
     let mut es = [0u32; 40];
-    let v = cases::length(numbers[3], 12);
-    let e = cases::length(numbers[4], 40);
+    let v = cases::length(numbers[4], 12);
+    let e = cases::length(numbers[5], 40);
     has_same(numbers, list, &mut vs[0..v], &mut es[0..e])
 }
 
@@ -137,7 +138,14 @@ fn outcome(refusal: u32, clean: bool) -> usize {
 }
 
 fn recovered(numbers: &[u32; 128], list: &mut [u32], work: &mut [u32]) -> Answer {
-    recover::recover(numbers[2], v2e(numbers), e2e(numbers), list, work)
+    recover::recover(
+        numbers[2],
+        numbers[3],
+        v2e(numbers),
+        e2e(numbers),
+        list,
+        work,
+    )
 }
 
 fn emit_result(a: Answer, list: &[u32], clean: bool) {
@@ -163,8 +171,8 @@ fn run(numbers: &[u32; 128], list: &mut [u32], work: &mut [u32], printed: bool) 
 fn attempt(numbers: &[u32; 128], printed: bool) -> usize {
     let mut list = [LIST; 40];
     let mut work = [WORK; 200];
-    let l = cases::length(numbers[5], 40);
-    let w = cases::length(numbers[6], 200);
+    let l = cases::length(numbers[6], 40);
+    let w = cases::length(numbers[7], 200);
     run(numbers, &mut list[0..l], &mut work[0..w], printed)
 }
 

@@ -10,17 +10,20 @@ use lib.ListN.{length, take, replicate}
 use Rattle.lists.specs.Tests.{both, same}
 use Rattle.lists.specs.Search.{least, count, upto, tab, zeros}
 use Rattle.rules.specs.Elements.{elements, sidesBy, isSide, slot, origin, nextNumber, next, sideAt, firstSide, countSides, firstVertex}
-use Rattle.rules.specs.Pairing.{alike, opposed, joins, sizesFit, unfitCorner, repeatedCorner, rowsFit}
-use Rattle.rules.specs.Tables.{partner, isBorder, b2e, borderNumber, borders, e2eEntry, e2e, borderInto, v2eEntry, v2e, edges}
-use Rattle.rules.specs.Recovery.{sideOfBorder, walkStart, turnBy, trace, walkTo, walk}
+use Rattle.rules.specs.Pairing.{alike, opposed, joins, callSizes, sizesFit, unfitCorner, repeatedCorner, rowsFit}
+use Rattle.rules.specs.Tables.{partner, isBorder, b2e, borderNumber, borders, columns, codeAt, e2eSlot, e2eEntry, e2e, entryOf, wide, borderInto, v2eEntry, v2e, edges}
+use Rattle.rules.specs.Recovery.{columnsBy, widened, sideOfBorder, walkStart, turnBy, trace, walkTo, walk}
 use Rattle.rules.specs.Refusals.{Answer, gives, refused, crowdedSide, alikeSide, missed, unorderedVertex, checkFound, listAnswer, accepts}
-use Rattle.rules.specs.Refusals.{Buffers, callSizes, callLengths, lengthChecks, roomCheck, buildAnswer, after, onto, buildLeaves, recovers, recoverAnswer, recoverList}
-use Rattle.rules.specs.Queries.{Mesh, asked, defined, found, listed, listLeaves, andThen, prepend, readAll, follow, over, isBorderCode, isHalfEdge, isEntry, isVertex}
-use Rattle.rules.specs.Queries.{readOpposite, readBorderSide, readVertexEntry, readOrigin, readDestination, borderNext, vertexBorderAnswer, startSide, onward, ringSides}
+use Rattle.rules.specs.Refusals.{Buffers, callLengths, buildLengths, lengthChecks, roomCheck, buildAnswer, after, onto, buildLeaves, recoverLengths, recovers, recoverAnswer, recoverList}
+use Rattle.rules.specs.Queries.{Mesh, seen, told, columnsAnswer, queryLengths, asked, defined, found, listed, listLeaves, andThen, prepend, readAll, follow, over, isBorderCode, isHalfEdge, isEntry, isVertex}
+use Rattle.rules.specs.Queries.{readOpposite, readBorderSide, readVertexEntry, readOrigin, readDestination, opposite, oppositeAnswer, borderNext, vertexBorderAnswer, startSide, onward, ringSides}
 use Rattle.rules.specs.Queries.{ring, neighbours, loopNext, borderLoop, listedAnswer}
 use Rattle.rules.specs.Queries.{ringAnswer, ringLeaves, neighboursAnswer, neighboursLeaves, borderLoopAnswer, borderLoopLeaves}
 
--- an element's row, or a row of E2e; lists are rows joined by ++
+-- an element's row, or a row of E2e, in three columns or in four; lists are rows joined by ++
+unfoldable pub three : ℕ → ℕ → ℕ → List ℕ
+three a b c = a ∷ b ∷ c ∷ []
+
 unfoldable pub quad : ℕ → ℕ → ℕ → ℕ → List ℕ
 quad a b c d = a ∷ b ∷ c ∷ d ∷ []
 
@@ -36,7 +39,7 @@ unfoldable pub room : ℕ → List ℕ → Buffers
 room n L =
     record {
       vertices = blank n;
-      opposites = blank (length L);
+      opposites = blank (columns L * elements L);
       border = blank (borders L);
       work = blank (n + 16 * elements L);
     }
@@ -44,10 +47,9 @@ room n L =
 unfoldable pub left : ℕ → List ℕ → Buffers
 left n L = buildLeaves n L (room n L)
 
--- "Built tables are a list and what build writes for it, B2e cut to k"
+-- "Built tables are a list and what build writes for it, B2e cut to k"; the query looks at the list
 unfoldable pub built : ℕ → List ℕ → Mesh
-built n L =
-    record { n = n; list = L; vertices = left n L .vertices; opposites = left n L .opposites; border = left n L .border }
+built n L = let w = left n L in told n 0 L (w .vertices) (w .opposites) (w .border)
 
 -- a row: what is asked of n vertices and a list, and the outcome
 pub data Case : Type 0 where
@@ -59,8 +61,13 @@ pub data Case : Type 0 where
   ringIs neighboursAre loopIs : ℕ → List ℕ → ℕ → List ℕ → Case
   -- on built tables, what the border test says of the vertex
   vertexIs : ℕ → List ℕ → ℕ → ℕ → Case
-  -- of n, V2e and E2e; `none` for 10
-  recovered : ℕ → List ℕ → List ℕ → Option (List ℕ) → Case
+  -- of n, m, V2e and E2e; `none` for 10
+  recovered : ℕ → ℕ → List ℕ → List ℕ → Option (List ℕ) → Case
+  -- the columns of the list, and build's answer with an E2e of this length
+  columnsAre : ℕ → List ℕ → ℕ → Case
+  answersWith : ℕ → List ℕ → ℕ → Answer → Case
+  -- of n, the columns told, the list and this E2e, what opposite answers of the code
+  oppositeIs : ℕ → ℕ → List ℕ → List ℕ → ℕ → Answer → Case
 
 unfoldable pub sameAnswer : Answer → Answer → Bool
 sameAnswer (gives a b) (gives c d) = both (eqb a c) (eqb b d)
@@ -78,18 +85,24 @@ unfoldable pub holds : Case → Bool
 holds (answers n L a) = sameAnswer (buildAnswer n L (room n L)) a
 holds (v2eIs n L xs) = same (left n L .vertices) xs
 holds (b2eIs n L xs) = same (left n L .border) xs
-holds (e2eBegins n L xs) = same (take 4 (left n L .opposites)) xs
+holds (e2eBegins n L xs) = same (take (columns L) (left n L .opposites)) xs
 holds (e2eIs n L xs) = same (left n L .opposites) xs
 holds (ringIs n L v xs) = gave (ringAnswer (built n L) v) (ringLeaves (built n L) v) xs
 holds (neighboursAre n L v xs) = gave (neighboursAnswer (built n L) v) (neighboursLeaves (built n L) v) xs
 holds (loopIs n L b xs) = gave (borderLoopAnswer (built n L) b) (borderLoopLeaves (built n L) b) xs
 holds (vertexIs n L v x) = sameAnswer (vertexBorderAnswer (built n L) v) (gives x 0)
-holds (recovered n V2e E2e (some L)) =
-    let w = room n E2e in
-    both (sameAnswer (recoverAnswer n V2e E2e (w .opposites) (w .work)) (gives 0 0))
-    (same (recoverList n V2e E2e (w .opposites) (w .work)) L)
-holds (recovered n V2e E2e none) =
-    let w = room n E2e in sameAnswer (recoverAnswer n V2e E2e (w .opposites) (w .work)) (refused 10 0 0)
+holds (recovered n m V2e E2e (some L)) =
+    let work = blank (n + 16 * m) in
+    both (sameAnswer (recoverAnswer n m V2e E2e (blank (4 * m)) work) (gives 0 0))
+    (same (recoverList n m V2e E2e (blank (4 * m)) work) L)
+holds (recovered n m V2e E2e none) =
+    sameAnswer (recoverAnswer n m V2e E2e (blank (4 * m)) (blank (n + 16 * m))) (refused 10 0 0)
+holds (columnsAre n L c) = sameAnswer (columnsAnswer n L) (gives c 0)
+holds (answersWith n L long a) =
+    let w = room n L in
+    sameAnswer (buildAnswer n L (record { vertices = w .vertices; opposites = blank long; border = w .border; work = w .work })) a
+holds (oppositeIs n c L E2e s a) =
+    let w = left n L in sameAnswer (oppositeAnswer (told n c L (w .vertices) E2e (w .border)) s) a
 
 unfoldable pub every : (Case → Bool) → List Case → Bool
 every p [] = true
@@ -99,10 +112,24 @@ unfoldable pub listing : List ℕ
 listing = tri 1 2 3 ++ tri 1 3 4
 
 unfoldable pub listingE2e : List ℕ
-listingE2e = quad 8 16 17 0 ++ quad 11 24 32 0
+listingE2e = three 8 16 17 ++ three 11 24 32
 
 unfoldable pub tetrahedron : List ℕ
 tetrahedron = tri 1 2 3 ++ tri 1 4 2 ++ tri 2 4 3 ++ tri 3 4 1
+
+-- a triangle and a quadrilateral
+unfoldable pub mixed : List ℕ
+mixed = tri 1 2 3 ++ quad 1 3 4 5
+
+-- "four triangles apart and three quadrilaterals apart", and the V2e and E2e that both have
+unfoldable pub triangles : List ℕ
+triangles = tri 3 1 2 ++ tri 6 4 5 ++ tri 9 7 8 ++ tri 12 10 11
+
+unfoldable pub quadrilaterals : List ℕ
+quadrilaterals = quad 4 1 2 3 ++ quad 8 5 6 7 ++ quad 12 9 10 11
+
+unfoldable pub shared : List ℕ
+shared = tab 12 (λ p. 8 * (p + 1))
 
 -- "Where no n is named, it is the greatest corner"
 unfoldable pub cases : List Case
@@ -122,10 +149,10 @@ cases =
     v2eIs 4 (quad 1 2 3 4) (32 ∷ 8 ∷ 16 ∷ 24 ∷ []) ∷
     e2eIs 4 (quad 1 2 3 4) (quad 8 16 24 32) ∷
     b2eIs 4 (quad 1 2 3 4) (9 ∷ 10 ∷ 11 ∷ 12 ∷ []) ∷
-    -- "(1,2,3) (1,4,2) (2,4,3) (3,4,1): k = 0, V2e 9,10,11,18, first E2e row 19,27,35,0; ring of 1 is 1,2,4"
+    -- "(1,2,3) (1,4,2) (2,4,3) (3,4,1): k = 0, V2e 9,10,11,18, first E2e row 19,27,35,0; ring of 1 is 1,2,4"; by document 02, point 10, 19,27,35
     answers 4 tetrahedron (gives 0 6) ∷
     v2eIs 4 tetrahedron (9 ∷ 10 ∷ 11 ∷ 18 ∷ []) ∷
-    e2eBegins 4 tetrahedron (quad 19 27 35 0) ∷
+    e2eBegins 4 tetrahedron (three 19 27 35) ∷
     ringIs 4 tetrahedron 1 (1 ∷ 2 ∷ 4 ∷ []) ∷
     -- "(1,2,2): 4 at 1,3", "(1,2,3,1): 4 at 1,4", "(1,2,3) with n = 2: 3 at 1,3"
     answers 2 (tri 1 2 2) (refused 4 1 3) ∷
@@ -136,9 +163,9 @@ cases =
     answers 5 (tri 1 2 3 ++ tri 2 1 4 ++ tri 1 2 5) (refused 6 1 1) ∷
     answers 5 (tri 1 2 3 ++ tri 1 4 5) (refused 8 1 0) ∷
     -- "recovery of the listing's V2e and E2e gives its rows; with V2e 8,32,16,24 it gives 2,1,3,0 / 2,3,4,0; with V2e 32,8,16,16 it gives 10"
-    recovered 4 (32 ∷ 8 ∷ 16 ∷ 24 ∷ []) listingE2e (some listing) ∷
-    recovered 4 (8 ∷ 32 ∷ 16 ∷ 24 ∷ []) listingE2e (some (quad 2 1 3 0 ++ quad 2 3 4 0)) ∷
-    recovered 4 (32 ∷ 8 ∷ 16 ∷ 16 ∷ []) listingE2e none ∷
+    recovered 4 2 (32 ∷ 8 ∷ 16 ∷ 24 ∷ []) listingE2e (some listing) ∷
+    recovered 4 2 (8 ∷ 32 ∷ 16 ∷ 24 ∷ []) listingE2e (some (quad 2 1 3 0 ++ quad 2 3 4 0)) ∷
+    recovered 4 2 (32 ∷ 8 ∷ 16 ∷ 16 ∷ []) listingE2e none ∷
     -- of "Pairing and turn order": "Two triangles back to back, (1,2,3) and (1,3,2), are accepted"
     answers 3 (tri 1 2 3 ++ tri 1 3 2) (gives 0 3) ∷
     -- document 02, point 2: "the case of one vertex and no element is accepted with V2e 0"
@@ -152,21 +179,45 @@ cases =
     vertexIs 4 tetrahedron 1 0 ∷ vertexIs 5 listing 1 1 ∷ vertexIs 5 listing 5 2 ∷
     -- "A list with spare vertices must also come back from recovery"; not with 0 for a vertex that has sides, nor with a side or a border
     -- for one that gets none
-    recovered 1 (0 ∷ []) [] (some []) ∷
-    recovered 5 (32 ∷ 8 ∷ 16 ∷ 24 ∷ 0 ∷ []) listingE2e (some listing) ∷
-    recovered 4 (0 ∷ 8 ∷ 16 ∷ 24 ∷ []) listingE2e none ∷
-    recovered 5 (32 ∷ 8 ∷ 16 ∷ 24 ∷ 9 ∷ []) listingE2e none ∷
-    recovered 5 (32 ∷ 8 ∷ 16 ∷ 24 ∷ 32 ∷ []) listingE2e none ∷
+    recovered 1 0 (0 ∷ []) [] (some []) ∷
+    recovered 5 2 (32 ∷ 8 ∷ 16 ∷ 24 ∷ 0 ∷ []) listingE2e (some listing) ∷
+    recovered 4 2 (0 ∷ 8 ∷ 16 ∷ 24 ∷ []) listingE2e none ∷
+    recovered 5 2 (32 ∷ 8 ∷ 16 ∷ 24 ∷ 9 ∷ []) listingE2e none ∷
+    recovered 5 2 (32 ∷ 8 ∷ 16 ∷ 24 ∷ 32 ∷ []) listingE2e none ∷
+    -- document 02, point 10: "Lists without a quadrilateral now use three entries for an element in E2e; others keep four"
+    columnsAre 0 [] 3 ∷ columnsAre 4 listing 3 ∷ columnsAre 4 (quad 1 2 3 4) 4 ∷ columnsAre 5 mixed 4 ∷
+    answers 5 mixed (gives 5 6) ∷
+    e2eIs 5 mixed (quad 8 16 17 0 ++ quad 11 24 32 40) ∷
+    -- "check 1 drops E2e's fours. Length check 2 .. follow"
+    answersWith 4 listing 8 (refused 2 0 0) ∷ answersWith 4 listing 9 (refused 2 0 0) ∷ answersWith 5 mixed 6 (refused 2 0 0) ∷
+    -- "Lists of different m can share both, as four triangles apart and three quadrilaterals apart"
+    v2eIs 12 triangles shared ∷ e2eIs 12 triangles shared ∷ recovered 12 4 shared shared (some triangles) ∷
+    v2eIs 12 quadrilaterals shared ∷ e2eIs 12 quadrilaterals shared ∷ recovered 12 3 shared shared (some quadrilaterals) ∷
+    -- "A triangle list that isn't empty, offered in four columns, gives 10"; and three columns come back as triangles only
+    recovered 4 2 (32 ∷ 8 ∷ 16 ∷ 24 ∷ []) (quad 8 16 17 0 ++ quad 11 24 32 0) none ∷
+    recovered 5 2 (40 ∷ 8 ∷ 16 ∷ 24 ∷ 32 ∷ []) (quad 8 16 17 0 ++ quad 11 24 32 40) (some mixed) ∷
+    recovered 5 2 (40 ∷ 8 ∷ 16 ∷ 24 ∷ 32 ∷ []) listingE2e none ∷
+    -- a query told the columns: 0 to look, 4 as it is, 5, and 3, in which a fourth side's entry names nothing
+    oppositeIs 4 0 (quad 1 2 3 4) (quad 8 16 24 32) 12 (gives 32 0) ∷
+    oppositeIs 4 4 (quad 1 2 3 4) (quad 8 16 24 32) 12 (gives 32 0) ∷
+    oppositeIs 4 5 (quad 1 2 3 4) (quad 8 16 24 32) 12 (refused 2 0 0) ∷
+    oppositeIs 4 3 (quad 1 2 3 4) (quad 8 16 24 32) 12 (refused 2 0 0) ∷
+    oppositeIs 4 0 (quad 1 2 3 4) (three 8 16 24) 12 (refused 2 0 0) ∷
+    oppositeIs 4 3 (quad 1 2 3 4) (three 8 16 24) 12 (refused 12 0 0) ∷
+    oppositeIs 4 3 (quad 1 2 3 4) (three 8 16 24) 11 (gives 24 0) ∷
+    oppositeIs 4 3 listing listingE2e 17 (gives 11 0) ∷
     []
 
 -- the rules give every row of the table
 pub cases-hold : T (every holds cases)
-unfolding quad tri blank room left built sameAnswer gave holds every listing listingE2e tetrahedron cases least count upto tab zeros same
-    sidesBy isSide slot origin nextNumber next sideAt firstSide countSides firstVertex alike opposed joins sizesFit unfitCorner
-    repeatedCorner rowsFit partner isBorder b2e borderNumber borders e2eEntry e2e borderInto v2eEntry v2e edges sideOfBorder walkStart
-    turnBy trace walkTo walk crowdedSide alikeSide missed unorderedVertex checkFound listAnswer accepts callSizes
-    callLengths lengthChecks roomCheck buildAnswer after onto buildLeaves recovers recoverAnswer recoverList asked defined found listed listLeaves
+unfolding three quad tri blank room left built sameAnswer gave holds every listing listingE2e tetrahedron mixed triangles
+    quadrilaterals shared cases least count upto tab zeros same
+    sidesBy isSide slot origin nextNumber next sideAt firstSide countSides firstVertex alike opposed joins callSizes sizesFit unfitCorner
+    repeatedCorner rowsFit partner isBorder b2e borderNumber borders columns codeAt e2eSlot e2eEntry e2e entryOf wide borderInto v2eEntry v2e
+    edges columnsBy widened sideOfBorder walkStart turnBy trace walkTo walk crowdedSide alikeSide missed unorderedVertex checkFound listAnswer accepts callLengths
+    buildLengths lengthChecks roomCheck buildAnswer after onto buildLeaves recoverLengths recovers recoverAnswer recoverList seen
+    columnsAnswer queryLengths asked defined found listed listLeaves
     andThen prepend readAll follow over isBorderCode isHalfEdge isEntry isVertex readOpposite readBorderSide readVertexEntry readOrigin
-    readDestination borderNext vertexBorderAnswer startSide onward ringSides ring neighbours loopNext borderLoop listedAnswer ringAnswer ringLeaves
+    readDestination opposite oppositeAnswer borderNext vertexBorderAnswer startSide onward ringSides ring neighbours loopNext borderLoop listedAnswer ringAnswer ringLeaves
     neighboursAnswer neighboursLeaves borderLoopAnswer borderLoopLeaves
 cases-hold = tt

@@ -59,9 +59,13 @@ pub record Ordered (n : ℕ) (L : List ℕ) (π : ℕ → ℕ) : Type 0 where
   pub pairing : Pairing L π
   pub orders : (v : ℕ) → 1 ≤ v → v ≤ n → (o : List ℕ) × TurnOrder L π v o
 
--- check 1, as far as it concerns n and the element list: "n or m over its maximum, or element list .. not in fours"
+-- check 1: "n or m over its maximum, or element list .. not in fours"; document 02, point 10: "check 1 drops E2e's fours"
+unfoldable pub callSizes : ℕ → ℕ → List ℕ → Bool
+callSizes n m L = both (leb n maxVertex) (both (leb m maxElement) (eqb (length L) (4 * elements L)))
+
+-- where the element list says m
 unfoldable pub sizesFit : ℕ → List ℕ → Bool
-sizesFit n L = both (leb n maxVertex) (both (leb (elements L) maxElement) (eqb (length L) (4 * elements L)))
+sizesFit n L = callSizes n (elements L) L
 
 -- check 3: "corner 1 to 3 is 0, or any corner above n"; the least such corner, as the side that begins there
 unfoldable pub unfitCorner : ℕ → List ℕ → ℕ

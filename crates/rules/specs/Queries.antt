@@ -9,23 +9,44 @@ use lib.ListN.{length}
 use Rattle.lists.specs.Tests.{both, either, within}
 use Rattle.lists.specs.Search.{at}
 use Rattle.rules.specs.Elements.{elements, element, number, isSide, origin, destination, next, previous}
-use Rattle.rules.specs.Tables.{e2eSlot}
-use Rattle.rules.specs.Refusals.{Answer, gives, refused, callSizes, lengthChecks, after, onto}
+use Rattle.rules.specs.Pairing.{sizesFit}
+use Rattle.rules.specs.Tables.{columns, entryOf}
+use Rattle.rules.specs.Refusals.{Answer, gives, refused, lengthChecks, after, onto}
 
--- "They take element list, V2e, E2e, B2e (length k), which may be unfit"
+-- "They take element list, V2e, E2e, B2e (length k), which may be unfit"; document 02, point 10: "every reader of E2e follow", so with its
+-- columns
 pub record Mesh : Type 0 where
   pub n : ℕ
+  pub columns : ℕ
   pub list : List ℕ
   pub vertices : List ℕ
   pub opposites : List ℕ
   pub border : List ℕ
 
--- checks 1 and 2 of a query: "In a query B2e holds at most 4 × m"
-unfoldable pub asked : Mesh → Answer → Answer
-asked M =
-    lengthChecks (callSizes (M .n) (M .list) (M .opposites))
+-- A query is told the columns. Told 0 it looks at the list, which is the paper's rule to the letter; any other number says that the caller
+-- has looked
+unfoldable pub seen : ℕ → List ℕ → ℕ
+seen c L = elim (eqb c 0) [ true ↦ columns L | false ↦ c ]
+
+-- the mesh of a call with n, the columns told, the element list and the three tables
+abbrev pub told : ℕ → ℕ → List ℕ → List ℕ → List ℕ → List ℕ → Mesh
+told n c L V2e E2e B2e =
+    record { n = n; columns = seen c L; list = L; vertices = V2e; opposites = E2e; border = B2e }
+
+-- the call with which a caller looks; it makes check 1 only
+unfoldable pub columnsAnswer : ℕ → List ℕ → Answer
+columnsAnswer n L = lengthChecks (sizesFit n L) true (gives (columns L) 0)
+
+-- checks 1 and 2 of a query: "Length check 2 .. follow", and columns other than 3 and 4 are 2; "In a query B2e holds at most 4 × m"
+unfoldable pub queryLengths : Mesh → Bool
+queryLengths M =
+    let m = elements (M .list) in
+    both (within 3 4 (M .columns))
     (both (eqb (length (M .vertices)) (M .n))
-    (both (eqb (length (M .opposites)) (4 * elements (M .list))) (leb (length (M .border)) (4 * elements (M .list)))))
+    (both (eqb (length (M .opposites)) (M .columns * m)) (leb (length (M .border)) (4 * m))))
+
+unfoldable pub asked : Mesh → Answer → Answer
+asked M = lengthChecks (sizesFit (M .n) (M .list)) (queryLengths M)
 
 -- 11: "vertex, element or half-edge asked about isn't there, or the question isn't defined for it"
 unfoldable pub defined : Bool → Answer → Answer
@@ -99,7 +120,7 @@ module _ (M : Mesh) where
   isVertex v = within 1 (M .n) v
 
   unfoldable pub readOpposite : ℕ → Option ℕ
-  readOpposite s = read isHalfEdge (at (M .opposites) (e2eSlot s))
+  readOpposite s = read isHalfEdge (entryOf (M .columns) (M .opposites) s)
 
   unfoldable pub readBorderSide : ℕ → Option ℕ
   readBorderSide c = read (isSide (M .list)) (at (M .border) (element c - 1))

@@ -5,12 +5,12 @@ use mathlib.Core.List.{List, _++_}
 use Prim.Native.Nat.{ℕ, _+_, _*_}
 use lib.Dec.{leb, eqb}
 use lib.ListN.{length, drop, replicate}
-use Rattle.lists.specs.Tests.{both, same}
+use Rattle.lists.specs.Tests.{both, either, same}
 use Rattle.lists.specs.Search.{at}
 use Rattle.rules.specs.Elements.{elements, element, number, slot, origin, firstSide, countSides, firstVertex}
-use Rattle.rules.specs.Pairing.{alike, joins, sizesFit, unfitCorner, repeatedCorner, rowsFit}
-use Rattle.rules.specs.Tables.{borders, b2e, e2e, v2e, edges}
-use Rattle.rules.specs.Recovery.{walk}
+use Rattle.rules.specs.Pairing.{alike, joins, callSizes, sizesFit, unfitCorner, repeatedCorner, rowsFit}
+use Rattle.rules.specs.Tables.{borders, b2e, columns, e2e, wide, v2e, edges}
+use Rattle.rules.specs.Recovery.{widened, walk}
 
 -- "counts, or refusal and place": an answer's two numbers; or a refusal's number and its place, which "is two numbers"
 pub data Answer : Type 0 where
@@ -33,7 +33,7 @@ unfoldable pub missed : List ℕ → List ℕ → ℕ → Bool
 missed L W v = not (eqb (firstSide L (λ s. both (eqb (origin L s) v) (not (eqb (at W (slot s)) v)))) 0)
 
 unfoldable pub unorderedVertex : ℕ → List ℕ → ℕ
-unorderedVertex n L = let W = walk (v2e n L) (e2e L) in firstVertex n (missed L W)
+unorderedVertex n L = let W = walk (v2e n L) (wide L) in firstVertex n (missed L W)
 
 -- a refusal where something was found for it, else what the later checks say
 unfoldable pub checkFound : ℕ → Answer → Answer → Answer
@@ -71,19 +71,15 @@ pub record Buffers : Type 0 where
   pub border : List ℕ
   pub work : List ℕ
 
--- "not in fours"
-abbrev pub inFours : List ℕ → Bool
-inFours X = eqb (length X) (4 * elements X)
+-- check 2 of a call with a work buffer: "V2e holds exactly n entries", "the work buffer of build and recovery at least n + 16 × m";
+-- `others` for the lengths of E2e and the element list
+unfoldable pub callLengths : ℕ → ℕ → Bool → List ℕ → List ℕ → Bool
+callLengths n m others V2e work = both (eqb (length V2e) n) (both others (leb (n + 16 * m) (length work)))
 
--- checks 1 and 2 of a call with a work buffer: "n or m over its maximum, or element list or E2e not in fours";
--- "V2e holds exactly n entries, E2e and the element list exactly 4 × m, the work buffer of build and recovery at least n + 16 × m".
--- X is the buffer that says m, Y the other one of the element list and E2e
-unfoldable pub callSizes : ℕ → List ℕ → List ℕ → Bool
-callSizes n X Y = both (sizesFit n X) (inFours Y)
-
-unfoldable pub callLengths : ℕ → List ℕ → List ℕ → List ℕ → List ℕ → Bool
-callLengths n X Y V2e work =
-    both (eqb (length V2e) n) (both (eqb (length Y) (4 * elements X)) (leb (n + 16 * elements X) (length work)))
+-- of build; document 02, point 10: "Length check 2 .. follow", so E2e holds exactly columns × m
+unfoldable pub buildLengths : ℕ → List ℕ → Buffers → Bool
+buildLengths n L w =
+    callLengths n (elements L) (eqb (length (w .opposites)) (columns L * elements L)) (w .vertices) (w .work)
 
 -- refusals 1 and 2, before what the later checks say
 unfoldable pub lengthChecks : Bool → Bool → Answer → Answer
@@ -98,7 +94,7 @@ roomCheck room (refused r a b) = refused r a b
 -- what build answers: "Build checks 1 to 9 in order"
 unfoldable pub buildAnswer : ℕ → List ℕ → Buffers → Answer
 buildAnswer n L w =
-    lengthChecks (callSizes n L (w .opposites)) (callLengths n L (w .opposites) (w .vertices) (w .work))
+    lengthChecks (sizesFit n L) (buildLengths n L w)
     (roomCheck (length (w .border)) (listAnswer n L))
 
 -- "left as it was": a buffer after an answer, and after a refusal
@@ -123,23 +119,29 @@ buildLeaves n L w =
       vertices = after a (v2e n L) (w .vertices);
       opposites = after a (e2e L) (w .opposites);
       border = after a (onto (b2e L) (w .border)) (w .border);
-      work = workAfter (callSizes n L (w .opposites)) (callLengths n L (w .opposites) (w .vertices) (w .work)) (w .work);
+      work = workAfter (sizesFit n L) (buildLengths n L w) (w .work);
     }
 
+-- of recovery, document 02, point 10: it "is told m and takes either length"; "The element list keeps four"
+unfoldable pub recoverLengths : ℕ → ℕ → List ℕ → List ℕ → List ℕ → List ℕ → Bool
+recoverLengths n m V2e E2e list work =
+    let columns = either (eqb (length E2e) (3 * m)) (eqb (length E2e) (4 * m)) in
+    callLengths n m (both (eqb (length list) (4 * m)) columns) V2e work
+
 -- the list that the walk gives has exactly these tables
-unfoldable pub recovers : ℕ → List ℕ → List ℕ → Bool
-recovers n V2e E2e =
-    let L = walk V2e E2e in both (accepts n L) (both (same (v2e n L) V2e) (same (e2e L) E2e))
+unfoldable pub recovers : ℕ → ℕ → List ℕ → List ℕ → Bool
+recovers n m V2e E2e =
+    let L = walk V2e (widened m E2e) in both (accepts n L) (both (same (v2e n L) V2e) (same (e2e L) E2e))
 
 -- what recovery answers, given the element list only to write it: "recovery checks 1, 2, 10"
-unfoldable pub recoverAnswer : ℕ → List ℕ → List ℕ → List ℕ → List ℕ → Answer
-recoverAnswer n V2e E2e list work =
-    lengthChecks (callSizes n E2e list) (callLengths n E2e list V2e work)
-    (elim (recovers n V2e E2e) [ true ↦ gives 0 0 | false ↦ refused 10 0 0 ])
+unfoldable pub recoverAnswer : ℕ → ℕ → List ℕ → List ℕ → List ℕ → List ℕ → Answer
+recoverAnswer n m V2e E2e list work =
+    lengthChecks (callSizes n m list) (recoverLengths n m V2e E2e list work)
+    (elim (recovers n m V2e E2e) [ true ↦ gives 0 0 | false ↦ refused 10 0 0 ])
 
 -- what it leaves in the element list and in the work buffer; it never writes V2e or E2e
-unfoldable pub recoverList : ℕ → List ℕ → List ℕ → List ℕ → List ℕ → List ℕ
-recoverList n V2e E2e list work = after (recoverAnswer n V2e E2e list work) (walk V2e E2e) list
+unfoldable pub recoverList : ℕ → ℕ → List ℕ → List ℕ → List ℕ → List ℕ → List ℕ
+recoverList n m V2e E2e list work = after (recoverAnswer n m V2e E2e list work) (walk V2e (widened m E2e)) list
 
-unfoldable pub recoverWork : ℕ → List ℕ → List ℕ → List ℕ → List ℕ → List ℕ
-recoverWork n V2e E2e list work = workAfter (callSizes n E2e list) (callLengths n E2e list V2e work) work
+unfoldable pub recoverWork : ℕ → ℕ → List ℕ → List ℕ → List ℕ → List ℕ → List ℕ
+recoverWork n m V2e E2e list work = workAfter (callSizes n m list) (recoverLengths n m V2e E2e list work) work

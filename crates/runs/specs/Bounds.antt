@@ -14,11 +14,11 @@ use Rattle.lists.specs.TestLaws.{Test, pass, fail, test, passes, means-itself, 
 use Rattle.lists.specs.SearchLaws.{count-bound}
 use Rattle.rules.specs.Elements.{maxVertex, maxElement, elements, element, number, sides, isSide, Side, next, sideWith, firstSide, countSides}
 use Rattle.rules.specs.Elements.{firstVertex}
-use Rattle.rules.specs.Pairing.{sizesFit, unfitCorner, repeatedCorner}
-use Rattle.rules.specs.Tables.{borders, edges}
+use Rattle.rules.specs.Pairing.{callSizes, sizesFit, unfitCorner, repeatedCorner}
+use Rattle.rules.specs.Tables.{borders, columns, edges}
 use Rattle.rules.specs.Refusals.{Answer, gives, refused, Buffers, crowdedSide, alikeSide, unorderedVertex, checkFound}
-use Rattle.rules.specs.Refusals.{listAnswer, callSizes, lengthChecks, roomCheck, buildAnswer, recovers, recoverAnswer}
-use Rattle.rules.specs.Queries.{Mesh, asked, defined, found, listed, andThen, prepend, readAll, read, bySide, byEntry, follow, over, isBorderCode, isHalfEdge, isEntry}
+use Rattle.rules.specs.Refusals.{listAnswer, lengthChecks, roomCheck, buildAnswer, recovers, recoverAnswer}
+use Rattle.rules.specs.Queries.{Mesh, columnsAnswer, queryLengths, asked, defined, found, listed, andThen, prepend, readAll, read, bySide, byEntry, follow, over, isBorderCode, isHalfEdge, isEntry}
 use Rattle.rules.specs.Queries.{isVertex, readOpposite, readBorderSide, readVertexEntry, readOrigin, readDestination, opposite, borderNext, startSide}
 use Rattle.rules.specs.Queries.{onward, ringSides, ring, neighbours, loopNext, borderLoop, listedAnswer, oppositeAnswer, nextAnswer, previousAnswer}
 use Rattle.rules.specs.Queries.{elementAnswer, originAnswer, destinationAnswer, acrossAnswer, halfEdgeBorderAnswer, vertexBorderAnswer, ringAnswer}
@@ -27,6 +27,7 @@ use Rattle.theory.specs.Sides.{side-facts}
 use Rattle.theory.specs.Least.{First, nobody, somebody, first-side, FirstVertex, first-vertex}
 use Rattle.theory.specs.Steps.{NextNumber, wraps, grows, next-number, previous-side}
 use Rattle.theory.specs.FitRows.{means-sizes}
+use Rattle.theory.specs.Columns.{three-or-four}
 use Rattle.theory.specs.Built.{borders-bound}
 use Rattle.answer.specs.Packing.{Fits}
 use Rattle.runs.specs.Runs.{walked-answers}
@@ -41,10 +42,6 @@ unfolding lengthChecks
 lengths-fit true true a f = f tt tt
 lengths-fit true false a f = omega arith
 lengths-fit false lengths a f = omega arith
-
-sizes-of : (n : ℕ) (X Y : List ℕ) → T (callSizes n X Y) → T (sizesFit n X)
-unfolding callSizes
-sizes-of n X Y t = passes (sizesFit n X) (eqb (length Y) (4 * elements Y)) t .0
 
 -- build: the places of refusals 3 to 8, k and the edges
 check-fits : (x : ℕ) (refusal rest : Answer) → Fits refusal → Fits rest → Fits (checkFound x refusal rest)
@@ -105,12 +102,19 @@ module _ (n : ℕ) (L : List ℕ) (z : Sized n L) where
 pub build-fits : (n : ℕ) (L : List ℕ) (w : Buffers) → Fits (buildAnswer n L w)
 unfolding buildAnswer
 build-fits n L w =
-    lengths-fit (callSizes n L (w .opposites)) _ _
-    (λ s l. room-fits (length (w .border)) (listAnswer n L) (list-fits n L (means-sizes n L .says (sizes-of n L (w .opposites) s))))
+    lengths-fit (sizesFit n L) _ _ (λ s l. room-fits (length (w .border)) (listAnswer n L) (list-fits n L (means-sizes n L .says s)))
 
-pub recover-fits : (n : ℕ) (V2e E2e list work : List ℕ) → Fits (recoverAnswer n V2e E2e list work)
+pub columns-fits : (n : ℕ) (L : List ℕ) → Fits (columnsAnswer n L)
+unfolding columnsAnswer
+columns-fits n L = lengths-fit (sizesFit n L) true _ (λ s l. go (three-or-four L))
+  where
+    go : (columns L ≡ 3) ⊎ (columns L ≡ 4) → Fits (gives (columns L) 0)
+    go (inl e) = omega arith
+    go (inr e) = omega arith
+
+pub recover-fits : (n m : ℕ) (V2e E2e list work : List ℕ) → Fits (recoverAnswer n m V2e E2e list work)
 unfolding recoverAnswer
-recover-fits n V2e E2e list work = lengths-fit (callSizes n E2e list) _ _ (λ s l. go (recovers n V2e E2e))
+recover-fits n m V2e E2e list work = lengths-fit (callSizes n m list) _ _ (λ s l. go (recovers n m V2e E2e))
   where
     go : (b : Bool) → Fits (elim b [ true ↦ gives 0 0 | false ↦ refused 10 0 0 ])
     go true = omega arith
@@ -210,14 +214,14 @@ record Bounded (M : Mesh) : Type 0 where
 
 module _ (M : Mesh) where
   asked-fits : (a : Answer) → (Bounded M → Fits a) → Fits (asked M a)
-  unfolding asked
+  unfolding asked queryLengths
   asked-fits a f =
-      lengths-fit (callSizes (M .n) (M .list) (M .opposites)) _ a
+      lengths-fit (sizesFit (M .n) (M .list)) (queryLengths M) a
       (λ s l.
-      let (v, (e, q)) = means-sizes (M .n) (M .list) .says (sizes-of (M .n) (M .list) (M .opposites) s) in
-      let (p, (o, b)) =
-      means-both (means-eq (length (M .vertices)) (M .n))
-      (means-both (means-eq (length (M .opposites)) (4 * elements (M .list))) (means-le (length (M .border)) (4 * elements (M .list)))) .says l in
+      let (v, (e, q)) = means-sizes (M .n) (M .list) .says s in
+      let m = elements (M .list) in
+      let tables = means-both (means-eq (length (M .opposites)) (M .columns * m)) (means-le (length (M .border)) (4 * m)) in
+      let (c, (p, (o, b))) = means-both (means-within 3 4 (M .columns)) (means-both (means-eq (length (M .vertices)) (M .n)) tables) .says l in
       f (record { vertices = v; size = e; border = b }))
 
   module _ (k : Bounded M) where

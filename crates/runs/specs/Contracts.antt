@@ -7,7 +7,7 @@ use contract.Lifetimes.{Lfts}
 use borrow.Fn.Kinds.{Dens, resT, endedOf}
 use denote.Triple.Clauses.{AtExit}
 use Rattle.rules.specs.Refusals.{Buffers}
-use Rattle.rules.specs.Queries.{Mesh, oppositeAnswer, nextAnswer, previousAnswer, elementAnswer, originAnswer, destinationAnswer, acrossAnswer}
+use Rattle.rules.specs.Queries.{Mesh, columnsAnswer, oppositeAnswer, nextAnswer, previousAnswer, elementAnswer, originAnswer, destinationAnswer, acrossAnswer}
 use Rattle.rules.specs.Queries.{halfEdgeBorderAnswer, vertexBorderAnswer, Walked}
 use Rattle.answer.specs.Numbers.{numbers}
 use Rattle.build.specs.Building.{lent}
@@ -18,6 +18,8 @@ use Rattle.halfedge.proofs.next_side.Reads as next-side-reads
 use Rattle.halfedge.proofs.previous_side.Reads as previous-side-reads
 use Rattle.build.proofs.build.Kinds as build-kinds
 use Rattle.build.proofs.build.Reads as build-reads
+use Rattle.columns.proofs.columns.Kinds as columns-kinds
+use Rattle.columns.proofs.columns.Reads as columns-reads
 use Rattle.recover.proofs.recover.Kinds as recover-kinds
 use Rattle.recover.proofs.recover.Reads as recover-reads
 use Rattle.rings.proofs.ring.Kinds as ring-kinds
@@ -60,19 +62,24 @@ module _ (κs : Lfts 5) (a : Dens κs build-kinds.ps) (r : resT build-kinds.r κ
   pub build-run : build-reads.Post κs a r s → BuildRun (a .0) (a .1 .0 .now) (buffers κs a) (numbers r) ends
   build-run p = record { answer = p .0; leaves = p .1 }
 
--- recover(n, v2e, e2e, list, work)
+-- recover(n, m, v2e, e2e, list, work)
 module _ (κs : Lfts 4) (a : Dens κs recover-kinds.ps) (r : resT recover-kinds.r κs .Denot) (s : AtExit (endedOf 4 recover-kinds.ps recover-kinds.r) κs) where
   pub recover-run : recover-reads.Post κs a r s
-      → RecoverRun (a .0) (a .1 .0 .now) (a .1 .1 .0 .now) (a .1 .1 .1 .0 .now) (a .1 .1 .1 .1 .0 .now) (numbers r)
-      (s .1 .1 .1 .0 .now) (s .1 .1 .1 .1 .0 .now)
+      → RecoverRun (a .0) (a .1 .0) (a .1 .1 .0 .now) (a .1 .1 .1 .0 .now) (a .1 .1 .1 .1 .0 .now) (a .1 .1 .1 .1 .1 .0 .now) (numbers r)
+      (s .1 .1 .1 .1 .0 .now) (s .1 .1 .1 .1 .1 .0 .now)
   recover-run p = record { answer = p .0; leaves = p .1 .0; clears = p .1 .1 }
 
--- what a query (n, list, v2e, e2e, b2e, code or vertex) is asked about
+-- columns(n, list)
+module _ (κs : Lfts 1) (a : Dens κs columns-kinds.ps) (r : resT columns-kinds.r κs .Denot) (s : AtExit (endedOf 1 columns-kinds.ps columns-kinds.r) κs) where
+  pub columns-run : columns-reads.Post κs a r s → numbers r ≡ columnsAnswer (a .0) (a .1 .0 .now)
+  columns-run p = p
+
+-- what a query (n, columns, list, v2e, e2e, b2e, code or vertex) is asked about
 abbrev pub asked : (κs : Lfts 4) → Dens κs opposite-kinds.ps → Mesh
-asked κs a = mesh (a .0) (a .1 .0 .now) (a .1 .1 .0 .now) (a .1 .1 .1 .0 .now) (a .1 .1 .1 .1 .0 .now)
+asked κs a = mesh (a .0) (a .1 .0) (a .1 .1 .0 .now) (a .1 .1 .1 .0 .now) (a .1 .1 .1 .1 .0 .now) (a .1 .1 .1 .1 .1 .0 .now)
 
 abbrev pub of : (κs : Lfts 4) → Dens κs opposite-kinds.ps → ℕ
-of κs a = a .1 .1 .1 .1 .1 .0
+of κs a = a .1 .1 .1 .1 .1 .1 .0
 
 module _ (κs : Lfts 4) (a : Dens κs opposite-kinds.ps) (r : resT opposite-kinds.r κs .Denot) (s : AtExit (endedOf 4 opposite-kinds.ps opposite-kinds.r) κs) where
   pub opposite-run : opposite-reads.Post κs a r s → numbers r ≡ oppositeAnswer (asked κs a) (of κs a)
@@ -102,30 +109,30 @@ module _ (κs : Lfts 4) (a : Dens κs opposite-kinds.ps) (r : resT opposite-kind
   pub vertex-border-run : vertex-is-border-reads.Post κs a r s → numbers r ≡ vertexBorderAnswer (asked κs a) (of κs a)
   vertex-border-run p = p
 
--- what a query that writes a list (n, list, v2e, e2e, b2e, vertex or border, out) is asked about
+-- what a query that writes a list (n, columns, list, v2e, e2e, b2e, vertex or border, out) is asked about
 abbrev pub listed : (κs : Lfts 5) → Dens κs ring-kinds.ps → Mesh
-listed κs a = mesh (a .0) (a .1 .0 .now) (a .1 .1 .0 .now) (a .1 .1 .1 .0 .now) (a .1 .1 .1 .1 .0 .now)
+listed κs a = mesh (a .0) (a .1 .0) (a .1 .1 .0 .now) (a .1 .1 .1 .0 .now) (a .1 .1 .1 .1 .0 .now) (a .1 .1 .1 .1 .1 .0 .now)
 
 module _ (κs : Lfts 5) (a : Dens κs ring-kinds.ps) (r : resT ring-kinds.r κs .Denot) (s : AtExit (endedOf 5 ring-kinds.ps ring-kinds.r) κs) where
   pub ring-run : ring-reads.Post κs a r s
-      → RingRun (listed κs a) (a .1 .1 .1 .1 .1 .0) (a .1 .1 .1 .1 .1 .1 .0 .now) (numbers r) (s .1 .1 .1 .1 .1 .1 .0 .now)
+      → RingRun (listed κs a) (a .1 .1 .1 .1 .1 .1 .0) (a .1 .1 .1 .1 .1 .1 .1 .0 .now) (numbers r) (s .1 .1 .1 .1 .1 .1 .1 .0 .now)
   ring-run p = record { answer = p .0; leaves = p .1 }
 
   pub neighbours-run : neighbours-reads.Post κs a r s
-      → NeighboursRun (listed κs a) (a .1 .1 .1 .1 .1 .0) (a .1 .1 .1 .1 .1 .1 .0 .now) (numbers r) (s .1 .1 .1 .1 .1 .1 .0 .now)
+      → NeighboursRun (listed κs a) (a .1 .1 .1 .1 .1 .1 .0) (a .1 .1 .1 .1 .1 .1 .1 .0 .now) (numbers r) (s .1 .1 .1 .1 .1 .1 .1 .0 .now)
   neighbours-run p = record { answer = p .0; leaves = p .1 }
 
   pub border-loop-run : border-loop-reads.Post κs a r s
-      → BorderLoopRun (listed κs a) (a .1 .1 .1 .1 .1 .0) (a .1 .1 .1 .1 .1 .1 .0 .now) (numbers r) (s .1 .1 .1 .1 .1 .1 .0 .now)
+      → BorderLoopRun (listed κs a) (a .1 .1 .1 .1 .1 .1 .0) (a .1 .1 .1 .1 .1 .1 .1 .0 .now) (numbers r) (s .1 .1 .1 .1 .1 .1 .1 .0 .now)
   border-loop-run p = record { answer = p .0; leaves = p .1 }
 
--- a walker's call by value (record, n, list, v2e, e2e, b2e, call): walker::move_on over `&mut` and the exports go through it
+-- a walker's call by value (record, n, columns, list, v2e, e2e, b2e, call): walker::move_on over `&mut` and the exports go through it
 module _ (κs : Lfts 4) (a : Dens κs call-at-kinds.ps) (r : resT call-at-kinds.r κs .Denot) (s : AtExit (endedOf 4 call-at-kinds.ps call-at-kinds.r) κs) where
   abbrev walked : Mesh
-  walked = mesh (a .1 .0) (a .1 .1 .0 .now) (a .1 .1 .1 .0 .now) (a .1 .1 .1 .1 .0 .now) (a .1 .1 .1 .1 .1 .0 .now)
+  walked = mesh (a .1 .0) (a .1 .1 .0) (a .1 .1 .1 .0 .now) (a .1 .1 .1 .1 .0 .now) (a .1 .1 .1 .1 .1 .0 .now) (a .1 .1 .1 .1 .1 .1 .0 .now)
 
   abbrev call : Call
-  call = a .1 .1 .1 .1 .1 .1 .0
+  call = a .1 .1 .1 .1 .1 .1 .1 .0
 
   -- what is left, by the call
   left : (c : Call) → call ≡ c → call-at-reads.Post κs a r s → movedOf r ≡ calledBy c walked (recordOf (a .0))

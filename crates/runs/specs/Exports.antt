@@ -5,12 +5,14 @@ use contract.Lifetimes.{Lfts}
 use borrow.Fn.Kinds.{Dens, resT, endedOf}
 use denote.Triple.Clauses.{AtExit}
 use Rattle.rules.specs.Refusals.{buildAnswer, recoverAnswer}
-use Rattle.rules.specs.Queries.{oppositeAnswer, nextAnswer, previousAnswer, elementAnswer, originAnswer, destinationAnswer, acrossAnswer}
+use Rattle.rules.specs.Queries.{told as mesh-of}
+use Rattle.rules.specs.Queries.{Mesh, columnsAnswer, oppositeAnswer, nextAnswer, previousAnswer, elementAnswer, originAnswer, destinationAnswer, acrossAnswer}
 use Rattle.rules.specs.Queries.{halfEdgeBorderAnswer, vertexBorderAnswer, ringAnswer, neighboursAnswer, borderLoopAnswer, walkerStart, walkerStep}
 use Rattle.answer.specs.Numbers.{unpacked}
-use Rattle.reads.specs.Meshes.{mesh}
 use Rattle.borzhanu.proofs.borzhanu_build.Kinds as build-kinds
 use Rattle.borzhanu.proofs.borzhanu_build.Reads as build-reads
+use Rattle.borzhanu.proofs.borzhanu_columns.Kinds as columns-kinds
+use Rattle.borzhanu.proofs.borzhanu_columns.Reads as columns-reads
 use Rattle.borzhanu.proofs.borzhanu_recover.Kinds as recover-kinds
 use Rattle.borzhanu.proofs.borzhanu_recover.Reads as recover-reads
 use Rattle.borzhanu.proofs.borzhanu_opposite.Kinds as opposite-kinds
@@ -33,8 +35,8 @@ use Rattle.borzhanu.proofs.borzhanu_walker_step.Kinds as step-kinds
 use Rattle.borzhanu.proofs.borzhanu_walker_step.Reads as step-reads
 use Rattle.borzhanu.specs.Walkers.{walkerIn}
 use Rattle.answer.specs.Packing.{told}
-use Rattle.runs.specs.Contracts.{buffers, asked, of, listed}
-use Rattle.runs.specs.Bounds.{build-fits, recover-fits, opposite-fits, next-fits, previous-fits, element-fits, origin-fits, destination-fits}
+use Rattle.runs.specs.Contracts.{buffers, of}
+use Rattle.runs.specs.Bounds.{build-fits, columns-fits, recover-fits, opposite-fits, next-fits, previous-fits, element-fits, origin-fits, destination-fits}
 use Rattle.runs.specs.Bounds.{across-fits, half-edge-border-fits, vertex-border-fits, ring-fits, neighbours-fits, border-loop-fits, start-fits, step-fits}
 
 module _ (κs : Lfts 5) (a : Dens κs build-kinds.ps) (r : resT build-kinds.r κs .Denot) (s : AtExit (endedOf 5 build-kinds.ps build-kinds.r) κs) where
@@ -43,56 +45,67 @@ module _ (κs : Lfts 5) (a : Dens κs build-kinds.ps) (r : resT build-kinds.r κ
 
 module _ (κs : Lfts 4) (a : Dens κs recover-kinds.ps) (r : resT recover-kinds.r κs .Denot) (s : AtExit (endedOf 4 recover-kinds.ps recover-kinds.r) κs) where
   pub recover-told : recover-reads.Post κs a r s
-      → unpacked r ≡ recoverAnswer (a .0) (a .1 .0 .now) (a .1 .1 .0 .now) (a .1 .1 .1 .0 .now) (a .1 .1 .1 .1 .0 .now)
-  recover-told p = told _ (recover-fits _ _ _ _ _) r (p .0)
+      → unpacked r ≡ recoverAnswer (a .0) (a .1 .0) (a .1 .1 .0 .now) (a .1 .1 .1 .0 .now) (a .1 .1 .1 .1 .0 .now) (a .1 .1 .1 .1 .1 .0 .now)
+  recover-told p = told _ (recover-fits _ _ _ _ _ _) r (p .0)
+
+module _ (κs : Lfts 1) (a : Dens κs columns-kinds.ps) (r : resT columns-kinds.r κs .Denot) (s : AtExit (endedOf 1 columns-kinds.ps columns-kinds.r) κs) where
+  pub columns-told : columns-reads.Post κs a r s → unpacked r ≡ columnsAnswer (a .0) (a .1 .0 .now)
+  columns-told p = told _ (columns-fits _ _) r p
+
+-- the mesh of an exported query (n, columns, elements, v2e, e2e, b2e, ..), told the columns
+abbrev pub exported : (κs : Lfts 4) → Dens κs opposite-kinds.ps → Mesh
+exported κs a = mesh-of (a .0) (a .1 .0) (a .1 .1 .0 .now) (a .1 .1 .1 .0 .now) (a .1 .1 .1 .1 .0 .now) (a .1 .1 .1 .1 .1 .0 .now)
+
+abbrev pub exported-list : (κs : Lfts 5) → Dens κs ring-kinds.ps → Mesh
+exported-list κs a = mesh-of (a .0) (a .1 .0) (a .1 .1 .0 .now) (a .1 .1 .1 .0 .now) (a .1 .1 .1 .1 .0 .now) (a .1 .1 .1 .1 .1 .0 .now)
 
 module _ (κs : Lfts 4) (a : Dens κs opposite-kinds.ps) (r : resT opposite-kinds.r κs .Denot) (s : AtExit (endedOf 4 opposite-kinds.ps opposite-kinds.r) κs) where
-  pub opposite-told : opposite-reads.Post κs a r s → unpacked r ≡ oppositeAnswer (asked κs a) (of κs a)
-  opposite-told p = told _ (opposite-fits (asked κs a) (of κs a)) r p
+  pub opposite-told : opposite-reads.Post κs a r s → unpacked r ≡ oppositeAnswer (exported κs a) (of κs a)
+  opposite-told p = told _ (opposite-fits (exported κs a) (of κs a)) r p
 
-  pub next-told : next-reads.Post κs a r s → unpacked r ≡ nextAnswer (asked κs a) (of κs a)
-  next-told p = told _ (next-fits (asked κs a) (of κs a)) r p
+  pub next-told : next-reads.Post κs a r s → unpacked r ≡ nextAnswer (exported κs a) (of κs a)
+  next-told p = told _ (next-fits (exported κs a) (of κs a)) r p
 
-  pub previous-told : previous-reads.Post κs a r s → unpacked r ≡ previousAnswer (asked κs a) (of κs a)
-  previous-told p = told _ (previous-fits (asked κs a) (of κs a)) r p
+  pub previous-told : previous-reads.Post κs a r s → unpacked r ≡ previousAnswer (exported κs a) (of κs a)
+  previous-told p = told _ (previous-fits (exported κs a) (of κs a)) r p
 
-  pub element-told : element-reads.Post κs a r s → unpacked r ≡ elementAnswer (asked κs a) (of κs a)
-  element-told p = told _ (element-fits (asked κs a) (of κs a)) r p
+  pub element-told : element-reads.Post κs a r s → unpacked r ≡ elementAnswer (exported κs a) (of κs a)
+  element-told p = told _ (element-fits (exported κs a) (of κs a)) r p
 
-  pub origin-told : origin-reads.Post κs a r s → unpacked r ≡ originAnswer (asked κs a) (of κs a)
-  origin-told p = told _ (origin-fits (asked κs a) (of κs a)) r p
+  pub origin-told : origin-reads.Post κs a r s → unpacked r ≡ originAnswer (exported κs a) (of κs a)
+  origin-told p = told _ (origin-fits (exported κs a) (of κs a)) r p
 
-  pub destination-told : destination-reads.Post κs a r s → unpacked r ≡ destinationAnswer (asked κs a) (of κs a)
-  destination-told p = told _ (destination-fits (asked κs a) (of κs a)) r p
+  pub destination-told : destination-reads.Post κs a r s → unpacked r ≡ destinationAnswer (exported κs a) (of κs a)
+  destination-told p = told _ (destination-fits (exported κs a) (of κs a)) r p
 
-  pub across-told : across-reads.Post κs a r s → unpacked r ≡ acrossAnswer (asked κs a) (of κs a)
-  across-told p = told _ (across-fits (asked κs a) (of κs a)) r p
+  pub across-told : across-reads.Post κs a r s → unpacked r ≡ acrossAnswer (exported κs a) (of κs a)
+  across-told p = told _ (across-fits (exported κs a) (of κs a)) r p
 
-  pub half-edge-border-told : halfedge-is-border-reads.Post κs a r s → unpacked r ≡ halfEdgeBorderAnswer (asked κs a) (of κs a)
-  half-edge-border-told p = told _ (half-edge-border-fits (asked κs a) (of κs a)) r p
+  pub half-edge-border-told : halfedge-is-border-reads.Post κs a r s → unpacked r ≡ halfEdgeBorderAnswer (exported κs a) (of κs a)
+  half-edge-border-told p = told _ (half-edge-border-fits (exported κs a) (of κs a)) r p
 
-  pub vertex-border-told : vertex-is-border-reads.Post κs a r s → unpacked r ≡ vertexBorderAnswer (asked κs a) (of κs a)
-  vertex-border-told p = told _ (vertex-border-fits (asked κs a) (of κs a)) r p
+  pub vertex-border-told : vertex-is-border-reads.Post κs a r s → unpacked r ≡ vertexBorderAnswer (exported κs a) (of κs a)
+  vertex-border-told p = told _ (vertex-border-fits (exported κs a) (of κs a)) r p
 
 module _ (κs : Lfts 5) (a : Dens κs ring-kinds.ps) (r : resT ring-kinds.r κs .Denot) (s : AtExit (endedOf 5 ring-kinds.ps ring-kinds.r) κs) where
-  pub ring-told : ring-reads.Post κs a r s → unpacked r ≡ ringAnswer (listed κs a) (a .1 .1 .1 .1 .1 .0) (a .1 .1 .1 .1 .1 .1 .0 .now)
-  ring-told p = told _ (ring-fits (listed κs a) _ _) r (p .0)
+  pub ring-told : ring-reads.Post κs a r s → unpacked r ≡ ringAnswer (exported-list κs a) (a .1 .1 .1 .1 .1 .1 .0) (a .1 .1 .1 .1 .1 .1 .1 .0 .now)
+  ring-told p = told _ (ring-fits (exported-list κs a) _ _) r (p .0)
 
-  pub neighbours-told : neighbours-reads.Post κs a r s → unpacked r ≡ neighboursAnswer (listed κs a) (a .1 .1 .1 .1 .1 .0) (a .1 .1 .1 .1 .1 .1 .0 .now)
-  neighbours-told p = told _ (neighbours-fits (listed κs a) _ _) r (p .0)
+  pub neighbours-told : neighbours-reads.Post κs a r s → unpacked r ≡ neighboursAnswer (exported-list κs a) (a .1 .1 .1 .1 .1 .1 .0) (a .1 .1 .1 .1 .1 .1 .1 .0 .now)
+  neighbours-told p = told _ (neighbours-fits (exported-list κs a) _ _) r (p .0)
 
-  pub border-loop-told : border-loop-reads.Post κs a r s → unpacked r ≡ borderLoopAnswer (listed κs a) (a .1 .1 .1 .1 .1 .0) (a .1 .1 .1 .1 .1 .1 .0 .now)
-  border-loop-told p = told _ (border-loop-fits (listed κs a) _ _) r (p .0)
+  pub border-loop-told : border-loop-reads.Post κs a r s → unpacked r ≡ borderLoopAnswer (exported-list κs a) (a .1 .1 .1 .1 .1 .1 .0) (a .1 .1 .1 .1 .1 .1 .1 .0 .now)
+  border-loop-told p = told _ (border-loop-fits (exported-list κs a) _ _) r (p .0)
 
--- borzhanu_walker_start(n, elements, v2e, e2e, b2e, v, walker) and borzhanu_walker_step(n, elements, v2e, e2e, b2e, walker)
+-- borzhanu_walker_start(n, columns, elements, v2e, e2e, b2e, v, walker) and borzhanu_walker_step(n, columns, elements, v2e, e2e, b2e, walker)
 module _ (κs : Lfts 5) (a : Dens κs start-kinds.ps) (r : resT start-kinds.r κs .Denot) (s : AtExit (endedOf 5 start-kinds.ps start-kinds.r) κs) where
   pub start-told : start-reads.Post κs a r s
-      → unpacked r ≡ walkerStart (mesh (a .0) (a .1 .0 .now) (a .1 .1 .0 .now) (a .1 .1 .1 .0 .now) (a .1 .1 .1 .1 .0 .now))
-      (a .1 .1 .1 .1 .1 .0) (walkerIn (a .1 .1 .1 .1 .1 .1 .0 .now)) .answer
+      → unpacked r ≡ walkerStart (mesh-of (a .0) (a .1 .0) (a .1 .1 .0 .now) (a .1 .1 .1 .0 .now) (a .1 .1 .1 .1 .0 .now) (a .1 .1 .1 .1 .1 .0 .now))
+      (a .1 .1 .1 .1 .1 .1 .0) (walkerIn (a .1 .1 .1 .1 .1 .1 .1 .0 .now)) .answer
   start-told p = told _ (start-fits _ _ _) r (p .0)
 
 module _ (κs : Lfts 5) (a : Dens κs step-kinds.ps) (r : resT step-kinds.r κs .Denot) (s : AtExit (endedOf 5 step-kinds.ps step-kinds.r) κs) where
   pub step-told : step-reads.Post κs a r s
-      → unpacked r ≡ walkerStep (mesh (a .0) (a .1 .0 .now) (a .1 .1 .0 .now) (a .1 .1 .1 .0 .now) (a .1 .1 .1 .1 .0 .now))
-      (walkerIn (a .1 .1 .1 .1 .1 .0 .now)) .answer
+      → unpacked r ≡ walkerStep (mesh-of (a .0) (a .1 .0) (a .1 .1 .0 .now) (a .1 .1 .1 .0 .now) (a .1 .1 .1 .1 .0 .now) (a .1 .1 .1 .1 .1 .0 .now))
+      (walkerIn (a .1 .1 .1 .1 .1 .1 .0 .now)) .answer
   step-told p = told _ (step-fits _ _) r (p .0)

@@ -2,6 +2,7 @@ pub mod Runs
 pub mod Contracts
 pub mod Demand3
 pub mod OnBuilt
+pub mod Told
 pub mod Unused
 pub mod RoundTrip
 pub mod Bounds

@@ -20,9 +20,9 @@ use Rattle.lists.specs.Tests.{within}
 use Rattle.lists.specs.TestLaws.{decide, true-of, false-of, means-not, means-le, means-within}
 use Rattle.lists.specs.Search.{at}
 use Rattle.rules.specs.Elements.{Side, isSide, sides, element, next, previous}
-use Rattle.rules.specs.Pairing.{Accepted}
-use Rattle.rules.specs.Tables.{b2e, e2e, v2e}
-use Rattle.rules.specs.Refusals.{Answer, gives, refused, Buffers, callSizes, callLengths, after, onto, workAfter, buildLeaves}
+use Rattle.rules.specs.Pairing.{Accepted, sizesFit}
+use Rattle.rules.specs.Tables.{b2e, columns, e2e, v2e}
+use Rattle.rules.specs.Refusals.{Answer, gives, refused, Buffers, buildLengths, after, onto, workAfter, buildLeaves}
 use Rattle.rules.specs.Queries.{Mesh, asked, defined, found, listed, listLeaves, listedAnswer, bySide, isHalfEdge, isVertex, opposite, borderNext, ring}
 use Rattle.rules.specs.Queries.{neighbours, borderLoop, Walker, started, startSide, walkerStart, walkerStep, oppositeAnswer, nextAnswer, previousAnswer}
 use Rattle.rules.specs.Queries.{vertexBorderAnswer, ringAnswer}
@@ -101,7 +101,7 @@ module _ (n : ℕ) (L : List ℕ) (M : Mesh) (x : LeftBy n L M) where
 
   -- the buffers that it left, with the first k entries of B2e
   cut : Buffers → Mesh
-  cut w = record { n = n; list = L; vertices = w .vertices; opposites = w .opposites; border = take (x .k) (w .border) }
+  cut w = record { n = n; columns = columns L; list = L; vertices = w .vertices; opposites = w .opposites; border = take (x .k) (w .border) }
 
   pub left-built : M ≡ built n L
   unfolding cut buildLeaves after onto
@@ -111,7 +111,7 @@ module _ (n : ℕ) (L : List ℕ) (M : Mesh) (x : LeftBy n L M) where
       let seam = take-append-seam (b2e L) (drop (length (b2e L)) (x .lent .border)) in
       x .mesh ∙ ap cut (x .run .leaves)
       ∙ ap (λ (y : Answer). cut (left-after y)) a
-      ∙ ap (λ (B : List ℕ). record { n = n; list = L; vertices = v2e n L; opposites = e2e L; border = B }) (ap (λ (j : ℕ). take j (onto (b2e L) (x .lent .border))) k ∙ seam)
+      ∙ ap (λ (B : List ℕ). record { n = n; columns = columns L; list = L; vertices = v2e n L; opposites = e2e L; border = B }) (ap (λ (j : ℕ). take j (onto (b2e L) (x .lent .border))) k ∙ seam)
     where
       left-after : Answer → Buffers
       left-after y =
@@ -120,7 +120,7 @@ module _ (n : ℕ) (L : List ℕ) (M : Mesh) (x : LeftBy n L M) where
             vertices = after y (v2e n L) (w .vertices);
             opposites = after y (e2e L) (w .opposites);
             border = after y (onto (b2e L) (w .border)) (w .border);
-            work = workAfter (callSizes n L (w .opposites)) (callLengths n L (w .opposites) (w .vertices) (w .work)) (w .work);
+            work = workAfter (sizesFit n L) (buildLengths n L w) (w .work);
           }
 
   pub left-served : Served n L M

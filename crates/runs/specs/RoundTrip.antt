@@ -3,57 +3,56 @@
 -- Assumes nothing.
 use mathlib.Core.Path.{_≡_, refl, ap, sym, _∙_}
 use mathlib.Core.Bool.{Bool, true, false}
+use mathlib.Core.Logic.{_⊎_, inl, inr}
 use mathlib.Core.List.{List}
-use Prim.Native.Nat.{ℕ, _+_, _*_, _≤_}
+use Prim.Native.Nat.{ℕ, _+_, _*_, _≤_, _<_}
 use native.Mathlib.Omega.{arith}
 use lib.Dec.{T}
 use lib.ListN.{length}
-use Rattle.lists.specs.TestLaws.{means-both, means-eq, means-le}
+use Rattle.lists.specs.TestLaws.{means-both, means-either, means-eq, means-le}
 use Rattle.rules.specs.Elements.{elements}
-use Rattle.rules.specs.Pairing.{sizesFit}
-use Rattle.rules.specs.Recovery.{HasTables}
-use Rattle.rules.specs.Refusals.{Answer, gives, refused, Buffers, callSizes, callLengths, lengthChecks, roomCheck, listAnswer, buildAnswer}
-use Rattle.theory.specs.FitRows.{Fit, means-sizes}
-use Rattle.theory.specs.Entries.{length-e2e, length-v2e}
-use Rattle.theory.specs.Turns.{elements-e2e}
+use Rattle.rules.specs.Pairing.{callSizes, sizesFit}
+use Rattle.rules.specs.Tables.{columns, wide}
+use Rattle.rules.specs.Recovery.{HasTables, widened}
+use Rattle.rules.specs.Refusals.{Answer, gives, refused, Buffers, callLengths, buildLengths, lengthChecks, roomCheck, listAnswer, buildAnswer, recoverLengths}
+use Rattle.theory.specs.FitRows.{Fit, means-call-sizes}
+use Rattle.theory.specs.Entries.{length-v2e}
+use Rattle.theory.specs.Columns.{three-or-four, length-e2e, widened-e2e}
 use Rattle.theory.specs.Orders.{good}
 use Rattle.theory.specs.Rims.{borders-few}
 use Rattle.theory.specs.Answers.{room-enough, list-never}
-use Rattle.theory.specs.Recovering.{tables-equal, recover-gives}
-use Rattle.build.specs.Building.{sizes-known}
+use Rattle.theory.specs.Recovering.{tables-equal, recover-gives, not-in-four}
 use Rattle.runs.specs.Runs.{BuildRun, RecoverRun}
-use Rattle.runs.specs.Demand3.{counted, list-counted, writes-tables, answered}
+use Rattle.runs.specs.Demand3.{counted, list-counted, writes-tables, answered, ten}
 
 -- the tables of an accepted list have fit lengths for recovery, where the element list and the work buffer have
-module _ (n : ℕ) (L V2e E2e : List ℕ) (h : HasTables n L V2e E2e) (list work : List ℕ) (long : length list ≡ length L) (room : n + 16 * elements L ≤ length work) where
+module _ (n : ℕ) (L V2e E2e : List ℕ) (h : HasTables n (elements L) L V2e E2e) (list work : List ℕ)
+    (long : length list ≡ length L) (room : n + 16 * elements L ≤ length work) where
   fit : Fit n L
   fit = good n L (h .accepted) .fit
 
-  size : elements E2e ≡ elements L
-  size = ap (λ (X : List ℕ). elements X) (sym (h .opposites)) ∙ elements-e2e L
+  either-long : (length E2e ≡ 3 * elements L) ⊎ (length E2e ≡ 4 * elements L)
+  either-long =
+      let l = ap length (sym (h .opposites)) ∙ length-e2e L in
+      let by : (c : ℕ) → columns L ≡ c → length E2e ≡ c * elements L = λ c e. l ∙ ap (λ (i : ℕ). i * elements L) e in
+      elim (three-or-four L) [ inl e ↦ inl (by 3 e) | inr e ↦ inr (by 4 e) ]
 
-  four : length E2e ≡ 4 * elements L
-  four = ap length (sym (h .opposites)) ∙ length-e2e L
+  sizes-fit : T (callSizes n (elements L) list)
+  sizes-fit = means-call-sizes n (elements L) list .shows (fit .vertices, (fit .size, omega (arith, fit .fours)))
 
-  sizes-fit : T (callSizes n E2e list)
-  unfolding callSizes
-  sizes-fit =
-      means-both (means-sizes n E2e) (means-eq (length list) (4 * elements list)) .shows (
-        (fit .vertices, (omega (arith, size, fit .size), omega (arith, four, size))),
-        omega (arith, fit .fours),
-      )
-
-  lengths-fit : T (callLengths n E2e list V2e work)
-  unfolding callLengths
+  lengths-fit : T (recoverLengths n (elements L) V2e E2e list work)
+  unfolding recoverLengths callLengths
   lengths-fit =
+      let m = elements L in
+      let columned = means-either (means-eq (length E2e) (3 * m)) (means-eq (length E2e) (4 * m)) in
       means-both (means-eq (length V2e) n)
-      (means-both (means-eq (length list) (4 * elements E2e)) (means-le (n + 16 * elements E2e) (length work))) .shows
-      (ap length (sym (h .vertices)) ∙ length-v2e L n, (omega (arith, size, fit .fours), omega (arith, size)))
+      (means-both (means-both (means-eq (length list) (4 * m)) columned) (means-le (n + 16 * m) (length work))) .shows
+      (ap length (sym (h .vertices)) ∙ length-v2e L n, ((omega (arith, fit .fours), either-long), room))
 
--- a run of build that counts, and then a run of recovery on what it left
+-- a run of build that counts, and then a run of recovery on what it left, told m
 module _ (n : ℕ) (L : List ℕ) (w w′ : Buffers) (a : Answer) (k e : ℕ) (built : BuildRun n L w a w′) (counts : a ≡ gives k e)
-    (list work : List ℕ) (b : Answer) (list′ work′ : List ℕ) (run : RecoverRun n (w′ .vertices) (w′ .opposites) list work b list′ work′) where
-  tables : HasTables n L (w′ .vertices) (w′ .opposites)
+    (list work : List ℕ) (b : Answer) (list′ work′ : List ℕ) (run : RecoverRun n (elements L) (w′ .vertices) (w′ .opposites) list work b list′ work′) where
+  tables : HasTables n (elements L) L (w′ .vertices) (w′ .opposites)
   tables = writes-tables n L w a w′ k e built counts
 
   -- it writes exactly that list, where the element list and the work buffer have fit lengths
@@ -61,22 +60,36 @@ module _ (n : ℕ) (L : List ℕ) (w w′ : Buffers) (a : Answer) (k e : ℕ) (b
   comes-back long room =
       let sizes = sizes-fit n L (w′ .vertices) (w′ .opposites) tables list work long room in
       let lengths = lengths-fit n L (w′ .vertices) (w′ .opposites) tables list work long room in
-      let (f, g) = recover-gives n (w′ .vertices) (w′ .opposites) list work sizes lengths L tables in
+      let (f, g) = recover-gives n (elements L) (w′ .vertices) (w′ .opposites) list work sizes lengths L tables in
       (run .answer ∙ f, run .leaves ∙ g)
 
   -- ... and no other, whenever it answers
   pub comes-back-alone : (p q : ℕ) → b ≡ gives p q → list′ ≡ L
   comes-back-alone p q g =
-      let h = answered n (w′ .vertices) (w′ .opposites) list work b list′ work′ run p q g .1 in
-      tables-equal n n list′ L (w′ .vertices) (w′ .opposites) h tables .1
+      let h = answered n (elements L) (w′ .vertices) (w′ .opposites) list work b list′ work′ run p q g .1 in
+      tables-equal n n (elements L) list′ L (w′ .vertices) (w′ .opposites) h tables .1
 
 -- a run of recovery that answers, and then a run of build that counts on the list that it left: the tables are those that recovery was given
-pub builds-back : (n : ℕ) (V2e E2e list work list′ work′ : List ℕ) (b : Answer) (p q : ℕ) → RecoverRun n V2e E2e list work b list′ work′ → b ≡ gives p q
+pub builds-back : (n m : ℕ) (V2e E2e list work list′ work′ : List ℕ) (b : Answer) (p q : ℕ) → RecoverRun n m V2e E2e list work b list′ work′ → b ≡ gives p q
     → (w w′ : Buffers) (a : Answer) (k e : ℕ) → BuildRun n list′ w a w′ → a ≡ gives k e → (w′ .vertices ≡ V2e) × (w′ .opposites ≡ E2e)
-builds-back n V2e E2e list work list′ work′ b p q run g w w′ a k e built counts =
-    let h = answered n V2e E2e list work b list′ work′ run p q g .1 in
+builds-back n m V2e E2e list work list′ work′ b p q run g w w′ a k e built counts =
+    let h = answered n m V2e E2e list work b list′ work′ run p q g .1 in
     let t = writes-tables n list′ w a w′ k e built counts in
     (sym (t .vertices) ∙ h .vertices, sym (t .opposites) ∙ h .opposites)
+
+-- "A triangle list that isn't empty, offered in four columns, gives 10": a run of build that counts on a list without a quadrilateral, and then a
+-- run of recovery on the E2e that it left, put into four columns
+pub triangles-in-four : (n : ℕ) (L : List ℕ) (w w′ : Buffers) (a : Answer) (k e : ℕ) → BuildRun n L w a w′ → a ≡ gives k e → columns L ≡ 3 → 0 < elements L
+    → (list work : List ℕ) (b : Answer) (list′ work′ : List ℕ)
+    → RecoverRun n (elements L) (w′ .vertices) (widened (elements L) (w′ .opposites)) list work b list′ work′
+    → T (callSizes n (elements L) list) → T (recoverLengths n (elements L) (w′ .vertices) (widened (elements L) (w′ .opposites)) list work)
+    → b ≡ refused 10 0 0
+triangles-in-four n L w w′ a k e built counts three some list work b list′ work′ run sizes lengths =
+    let m = elements L in
+    let t = writes-tables n L w a w′ k e built counts in
+    let four : widened m (w′ .opposites) ≡ wide L = ap (widened m) (sym (t .opposites)) ∙ widened-e2e L in
+    ten n m (w′ .vertices) (widened m (w′ .opposites)) list work b list′ work′ run sizes lengths .1
+    (λ (X, h). not-in-four n L (t .accepted) three some (X, (rw (← t .vertices, four) at h)))
 
 module _ (n : ℕ) (L : List ℕ) (w w′ : Buffers) (a : Answer) (run : BuildRun n L w a w′) where
   -- k is at most n
@@ -89,7 +102,7 @@ module _ (n : ℕ) (L : List ℕ) (w w′ : Buffers) (a : Answer) (run : BuildRu
   -- is refused by 9
   pub never-nine : n ≤ length (w .border) → (p q : ℕ) → a ≡ refused 9 p q → ⊥
   unfolding buildAnswer lengthChecks roomCheck
-  never-nine long p q g = go (callSizes n L (w .opposites)) (callLengths n L (w .opposites) (w .vertices) (w .work)) refl (sym (run .answer) ∙ g)
+  never-nine long p q g = go (sizesFit n L) (buildLengths n L w) refl (sym (run .answer) ∙ g)
     where
       past : T (sizesFit n L) → (x : Answer) → listAnswer n L ≡ x → roomCheck (length (w .border)) x ≡ refused 9 p q → ⊥
       past s (refused r i j) e f = list-never n L 9 (λ r from to d z. omega arith) p q (e ∙ f)
@@ -99,7 +112,7 @@ module _ (n : ℕ) (L : List ℕ) (w w′ : Buffers) (a : Answer) (run : BuildRu
           let f′ = sym (room-enough (length (w .border)) k j h) ∙ f in
           let z : _≡_ {A = ℕ} 0 1 = cc in omega arith
 
-      go : (sizes lengths : Bool) → callSizes n L (w .opposites) ≡ sizes → lengthChecks sizes lengths (roomCheck (length (w .border)) (listAnswer n L)) ≡ refused 9 p q → ⊥
-      go true true s f = past (sizes-known n L (w .opposites) s .0) (listAnswer n L) refl f
+      go : (sizes lengths : Bool) → sizesFit n L ≡ sizes → lengthChecks sizes lengths (roomCheck (length (w .border)) (listAnswer n L)) ≡ refused 9 p q → ⊥
+      go true true s f = past (rw s tt) (listAnswer n L) refl f
       go true false s f = let z : _≡_ {A = ℕ} 2 9 = cc in omega arith
       go false l s f = let z : _≡_ {A = ℕ} 1 9 = cc in omega arith

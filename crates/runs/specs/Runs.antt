@@ -4,6 +4,7 @@ use mathlib.Core.Path.{_≡_, refl}
 use mathlib.Core.List.{List}
 use Prim.Native.Nat.{ℕ}
 use lib.ListN.{take}
+use Rattle.rules.specs.Tables.{columns}
 use Rattle.rules.specs.Refusals.{Answer, gives, refused, Buffers, buildAnswer, buildLeaves, recoverAnswer, recoverList, recoverWork}
 use Rattle.rules.specs.Queries.{Mesh, oppositeAnswer, nextAnswer, previousAnswer, elementAnswer, originAnswer, destinationAnswer, acrossAnswer}
 use Rattle.rules.specs.Queries.{halfEdgeBorderAnswer, vertexBorderAnswer, ringAnswer, ringLeaves, neighboursAnswer, neighboursLeaves}
@@ -14,11 +15,11 @@ pub record BuildRun (n : ℕ) (L : List ℕ) (w : Buffers) (a : Answer) (w′ : 
   pub answer : a ≡ buildAnswer n L w
   pub leaves : w′ ≡ buildLeaves n L w
 
--- a run of recovery
-pub record RecoverRun (n : ℕ) (V2e E2e list work : List ℕ) (a : Answer) (list′ work′ : List ℕ) : Type 0 where
-  pub answer : a ≡ recoverAnswer n V2e E2e list work
-  pub leaves : list′ ≡ recoverList n V2e E2e list work
-  pub clears : work′ ≡ recoverWork n V2e E2e list work
+-- a run of recovery, told m
+pub record RecoverRun (n m : ℕ) (V2e E2e list work : List ℕ) (a : Answer) (list′ work′ : List ℕ) : Type 0 where
+  pub answer : a ≡ recoverAnswer n m V2e E2e list work
+  pub leaves : list′ ≡ recoverList n m V2e E2e list work
+  pub clears : work′ ≡ recoverWork n m V2e E2e list work
 
 -- runs of the queries that write a list
 pub record RingRun (M : Mesh) (v : ℕ) (out : List ℕ) (a : Answer) (out′ : List ℕ) : Type 0 where
@@ -63,11 +64,12 @@ unfolding walked
 walked-answers (gives p q) new old = refl
 walked-answers (refused r p q) new old = refl
 
--- "Built tables are a list and what build writes for it, B2e cut to k": M is what a run of build on L has left, after it answered its counts
+-- "Built tables are a list and what build writes for it, B2e cut to k": M is what a run of build on L has left, after it answered its counts,
+-- told the list's columns
 pub record LeftBy (n : ℕ) (L : List ℕ) (M : Mesh) : Type 0 where
   pub lent : Buffers
   pub left : Buffers
   pub k : ℕ
   pub edges : ℕ
   pub run : BuildRun n L lent (gives k edges) left
-  pub mesh : M ≡ record { n = n; list = L; vertices = left .vertices; opposites = left .opposites; border = take k (left .border) }
+  pub mesh : M ≡ record { n = n; columns = columns L; list = L; vertices = left .vertices; opposites = left .opposites; border = take k (left .border) }

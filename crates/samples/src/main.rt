@@ -14,10 +14,10 @@ const TABLE: u32 = 7;
 
 const WORK: u32 = 5;
 
-fn emit_tables(k: u32, v2e: &[u32], e2e: &[u32], b2e: &[u32]) {
+fn emit_tables(columns: u32, k: u32, v2e: &[u32], e2e: &[u32], b2e: &[u32]) {
     let mut out = [0u8; 1000];
     let end = cases::length(k, b2e.len());
-    let p = print::print_tables(&mut out, v2e, e2e, &b2e[0..end]);
+    let p = print::print_tables(&mut out, columns, v2e, e2e, &b2e[0..end]);
     cases::emit(&out, p);
 }
 
@@ -52,8 +52,8 @@ fn is_clean(kept: bool, work: &[u32], x: u32) -> bool {
     cases::is_all(work, x)
 }
 
-fn report_tables(k: u32, v2e: &[u32], e2e: &[u32], b2e: &[u32], work: &[u32]) {
-    emit_tables(k, v2e, e2e, b2e);
+fn report_tables(columns: u32, k: u32, v2e: &[u32], e2e: &[u32], b2e: &[u32], work: &[u32]) {
+    emit_tables(columns, k, v2e, e2e, b2e);
     let kept = is_rest_kept(b2e, k);
     cases::emit_clean(is_clean(kept, work, 0));
 }
@@ -63,11 +63,11 @@ fn report_refusal(number: u32, v2e: &[u32], e2e: &[u32], b2e: &[u32], work: &[u3
     cases::emit_clean(is_clean(kept, work, work_after(number)));
 }
 
-fn report(a: Answer, v2e: &[u32], e2e: &[u32], b2e: &[u32], work: &[u32]) {
+fn report(a: Answer, columns: u32, v2e: &[u32], e2e: &[u32], b2e: &[u32], work: &[u32]) {
     match a {
         Answer::Gives { first, second } => {
             cases::emit_line(b'K', &[first, second]);
-            report_tables(first, v2e, e2e, b2e, work);
+            report_tables(columns, first, v2e, e2e, b2e, work);
         }
         Answer::Refused {
             number,
@@ -82,7 +82,7 @@ fn report(a: Answer, v2e: &[u32], e2e: &[u32], b2e: &[u32], work: &[u32]) {
 
 fn run(n: u32, list: &[u32], v2e: &mut [u32], e2e: &mut [u32], b2e: &mut [u32], work: &mut [u32]) {
     let a = build::build(n, list, v2e, e2e, b2e, work);
-    report(a, v2e, e2e, b2e, work);
+    report(a, columns::columns_of(list), v2e, e2e, b2e, work);
 }
 
 fn run_with(numbers: &[u32; 128], list: &[u32]) {

@@ -14,7 +14,7 @@ use Rattle.lists.specs.Parts.{part, part-take}
 use Rattle.lists.specs.Stores.{Kept}
 use Rattle.rules.specs.Elements.{maxElement, elements, element, number, sideAt, slot, sideWith, firstVertex, countSides}
 use Rattle.rules.specs.Pairing.{sizesFit, unfitCorner, repeatedCorner, rowsFit}
-use Rattle.rules.specs.Tables.{borders, edges, b2e, e2e, v2e}
+use Rattle.rules.specs.Tables.{borders, edges, b2e, wide, v2e}
 use Rattle.rules.specs.Recovery.{walkTo, walk}
 use Rattle.rules.specs.Refusals.{Answer, gives, refused, crowdedSide, alikeSide, missed, unorderedVertex, sideCheck, vertexCheck, listAnswer}
 use Rattle.theory.specs.Sides.{sideAt-slot}
@@ -46,7 +46,7 @@ fitAnswer n L = sideCheck 6 (crowdedSide L) (sideCheck 7 (alikeSide L) (pairedAn
 -- V2e, E2e and B2e stand one after another
 pub record Holds (n : ℕ) (L w : List ℕ) : Type 0 where
   pub vertices : take n w ≡ v2e n L
-  pub opposites : part n (4 * elements L) w ≡ e2e L
+  pub opposites : part n (4 * elements L) w ≡ wide L
   pub border : part (n + 4 * elements L) (borders L) w ≡ b2e L
 
 -- a is the answer, and after counts the tables stand in the buffer
@@ -80,13 +80,13 @@ module _ {n : ℕ} {L w : List ℕ} (r : Ready n L w) {k c : ℕ} {w₁ : List �
   fit = r .mapped .fit
 
   -- the walk is over the list's own tables
-  own : written n (elements L) w₂ ≡ walk (v2e n L) (e2e L)
+  own : written n (elements L) w₂ ≡ walk (v2e n L) (wide L)
   unfolding walk
   own =
       y .new
       ∙ ap (λ (X : List ℕ). walkTo X (e2eIn n (elements L) w₁) n) (x .vertices)
       ∙ ap (λ (X : List ℕ). walkTo (v2e n L) X n) (x .opposites)
-      ∙ ap (walkTo (v2e n L) (e2e L)) (sym (length-v2e L n))
+      ∙ ap (walkTo (v2e n L) (wide L)) (sym (length-v2e L n))
 
   walk-done : Walked (n + 8 * elements L) L w₂
   walk-done =

@@ -14,7 +14,7 @@ use Rattle.lists.specs.SearchLaws.{le-or-lt}
 use Rattle.rules.specs.Pairing.{Ordered, unfitCorner, repeatedCorner, rowsFit, sizesFit}
 use Rattle.rules.specs.Tables.{partner, borders, edges}
 use Rattle.rules.specs.Refusals.{Answer, gives, refused, crowdedSide, alikeSide, unorderedVertex, sideCheck, checkFound, listAnswer, Buffers}
-use Rattle.rules.specs.Refusals.{callSizes, callLengths, lengthChecks, roomCheck, buildAnswer}
+use Rattle.rules.specs.Refusals.{buildLengths, lengthChecks, roomCheck, buildAnswer}
 use Rattle.theory.specs.FitRows.{means-fit}
 use Rattle.theory.specs.Pairings.{pairing-exists, the-pairing}
 use Rattle.theory.specs.Orders.{good}
@@ -110,12 +110,12 @@ module _ (n : ℕ) (L : List ℕ) (rows : T (rowsFit n L)) where
       let orders = means-ordered n L p .says (means-eq (unorderedVertex n L) 0 .shows o) in
       absurd (none (partner L, record { pairing = p; orders = orders }))))))
 
-  module _ (w : Buffers) (sizes : T (callSizes n L (w .opposites))) (lengths : T (callLengths n L (w .opposites) (w .vertices) (w .work))) where
+  module _ (w : Buffers) (sizes : T (sizesFit n L)) (lengths : T (buildLengths n L w)) where
     -- with fit lengths the answer is that of checks 3 to 9
     fit-answer : buildAnswer n L w ≡ roomCheck (length (w .border)) (listAnswer n L)
     unfolding buildAnswer lengthChecks
     fit-answer =
-        rw (true-of (callSizes n L (w .opposites)) sizes, true-of (callLengths n L (w .opposites) (w .vertices) (w .work)) lengths, lengthChecks)
+        rw (true-of (sizesFit n L) sizes, true-of (buildLengths n L w) lengths, lengthChecks)
 
     -- theorem 2: where a pairing with turn orders exists, only 9 remains, exactly when B2e is shorter than k
     pub build-ordered : (π : ℕ → ℕ) → Ordered n L π → buildAnswer n L w ≡ roomCheck (length (w .border)) (gives (borders L) (edges L))
@@ -186,5 +186,5 @@ never-lengths q false lengths x h f = never-refused q 1 0 0 (λ z. omega arith)
 pub build-never-five : (n : ℕ) (L : List ℕ) (w : Buffers) → Never 5 (buildAnswer n L w)
 unfolding buildAnswer
 build-never-five n L w =
-    never-lengths 5 (callSizes n L (w .opposites)) (callLengths n L (w .opposites) (w .vertices) (w .work)) _ (omega arith)
+    never-lengths 5 (sizesFit n L) (buildLengths n L w) _ (omega arith)
     (never-room 5 (length (w .border)) _ (λ z. omega arith) (list-never n L 5 (λ r from to d. d)))

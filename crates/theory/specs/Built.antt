@@ -15,19 +15,19 @@ use Rattle.lists.specs.Search.{at}
 use Rattle.lists.specs.SearchLaws.{count-bound}
 use Rattle.rules.specs.Elements.{elements, isSide, Side, origin, destination, sideWith, countSides}
 use Rattle.rules.specs.Pairing.{SideAt, rowsFit, sizesFit, unfitCorner, repeatedCorner}
-use Rattle.rules.specs.Tables.{partner, isBorder, b2e, borderNumber, borders, e2e, v2e}
-use Rattle.rules.specs.Refusals.{Answer, callSizes, lengthChecks}
-use Rattle.rules.specs.Queries.{Mesh, asked, read, bySide, byEntry, isBorderCode, isHalfEdge, isEntry, isVertex, readOpposite, readBorderSide, readVertexEntry, readOrigin, readDestination}
+use Rattle.rules.specs.Tables.{partner, isBorder, b2e, borderNumber, borders, columns, e2e, v2e}
+use Rattle.rules.specs.Refusals.{Answer, lengthChecks}
+use Rattle.rules.specs.Queries.{Mesh, queryLengths, asked, read, bySide, byEntry, isBorderCode, isHalfEdge, isEntry, isVertex, readOpposite, readBorderSide, readVertexEntry, readOrigin, readDestination}
 use Rattle.theory.specs.Sides.{side-facts, side-positive}
 use Rattle.theory.specs.Steps.{next-side}
 use Rattle.theory.specs.FitRows.{Fit, means-fit}
 use Rattle.theory.specs.Pairings.{partner-opposed}
-use Rattle.theory.specs.Entries.{length-e2e, length-v2e, length-b2e, e2e-paired, e2e-border, b2e-border, number-from, number-to, numbered-border, VertexEntry, vertex-entry}
-use Rattle.theory.specs.Turns.{elements-e2e}
+use Rattle.theory.specs.Entries.{length-v2e, length-b2e, wide-paired, wide-border, b2e-border, number-from, number-to, numbered-border, VertexEntry, vertex-entry}
+use Rattle.theory.specs.Columns.{length-e2e, entry-side, three-or-four}
 
 -- "Built tables are a list and what build writes for it, B2e cut to k"
 abbrev pub built : ℕ → List ℕ → Mesh
-built n L = record { n = n; list = L; vertices = v2e n L; opposites = e2e L; border = b2e L }
+built n L = record { n = n; columns = columns L; list = L; vertices = v2e n L; opposites = e2e L; border = b2e L }
 
 checks-pass : (x y : Bool) (a : Answer) → T x → T y → lengthChecks x y a ≡ a
 unfolding lengthChecks
@@ -45,20 +45,19 @@ module _ (n : ℕ) (L : List ℕ) (fit : Fit n L) where
   sizes =
       passes (sizesFit n L) (both (eqb (unfitCorner n L) 0) (eqb (repeatedCorner L) 0)) (means-fit n L .shows fit) .0
 
-  call-sizes : T (callSizes n L (e2e L))
-  unfolding callSizes
-  call-sizes =
-      both-pass (sizesFit n L) (eqb (length (e2e L)) (4 * elements (e2e L))) sizes
-      (means-eq _ _ .shows (length-e2e L ∙ ap (λ (m : ℕ). 4 * m) (sym (elements-e2e L))))
-
   -- theorem 6: checks 1 and 2 pass
   pub asked-built : (a : Answer) → asked (built n L) a ≡ a
-  unfolding asked
+  unfolding asked queryLengths
   asked-built a =
-      checks-pass (callSizes n L (e2e L)) _ a call-sizes
+      checks-pass (sizesFit n L) _ a sizes
+      (means-both (means-within 3 4 (columns L))
       (means-both (means-eq (length (v2e n L)) n)
-      (means-both (means-eq (length (e2e L)) (4 * elements L)) (means-le (length (b2e L)) (4 * elements L))) .shows
-      (length-v2e L n, (length-e2e L, omega (arith, length-b2e L, borders-bound L, fit .fours))))
+      (means-both (means-eq (length (e2e L)) (columns L * elements L)) (means-le (length (b2e L)) (4 * elements L)))) .shows
+      (three-to-four (three-or-four L), (length-v2e L n, (length-e2e L, omega (arith, length-b2e L, borders-bound L, fit .fours)))))
+    where
+      three-to-four : (columns L ≡ 3) ⊎ (columns L ≡ 4) → (3 ≤ columns L) × (columns L ≤ 4)
+      three-to-four (inl e) = omega arith
+      three-to-four (inr e) = omega arith
 
 -- the half-edges of built tables
 pub data HalfEdge (L : List ℕ) (c : ℕ) : Type 0 where
@@ -122,13 +121,13 @@ module _ (n : ℕ) (L : List ℕ) where
   pub read-paired : (s : ℕ) → Side L s → (partner L s ≡ 0 → ⊥) → readOpposite (built n L) s ≡ some (partner L s)
   unfolding readOpposite
   read-paired s a z =
-      rw (e2e-paired L s a z)
+      rw (entry-side L s a, wide-paired L s a z)
       (read-valid (isHalfEdge (built n L)) (partner L s) (means-half (partner L s) .shows (side (partner-opposed L s z .0))))
 
   pub read-border : (s : ℕ) → Side L s → partner L s ≡ 0 → readOpposite (built n L) s ≡ some (8 * borderNumber L s)
   unfolding readOpposite
   read-border s a z =
-      rw (e2e-border L s a z)
+      rw (entry-side L s a, wide-border L s a z)
       (read-valid (isHalfEdge (built n L)) (8 * borderNumber L s) (means-half (8 * borderNumber L s) .shows (border s a z refl)))
 
   pub read-border-side : (s : ℕ) → Side L s → partner L s ≡ 0 → readBorderSide (built n L) (8 * borderNumber L s) ≡ some s

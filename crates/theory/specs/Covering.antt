@@ -14,10 +14,10 @@ use Rattle.lists.specs.Search.{at}
 use Rattle.lists.specs.SearchLaws.{Met, lt-or-eq}
 use Rattle.rules.specs.Elements.{elements, sides, isSide, Side, slot, origin, next, sideAt}
 use Rattle.rules.specs.Pairing.{Pairing, Turn, SideAt, TurnOrder}
-use Rattle.rules.specs.Tables.{partner, e2e, v2e}
+use Rattle.rules.specs.Tables.{partner, wide, v2e}
 use Rattle.rules.specs.Recovery.{walk}
 use Rattle.theory.specs.Sides.{no-side-zero, sideAt-slot, slot-sideAt}
-use Rattle.theory.specs.Entries.{length-e2e}
+use Rattle.theory.specs.Entries.{length-wide}
 use Rattle.theory.specs.Orders.{Good, turn-origin, turn-inj, first-after, begins}
 use Rattle.theory.specs.Rims.{Ends}
 use Rattle.theory.specs.Walking.{Start, after, side, nowhere, start-at, Fan, walk-walked}
@@ -115,34 +115,34 @@ module _ (L : List ℕ) (p : Pairing L (partner L)) (v c : ℕ) (o : List ℕ) (
 
 module _ (n : ℕ) (L : List ℕ) (p : Pairing L (partner L)) (v : ℕ) (from : 1 ≤ v) (to : v ≤ n) where
   -- a turn order exactly where the walk writes every side
-  pub order-covered : (q : List ℕ) → TurnOrder L (partner L) v q → Covered L (walk (v2e n L) (e2e L)) v
+  pub order-covered : (q : List ℕ) → TurnOrder L (partner L) v q → Covered L (walk (v2e n L) (wide L)) v
   order-covered q x s a =
       let (o, fan, written, reached) = walk-walked n L p .fans v from to in
       let (i, h, e) = order-all-met L p v _ o fan (start-at n L v from to) q x s a in
-      ap (λ (t : ℕ). at (walk (v2e n L) (e2e L)) (slot t)) (sym e) ∙ written i h
+      ap (λ (t : ℕ). at (walk (v2e n L) (wide L)) (slot t)) (sym e) ∙ written i h
 
-  pub covered-order : Covered L (walk (v2e n L) (e2e L)) v → (o : List ℕ) × TurnOrder L (partner L) v o
+  pub covered-order : Covered L (walk (v2e n L) (wide L)) v → (o : List ℕ) × TurnOrder L (partner L) v o
   covered-order all =
       let (o, fan, written, reached) = walk-walked n L p .fans v from to in
       (o, fan-order L p v _ o fan (λ t b. elim (reached t b) [ inl z ↦ absurd (omega (arith, all t b)) | inr m ↦ m ]))
 
 -- theorem 4: the walk gives every accepted list back from its tables
-pub walk-back : (n : ℕ) (L : List ℕ) → Good n L → walk (v2e n L) (e2e L) ≡ L
+pub walk-back : (n : ℕ) (L : List ℕ) → Good n L → walk (v2e n L) (wide L) ≡ L
 unfolding origin
 walk-back n L g =
     let k = walk-walked n L (g .pairing) in
-    ext-getD 0 (walk (v2e n L) (e2e L)) L
-    (k .long ∙ length-e2e L ∙ sym (g .fit .fours))
-    (λ q h. go q (test (isSide L (sideAt q))) (omega (arith, k .long, length-e2e L)))
+    ext-getD 0 (walk (v2e n L) (wide L)) L
+    (k .long ∙ length-wide L ∙ sym (g .fit .fours))
+    (λ q h. go q (test (isSide L (sideAt q))) (omega (arith, k .long, length-wide L)))
   where
-    go : (q : ℕ) → Test (isSide L (sideAt q)) → q < 4 * elements L → at (walk (v2e n L) (e2e L)) q ≡ at L q
+    go : (q : ℕ) → Test (isSide L (sideAt q)) → q < 4 * elements L → at (walk (v2e n L) (wide L)) q ≡ at L q
     go q (pass a e) h =
         let s = sideAt q in
         let v = origin L s in
         let from = g .fit .from s a in
         let to = g .fit .to s a in
         let (o, x) = g .orders v from to in
-        ap (at (walk (v2e n L) (e2e L))) (sym (slot-sideAt q))
+        ap (at (walk (v2e n L) (wide L))) (sym (slot-sideAt q))
         ∙ order-covered n L (g .pairing) v from to o x s (a, refl)
         ∙ ap (at L) (slot-sideAt q)
     go q (fail a e) h =

@@ -13,7 +13,7 @@ use Rattle.lists.specs.TestLaws.{Test, pass, fail, test, Means, decide, passes,
 use Rattle.lists.specs.Search.{at}
 use Rattle.rules.specs.Elements.{slot, origin, firstSide, firstVertex}
 use Rattle.rules.specs.Pairing.{Pairing, TurnOrder, Accepted, rowsFit}
-use Rattle.rules.specs.Tables.{partner, e2e, v2e}
+use Rattle.rules.specs.Tables.{partner, wide, v2e}
 use Rattle.rules.specs.Recovery.{walk}
 use Rattle.rules.specs.Refusals.{crowdedSide, alikeSide, missed, unorderedVertex, accepts}
 use Rattle.theory.specs.Least.{means-some, means-none, means-no-vertex, FirstVertex, nobody, somebody, first-vertex}
@@ -58,10 +58,10 @@ module _ (n : ℕ) (L : List ℕ) where
       go (inr d) = absurd (T-not (missed L W v) t (means-missed W v .shows (λ f. d (f s (a, o)))))
 
   -- check 8 finds nothing exactly when the walk writes every side
-  means-covered : Means (eqb (unorderedVertex n L) 0) ((v : ℕ) → 1 ≤ v → v ≤ n → Covered L (walk (v2e n L) (e2e L)) v)
+  means-covered : Means (eqb (unorderedVertex n L) 0) ((v : ℕ) → 1 ≤ v → v ≤ n → Covered L (walk (v2e n L) (wide L)) v)
   unfolding unorderedVertex
   means-covered =
-      let W = walk (v2e n L) (e2e L) in
+      let W = walk (v2e n L) (wide L) in
       record {
         says = λ z v a b. covered-or W v (not-T (missed L W v) (means-no-vertex n (missed L W) .says z v a b));
         shows = λ f. means-no-vertex n (missed L W) .shows (λ v a b t. means-missed W v .says t (f v a b));
@@ -80,10 +80,10 @@ module _ (n : ℕ) (L : List ℕ) where
     pub unordered-least : (unorderedVertex n L ≡ 0 → ⊥)
         → ((o : List ℕ) → TurnOrder L (partner L) (unorderedVertex n L) o → ⊥) × ((v : ℕ) → 1 ≤ v → v < unorderedVertex n L → (o : List ℕ) × TurnOrder L (partner L) v o)
     unfolding unorderedVertex
-    unordered-least d = go (first-vertex n (missed L (walk (v2e n L) (e2e L))))
+    unordered-least d = go (first-vertex n (missed L (walk (v2e n L) (wide L))))
       where
         W : List ℕ
-        W = walk (v2e n L) (e2e L)
+        W = walk (v2e n L) (wide L)
 
         u : ℕ
         u = firstVertex n (missed L W)

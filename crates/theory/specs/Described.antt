@@ -8,15 +8,16 @@ use native.Mathlib.Omega.{arith}
 use lib.ListN.{length}
 use Rattle.lists.specs.Search.{at}
 use Rattle.lists.specs.SearchLaws.{le-not-lt, lt-or-eq}
-use Rattle.rules.specs.Elements.{elements, corner, Side, slot, destination, next}
+use Rattle.rules.specs.Elements.{elements, corner, Side, destination, next}
 use Rattle.rules.specs.Pairing.{SideAt, Accepted}
-use Rattle.rules.specs.Tables.{partner, borderNumber, borders, b2e, e2e, v2e}
+use Rattle.rules.specs.Tables.{partner, borderNumber, borders, b2e, columns, e2eSlot, e2e, v2e}
 use Rattle.theory.specs.Sides.{side-positive}
 use Rattle.theory.specs.Steps.{next-side}
 use Rattle.theory.specs.Pairings.{pairing-unique}
-use Rattle.theory.specs.Entries.{length-e2e, length-v2e, length-b2e, e2e-paired, e2e-border, e2e-empty, b2e-border, number-from, number-to, number-less}
+use Rattle.theory.specs.Entries.{length-v2e, length-b2e, wide-paired, wide-border, wide-empty, b2e-border, number-from, number-to, number-less}
 use Rattle.theory.specs.Entries.{numbered-border, VertexEntry, rim, inner, unused, vertex-entry}
-use Rattle.theory.specs.Turns.{fourth, fourth-none}
+use Rattle.theory.specs.Columns.{length-e2e, at-side, four-is-wide}
+use Rattle.theory.specs.Turns.{fourth, fourth-none, triangles, quadrilateral}
 use Rattle.theory.specs.Orders.{Good, good, one-border-into}
 
 -- entry b of B2e is the side s
@@ -33,12 +34,14 @@ pub record Described (n : ℕ) (L : List ℕ) (π : ℕ → ℕ) : Type 0 where
   pub border-side : (b s : ℕ) → Entry L b s → Border L π s
   pub side-border : (s : ℕ) → Border L π s → (b : ℕ) × Entry L b s
   pub in-order : (b c s t : ℕ) → Entry L b s → Entry L c t → b < c → s < t
-  -- "E2e: four entries to an element. The entry of a paired side is its partner's code, of a border side 8 × b, and a triangle's fourth
-  -- entry is 0"
-  pub four-entries : length (e2e L) ≡ 4 * elements L
-  pub paired-entry : (s : ℕ) → Side L s → (π s ≡ 0 → ⊥) → at (e2e L) (slot s) ≡ π s
-  pub border-entry : (b s : ℕ) → Entry L b s → at (e2e L) (slot s) ≡ 8 * b
-  pub fourth-entry : (f : ℕ) → 1 ≤ f → corner L f 4 ≡ 0 → at (e2e L) (4 * (f - 1) + 3) ≡ 0
+  -- document 02, point 10: "Lists without a quadrilateral now use three entries for an element in E2e; others keep four"
+  pub three-columns : (columns L ≡ 3) ↔ ((f : ℕ) → 1 ≤ f → f ≤ elements L → corner L f 4 ≡ 0)
+  pub four-columns : (columns L ≡ 4) ↔ ((f : ℕ) × (1 ≤ f) × (f ≤ elements L) × (corner L f 4 ≡ 0 → ⊥))
+  pub entries : length (e2e L) ≡ columns L * elements L
+  -- "E2e: .. The entry of a paired side is its partner's code, of a border side 8 × b, and a triangle's fourth entry is 0"
+  pub paired-entry : (s : ℕ) → Side L s → (π s ≡ 0 → ⊥) → at (e2e L) (e2eSlot (columns L) s) ≡ π s
+  pub border-entry : (b s : ℕ) → Entry L b s → at (e2e L) (e2eSlot (columns L) s) ≡ 8 * b
+  pub fourth-entry : (f : ℕ) → 1 ≤ f → columns L ≡ 4 → corner L f 4 ≡ 0 → at (e2e L) (4 * (f - 1) + 3) ≡ 0
   -- "V2e: for a vertex with a border side ending there, the border half-edge opposite that side; otherwise the least code of a side with
   -- origin there"
   pub vertex-entries : length (v2e n L) ≡ n
@@ -78,10 +81,14 @@ described n L x =
       side-border = λ s (a, z).
           let w = sym (same s a) ∙ z in (borderNumber L s, (number-from L s, number-to L s a w, b2e-border L s a w));
       in-order = λ b c s t h k l. le-not-lt (suc s) t (λ m. later b c s t h k l (omega arith));
-      four-entries = length-e2e L;
-      paired-entry = λ s a d. e2e-paired L s a (λ z. d (same s a ∙ z)) ∙ sym (same s a);
-      border-entry = λ b s h. let ((a, z), e) = entry-number L b s h in e2e-border L s a z ∙ ap (8 *_) e;
-      fourth-entry = λ f from z. e2e-empty L (4 * (f - 1) + 3) (rw (fourth L f from) (fourth-none L f z));
+      three-columns = triangles L;
+      four-columns = quadrilateral L;
+      entries = length-e2e L;
+      paired-entry = λ s a d. at-side L s a ∙ wide-paired L s a (λ z. d (same s a ∙ z)) ∙ sym (same s a);
+      border-entry = λ b s h. let ((a, z), e) = entry-number L b s h in at-side L s a ∙ wide-border L s a z ∙ ap (8 *_) e;
+      fourth-entry = λ f from four z.
+          ap (λ (X : List ℕ). at X (4 * (f - 1) + 3)) (four-is-wide L four)
+          ∙ wide-empty L (4 * (f - 1) + 3) (rw (fourth L f from) (fourth-none L f z));
       vertex-entries = length-v2e L n;
       rim-entry = λ b s v from to h d. let (k, e) = entry-number L b s h in rim-at s v from to k d (vertex-entry n L v from to) ∙ ap (8 *_) e;
       inner-entry = λ v from to (s, y) f. inner-least L v _ s y (λ r (a, z). f r (a, same r a ∙ z)) (vertex-entry n L v from to);

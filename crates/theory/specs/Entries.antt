@@ -1,4 +1,4 @@
--- What stands in the computed tables: the entry of each side in E2e, of each border number in B2e and of each vertex in V2e.
+-- What stands in the computed tables: the entry of each side in E2e, in four columns whatever the list, of each border number in B2e and of each vertex in V2e.
 -- Assumes nothing.
 use mathlib.Core.Path.{_≡_, refl, ap, sym, _∙_}
 use mathlib.Core.Bool.{Bool, not}
@@ -14,14 +14,14 @@ use Rattle.lists.specs.Search.{at, count}
 use Rattle.lists.specs.SearchLaws.{length-tab, at-tab, length-upto, at-upto, count-lt, count-inj, count-find, count-bound, le-not-lt}
 use Rattle.rules.specs.Elements.{elements, isSide, Side, slot, origin, destination, sideAt, sideWith, countSides}
 use Rattle.rules.specs.Pairing.{SideAt}
-use Rattle.rules.specs.Tables.{partner, isBorder, b2e, borderNumber, borders, e2eEntry, e2e, borderInto, v2eEntry, v2e}
+use Rattle.rules.specs.Tables.{partner, isBorder, b2e, borderNumber, borders, e2eEntry, wide, borderInto, v2eEntry, v2e}
 use Rattle.theory.specs.Sides.{side-facts, sideAt-slot, slot-sideAt, slot-below, slot-less, slot-inj, side-positive}
 use Rattle.theory.specs.Least.{First, nobody, somebody, first-side}
 
 module _ (L : List ℕ) where
-  pub length-e2e : length (e2e L) ≡ 4 * elements L
-  unfolding e2e
-  length-e2e = length-tab (4 * elements L) (λ p. e2eEntry L (sideAt p))
+  pub length-wide : length (wide L) ≡ 4 * elements L
+  unfolding wide
+  length-wide = length-tab (4 * elements L) (λ p. e2eEntry L (sideAt p))
 
   pub length-v2e : (n : ℕ) → length (v2e n L) ≡ n
   unfolding v2e
@@ -35,35 +35,35 @@ module _ (L : List ℕ) where
   unfolding isBorder
   means-border s = means-eq (partner L s) 0
 
-  at-e2e : (s : ℕ) → Side L s → at (e2e L) (slot s) ≡ e2eEntry L s
-  unfolding e2e slot
-  at-e2e s a =
+  at-wide : (s : ℕ) → Side L s → at (wide L) (slot s) ≡ e2eEntry L s
+  unfolding wide slot
+  at-wide s a =
       at-tab (4 * elements L) (λ p. e2eEntry L (sideAt p)) (slot s) (omega (arith, side-facts L s a))
       ∙ ap (e2eEntry L) (sideAt-slot L s a)
 
   -- "The entry of a paired side is its partner's code"
-  pub e2e-paired : (s : ℕ) → Side L s → (partner L s ≡ 0 → ⊥) → at (e2e L) (slot s) ≡ partner L s
+  pub wide-paired : (s : ℕ) → Side L s → (partner L s ≡ 0 → ⊥) → at (wide L) (slot s) ≡ partner L s
   unfolding e2eEntry
-  e2e-paired s a z =
-      at-e2e s a ∙ rw (true-of (isSide L s) a, false-of (isBorder L s) (means-not (means-border s) .shows z), e2eEntry)
+  wide-paired s a z =
+      at-wide s a ∙ rw (true-of (isSide L s) a, false-of (isBorder L s) (means-not (means-border s) .shows z), e2eEntry)
 
   -- "of a border side 8 × b"
-  pub e2e-border : (s : ℕ) → Side L s → partner L s ≡ 0 → at (e2e L) (slot s) ≡ 8 * borderNumber L s
+  pub wide-border : (s : ℕ) → Side L s → partner L s ≡ 0 → at (wide L) (slot s) ≡ 8 * borderNumber L s
   unfolding e2eEntry
-  e2e-border s a z =
-      at-e2e s a ∙ rw (true-of (isSide L s) a, true-of (isBorder L s) (means-border s .shows z), e2eEntry)
+  wide-border s a z =
+      at-wide s a ∙ rw (true-of (isSide L s) a, true-of (isBorder L s) (means-border s .shows z), e2eEntry)
 
   -- "and a triangle's fourth entry is 0": where no side stands
-  pub e2e-empty : (p : ℕ) → T (not (isSide L (sideAt p))) → at (e2e L) p ≡ 0
-  unfolding e2e e2eEntry
-  e2e-empty p a = go (decide (means-lt p (4 * elements L)))
+  pub wide-empty : (p : ℕ) → T (not (isSide L (sideAt p))) → at (wide L) p ≡ 0
+  unfolding wide e2eEntry
+  wide-empty p a = go (decide (means-lt p (4 * elements L)))
     where
       none : e2eEntry L (sideAt p) ≡ 0
       none = rw (false-of (isSide L (sideAt p)) a, e2eEntry)
 
-      go : (p < 4 * elements L) ⊎ (p < 4 * elements L → ⊥) → at (e2e L) p ≡ 0
+      go : (p < 4 * elements L) ⊎ (p < 4 * elements L → ⊥) → at (wide L) p ≡ 0
       go (inl h) = at-tab (4 * elements L) (λ q. e2eEntry L (sideAt q)) p h ∙ none
-      go (inr h) = List·getD-eq-default (e2e L) 0 (omega (arith, length-e2e, le-not-lt (4 * elements L) p h))
+      go (inr h) = List·getD-eq-default (wide L) 0 (omega (arith, length-wide, le-not-lt (4 * elements L) p h))
 
   border-with : (s : ℕ) → Side L s → partner L s ≡ 0 → T (sideWith L (isBorder L) (slot s))
   border-with s a z =
@@ -120,12 +120,12 @@ module _ (L : List ℕ) where
   border-no-side X b a = omega (arith, side-facts X (8 * b) a)
 
   -- no entry of a side is 0, and only border sides have the code of a border
-  pub e2e-nonzero : (s : ℕ) → Side L s → at (e2e L) (slot s) ≡ 0 → ⊥
-  e2e-nonzero s a e = go (zero-or (partner L s))
+  pub wide-nonzero : (s : ℕ) → Side L s → at (wide L) (slot s) ≡ 0 → ⊥
+  wide-nonzero s a e = go (zero-or (partner L s))
     where
       go : (partner L s ≡ 0) ⊎ (partner L s ≡ 0 → ⊥) → ⊥
-      go (inl z) = omega (arith, e2e-border s a z, number-from s)
-      go (inr z) = z (sym (e2e-paired s a z) ∙ e)
+      go (inl z) = omega (arith, wide-border s a z, number-from s)
+      go (inr z) = z (sym (wide-paired s a z) ∙ e)
 
 -- the V2e entry c of vertex v: of a vertex with a border side ending there, of another one with sides, and of one without
 pub data VertexEntry (L : List ℕ) (v c : ℕ) : Type 0 where

@@ -13,10 +13,14 @@ use Rattle.lists.specs.TestLaws.{Test, pass, fail, test, Means, means-both, mea
 use Rattle.lists.specs.Search.{at}
 use Rattle.lists.specs.SearchLaws.{le-not-lt}
 use Rattle.rules.specs.Elements.{maxVertex, maxElement, elements, element, isSide, Side, origin, destination, next, sideAt, firstSide}
-use Rattle.rules.specs.Pairing.{sizesFit, unfitCorner, repeatedCorner, rowsFit}
+use Rattle.rules.specs.Pairing.{callSizes, sizesFit, unfitCorner, repeatedCorner, rowsFit}
 use Rattle.theory.specs.Sides.{slot-sideAt, no-side-zero}
 use Rattle.theory.specs.Least.{means-none, means-some}
 use Rattle.theory.specs.Steps.{next-numbered, next-side, next-differs}
+
+pub means-call-sizes : (n m : ℕ) (L : List ℕ) → Means (callSizes n m L) ((n ≤ maxVertex) × ((m ≤ maxElement) × (length L ≡ 4 * elements L)))
+unfolding callSizes
+means-call-sizes n m L = means-both (means-le n maxVertex) (means-both (means-le m maxElement) (means-eq (length L) (4 * elements L)))
 
 -- what fit rows say: their sizes, every corner is a vertex, and the corners of an element differ
 pub record Fit (n : ℕ) (L : List ℕ) : Type 0 where
@@ -60,7 +64,7 @@ module _ (n : ℕ) (L : List ℕ) where
 
   pub means-sizes : Means (sizesFit n L) ((n ≤ maxVertex) × ((elements L ≤ maxElement) × (length L ≡ 4 * elements L)))
   unfolding sizesFit
-  means-sizes = means-both (means-le n maxVertex) (means-both (means-le (elements L) maxElement) (means-eq (length L) (4 * elements L)))
+  means-sizes = means-call-sizes n (elements L) L
 
   -- of two different sides of an element with one origin the later one repeats a corner
   no-two : ((s : ℕ) → Side L s → T (unfit s) → ⊥) → ((s : ℕ) → Side L s → T (repeated s) → ⊥) → (s t : ℕ) → Side L s → Side L t → s / 8 ≡ t / 8 → origin L s ≡ origin L t → s < t → ⊥

@@ -4,6 +4,7 @@ pub mod Steps
 pub mod FitRows
 pub mod Pairings
 pub mod Entries
+pub mod Columns
 pub mod Turns
 pub mod Orders
 pub mod Tracing

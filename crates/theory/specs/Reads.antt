@@ -1,13 +1,15 @@
--- What is read from what was read, and from each entry of a list.
+-- What is read from what was read, and from each entry of a list; and what isn't read.
 -- Assumes nothing.
 use mathlib.Core.Path.{_≡_, refl, ap, _∙_}
-use mathlib.Core.Option.{Option, some}
+use mathlib.Core.Option.{Option, none, some}
 use mathlib.Core.List.{List, [], _∷_}
-use Prim.Native.Nat.{ℕ, zero, suc, _<_}
+use Prim.Native.Nat.{ℕ, zero, suc, _%_, _<_}
 use native.Mathlib.Omega.{arith}
 use lib.ListN.{length}
 use Rattle.lists.specs.Search.{at}
-use Rattle.rules.specs.Queries.{andThen, prepend, readAll}
+use Rattle.rules.specs.Elements.{isSide}
+use Rattle.rules.specs.Queries.{Mesh, andThen, prepend, readAll, read, isBorderCode, isHalfEdge, readOpposite}
+use Rattle.theory.specs.Columns.{entry-past}
 
 pub and-then {ℓ} : {A : Type ℓ} {r : Option ℕ} {x : ℕ} (f : ℕ → Option A) → r ≡ some x → andThen r f ≡ f x
 unfolding andThen
@@ -28,3 +30,8 @@ read-all step f (x ∷ xs) h =
     more : (ys : List ℕ) → Mapped f xs ys → (i : ℕ) → i < suc (length xs) → at (f x ∷ ys) i ≡ f (at (x ∷ xs) i)
     more ys m zero k = refl
     more ys m (suc i) k = m .entries i (omega arith)
+
+-- where the columns told have no entry for a side, nothing is read: that of a fourth side in three columns
+pub none-past : (M : Mesh) (s : ℕ) → M .columns < s % 8 → readOpposite M s ≡ none
+unfolding readOpposite isHalfEdge isSide isBorderCode
+none-past M s h = ap (read (isHalfEdge M)) (entry-past (M .columns) (M .opposites) s h)

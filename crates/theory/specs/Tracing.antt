@@ -5,14 +5,14 @@ use mathlib.Core.List.{List, [], _∷_}
 use Prim.Native.Nat.{ℕ, zero, suc, _-_, _<_}
 use native.Mathlib.Omega.{arith}
 use lib.Dec.{eqb, T-not}
-use lib.ListN.{length, set, length-set}
+use lib.ListN.{length, set, length-set, length-replicate}
 use lib.Seq.{getD-set-same, getD-set-other}
 use Rattle.lists.specs.Tests.{both}
 use Rattle.lists.specs.TestLaws.{Test, pass, fail, test, passes, both-pass, means-eq}
 use Rattle.lists.specs.Search.{at, zeros}
 use Rattle.lists.specs.SearchLaws.{zeros-set, no-zeros}
 use Rattle.rules.specs.Elements.{isSide, Side, slot}
-use Rattle.rules.specs.Recovery.{turnBy, trace}
+use Rattle.rules.specs.Recovery.{turnBy, trace, walkTo, walk}
 use Rattle.theory.specs.Sides.{slot-below}
 
 -- from side s, over W, the trace of v meets the sides o and leaves W′; it stops at f
@@ -117,3 +117,25 @@ module _ (E : List ℕ) (v : ℕ) (positive : v ≡ 0 → ⊥) where
         (rw (c, trace)
             (none s W (λ a z. T-not (both (isSide E s) (eqb (at W (slot s)) 0)) t (both-pass (isSide E s) (eqb (at W (slot s)) 0) a (means-eq (at W (slot s)) 0 .shows z))))),
       )
+
+-- a trace writes within its list, so a walk gives a list as long as E2e
+length-trace : (k : ℕ) (E : List ℕ) (v s : ℕ) (W : List ℕ) → length (trace k E v s W) ≡ length W
+unfolding trace
+length-trace zero E v s W = refl
+length-trace (suc k) E v s W =
+    go (test (both (isSide E s) (eqb (at W (slot s)) 0))) (length-trace k E v (turnBy E s) (set W (slot s) v))
+  where
+    go : Test (both (isSide E s) (eqb (at W (slot s)) 0))
+        → length (trace k E v (turnBy E s) (set W (slot s) v)) ≡ length (set W (slot s) v)
+        → length (trace (suc k) E v s W) ≡ length W
+    go (pass t c) r = rw (c, trace) (r ∙ length-set W (slot s) v)
+    go (fail t c) r = rw (c, trace)
+
+length-walk-to : (V2e E2e : List ℕ) (v : ℕ) → length (walkTo V2e E2e v) ≡ length E2e
+unfolding walkTo
+length-walk-to V2e E2e zero = length-replicate (length E2e) 0
+length-walk-to V2e E2e (suc v) = length-trace _ E2e (suc v) _ _ ∙ length-walk-to V2e E2e v
+
+pub length-walk : (V2e E2e : List ℕ) → length (walk V2e E2e) ≡ length E2e
+unfolding walk
+length-walk V2e E2e = length-walk-to V2e E2e (length V2e)

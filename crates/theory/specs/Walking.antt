@@ -11,12 +11,12 @@ use Rattle.lists.specs.Search.{at, zeros}
 use Rattle.lists.specs.SearchLaws.{Met, member, lt-or-eq, at-blank}
 use Rattle.rules.specs.Elements.{Side, slot, origin, destination, next}
 use Rattle.rules.specs.Pairing.{Pairing, Turn, SideAt}
-use Rattle.rules.specs.Tables.{partner, e2e, v2e}
+use Rattle.rules.specs.Tables.{partner, wide, v2e}
 use Rattle.rules.specs.Recovery.{walkStart, turnBy, trace, walkTo, walk}
 use Rattle.theory.specs.Sides.{side-positive, slot-inj}
 use Rattle.theory.specs.Steps.{next-side}
 use Rattle.theory.specs.Entries.{VertexEntry, rim, inner, unused, vertex-entry, length-v2e}
-use Rattle.theory.specs.Turns.{side-e2e, e2e-side, turn-paired, turn-border, start-rim, start-side, start-none}
+use Rattle.theory.specs.Turns.{side-wide, wide-side, turn-paired, turn-border, start-rim, start-side, start-none}
 use Rattle.theory.specs.Orders.{turn-origin}
 use Rattle.theory.specs.Tracing.{Path, traced}
 
@@ -26,13 +26,13 @@ pub data Start (L : List ℕ) (v c : ℕ) : Type 0 where
   side : ((r : ℕ) → Side L r → partner L r ≡ 0 → destination L r ≡ v → ⊥) → SideAt L v c → Start L v c
   nowhere : ((s : ℕ) → SideAt L v s → ⊥) → c ≡ 0 → Start L v c
 
-pub start-at : (n : ℕ) (L : List ℕ) (v : ℕ) → 1 ≤ v → v ≤ n → Start L v (walkStart (e2e L) (at (v2e n L) (v - 1)))
+pub start-at : (n : ℕ) (L : List ℕ) (v : ℕ) → 1 ≤ v → v ≤ n → Start L v (walkStart (wide L) (at (v2e n L) (v - 1)))
 start-at n L v a b = go (vertex-entry n L v a b)
   where
-    go : {c : ℕ} → VertexEntry L v c → Start L v (walkStart (e2e L) c)
-    go (rim r x z d e) = after r x z d (ap (walkStart (e2e L)) e ∙ start-rim L r x z)
+    go : {c : ℕ} → VertexEntry L v c → Start L v (walkStart (wide L) c)
+    go (rim r x z d e) = after r x z d (ap (walkStart (wide L)) e ∙ start-rim L r x z)
     go {c} (inner f x g) = rw (start-side L c (x .0)) (side f x)
-    go (unused f e) = nowhere f (ap (walkStart (e2e L)) e ∙ start-none L)
+    go (unused f e) = nowhere f (ap (walkStart (wide L)) e ∙ start-none L)
 
 -- a vertex with a side has a start, which is a side at it
 pub start-side-at : (L : List ℕ) (v c s : ℕ) → SideAt L v s → Start L v c → SideAt L v c
@@ -51,17 +51,17 @@ pub record Fan (L : List ℕ) (v c : ℕ) (o : List ℕ) : Type 0 where
 
 -- after the walk about the vertices 1 to v
 pub record Walked (n : ℕ) (L : List ℕ) (v : ℕ) (W : List ℕ) : Type 0 where
-  pub long : length W ≡ length (e2e L)
+  pub long : length W ≡ length (wide L)
   pub later : (s : ℕ) → Side L s → v < origin L s → at W (slot s) ≡ 0
   pub outside : (q : ℕ) → ((s : ℕ) → Side L s → slot s ≡ q → ⊥) → at W q ≡ 0
   pub fans : (u : ℕ) → 1 ≤ u → u ≤ v
-      → (o : List ℕ) × Fan L u (walkStart (e2e L) (at (v2e n L) (u - 1))) o
+      → (o : List ℕ) × Fan L u (walkStart (wide L) (at (v2e n L) (u - 1))) o
       × ((i : ℕ) → i < length o → at W (slot (at o i)) ≡ u)
       × ((s : ℕ) → SideAt L u s → (at W (slot s) ≡ 0) ⊎ Met o s)
 
 module _ (n : ℕ) (L : List ℕ) (p : Pairing L (partner L)) where
   -- the turn by E2e of a side, where it is a side
-  turn-of : (s t : ℕ) → Side L s → Side L t → turnBy (e2e L) s ≡ t → Turn L (partner L) s t
+  turn-of : (s t : ℕ) → Side L s → Side L t → turnBy (wide L) s ≡ t → Turn L (partner L) s t
   turn-of s t a b e = go (zero-or (partner L s))
     where
       go : (partner L s ≡ 0) ⊎ (partner L s ≡ 0 → ⊥) → Turn L (partner L) s t
@@ -69,17 +69,17 @@ module _ (n : ℕ) (L : List ℕ) (p : Pairing L (partner L)) where
       go (inr z) = (z, sym (turn-paired L s a z) ∙ e)
 
   -- one vertex more: the sides met about it, and what they leave of the others
-  module _ (v : ℕ) (W : List ℕ) (k : Walked n L v W) (c : ℕ) (start : Start L (suc v) c) (o W′ : List ℕ) (f : ℕ) (x : Path (e2e L) (suc v) c W o W′ f) where
+  module _ (v : ℕ) (W : List ℕ) (k : Walked n L v W) (c : ℕ) (start : Start L (suc v) c) (o W′ : List ℕ) (f : ℕ) (x : Path (wide L) (suc v) c W o W′ f) where
     first-met : (h : 0 < length o) → SideAt L (suc v) (at o 0)
     first-met h = go start (x .first h) (x .sides 0 h)
       where
-        go : Start L (suc v) c → at o 0 ≡ c → Side (e2e L) (at o 0) → SideAt L (suc v) (at o 0)
+        go : Start L (suc v) c → at o 0 ≡ c → Side (wide L) (at o 0) → SideAt L (suc v) (at o 0)
         go (after r a z d e) g b = rw (g ∙ e) (next-side L r a, d)
         go (side h a) g b = rw g a
-        go (nowhere h e) g b = absurd (side-positive (e2e L) (at o 0) b (g ∙ e))
+        go (nowhere h e) g b = absurd (side-positive (wide L) (at o 0) b (g ∙ e))
 
     met-turn : (i : ℕ) → suc i < length o → SideAt L (suc v) (at o i) → Turn L (partner L) (at o i) (at o (suc i))
-    met-turn i h (a, e) = turn-of (at o i) (at o (suc i)) a (side-e2e L (at o (suc i)) (x .sides (suc i) h)) (x .turns i h)
+    met-turn i h (a, e) = turn-of (at o i) (at o (suc i)) a (side-wide L (at o (suc i)) (x .sides (suc i) h)) (x .turns i h)
 
     met : (i : ℕ) → i < length o → SideAt L (suc v) (at o i)
     met zero h = first-met h
@@ -108,7 +108,7 @@ module _ (n : ℕ) (L : List ℕ) (p : Pairing L (partner L)) where
     stops-met y = go (met-or-empty f y)
       where
         go : (at W′ (slot f) ≡ 0) ⊎ Met o f → Met o f
-        go (inl z) = absurd (x .stopped (e2e-side L f (y .0)) z)
+        go (inl z) = absurd (x .stopped (wide-side L f (y .0)) z)
         go (inr w) = w
 
     met-last : 0 < length o → (partner L (at o (length o - 1)) ≡ 0) ⊎ ((i : ℕ) × (i < length o) × Turn L (partner L) (at o (length o - 1)) (at o i))
@@ -145,7 +145,7 @@ module _ (n : ℕ) (L : List ℕ) (p : Pairing L (partner L)) where
           some = met-some;
         }
 
-    walked-more : c ≡ walkStart (e2e L) (at (v2e n L) (suc v - 1)) → Walked n L (suc v) W′
+    walked-more : c ≡ walkStart (wide L) (at (v2e n L) (suc v - 1)) → Walked n L (suc v) W′
     walked-more e =
         record {
           long = x .long ∙ k .long;
@@ -155,7 +155,7 @@ module _ (n : ℕ) (L : List ℕ) (p : Pairing L (partner L)) where
         }
       where
         Known : ℕ → Type 0
-        Known u = (o : List ℕ) × Fan L u (walkStart (e2e L) (at (v2e n L) (u - 1))) o × ((i : ℕ) → i < length o → at W′ (slot (at o i)) ≡ u) × ((s : ℕ) → SideAt L u s → (at W′ (slot s) ≡ 0) ⊎ Met o s)
+        Known u = (o : List ℕ) × Fan L u (walkStart (wide L) (at (v2e n L) (u - 1))) o × ((i : ℕ) → i < length o → at W′ (slot (at o i)) ≡ u) × ((s : ℕ) → SideAt L u s → (at W′ (slot s) ≡ 0) ⊎ Met o s)
 
         go : (u : ℕ) → 1 ≤ u → (u < suc v) ⊎ (u ≡ suc v) → Known u
         go u a (inl h) =
@@ -168,25 +168,25 @@ module _ (n : ℕ) (L : List ℕ) (p : Pairing L (partner L)) where
             )
         go u a (inr h) = rw h (o, rw e at fan, x .written, met-or-empty)
 
-  walked : (v : ℕ) → v ≤ n → Walked n L v (walkTo (v2e n L) (e2e L) v)
+  walked : (v : ℕ) → v ≤ n → Walked n L v (walkTo (v2e n L) (wide L) v)
   unfolding walkTo
   walked zero h =
       record {
-        long = length-replicate (length (e2e L)) 0;
-        later = λ s a l. at-blank (length (e2e L)) (slot s);
-        outside = λ q g. at-blank (length (e2e L)) q;
+        long = length-replicate (length (wide L)) 0;
+        later = λ s a l. at-blank (length (wide L)) (slot s);
+        outside = λ q g. at-blank (length (wide L)) q;
         fans = λ u a b. absurd (omega arith);
       }
   walked (suc v) h =
-      let W = walkTo (v2e n L) (e2e L) v in
+      let W = walkTo (v2e n L) (wide L) v in
       let k = walked v (omega arith) in
-      let c = walkStart (e2e L) (at (v2e n L) v) in
+      let c = walkStart (wide L) (at (v2e n L) v) in
       let e : suc v - 1 ≡ v = omega arith in
       let start : Start L (suc v) c = rw e at (start-at n L (suc v) (omega arith) h) in
-      let (o, f, x) = traced (e2e L) (suc v) (λ z. omega arith) (zeros W) c W refl (k .long) in
-      walked-more v W k c start o (trace (zeros W) (e2e L) (suc v) c W) f x (ap (λ (i : ℕ). walkStart (e2e L) (at (v2e n L) i)) (sym e))
+      let (o, f, x) = traced (wide L) (suc v) (λ z. omega arith) (zeros W) c W refl (k .long) in
+      walked-more v W k c start o (trace (zeros W) (wide L) (suc v) c W) f x (ap (λ (i : ℕ). walkStart (wide L) (at (v2e n L) i)) (sym e))
 
   -- after the whole walk
-  pub walk-walked : Walked n L n (walk (v2e n L) (e2e L))
+  pub walk-walked : Walked n L n (walk (v2e n L) (wide L))
   unfolding walk
   walk-walked = rw (length-v2e L n) (walked n (omega arith))

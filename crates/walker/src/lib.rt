@@ -36,9 +36,17 @@ pub struct Moved {
 }
 
 // The side that the record goes on to, 0 at the ring's end.
-fn goes_to(w: Walker, n: u32, list: &[u32], v2e: &[u32], e2e: &[u32], b2e: &[u32]) -> Read
-    requires { ⌜ Fit (mesh n (now list) (now v2e) (now e2e) (now b2e)) ⌝ }
-    ensures { λ r. ⌜ readOf r ≡ goesTo (mesh n (now (list .entry)) (now (v2e .entry)) (now (e2e .entry)) (now (b2e .entry))) (recordOf w) ⌝ }
+fn goes_to(
+    w: Walker,
+    n: u32,
+    columns: u32,
+    list: &[u32],
+    v2e: &[u32],
+    e2e: &[u32],
+    b2e: &[u32],
+) -> Read
+    requires { ⌜ Fit (mesh n columns (now list) (now v2e) (now e2e) (now b2e)) ⌝ }
+    ensures { λ r. ⌜ readOf r ≡ goesTo (mesh n columns (now (list .entry)) (now (v2e .entry)) (now (e2e .entry)) (now (b2e .entry))) (recordOf w) ⌝ }
 {
     if !is_side(list, w.start) {
         return Read::Broken;
@@ -49,7 +57,7 @@ fn goes_to(w: Walker, n: u32, list: &[u32], v2e: &[u32], e2e: &[u32], b2e: &[u32
     if list.len() / 4 <= wide(w.handed) {
         return Read::Broken;
     }
-    let turn = ring_next(n, list, v2e, e2e, b2e, w.start, w.following);
+    let turn = ring_next(n, columns, list, v2e, e2e, b2e, w.start, w.following);
     let Read::Value(t) = turn else {
         return Read::Broken;
     };
@@ -62,10 +70,18 @@ fn goes_to(w: Walker, n: u32, list: &[u32], v2e: &[u32], e2e: &[u32], b2e: &[u32
     Read::Value(t)
 }
 
-fn step_at(w: Walker, n: u32, list: &[u32], v2e: &[u32], e2e: &[u32], b2e: &[u32]) -> Moved
-    ensures { λ r. ⌜ movedOf r ≡ walkerStep (mesh n (now (list .entry)) (now (v2e .entry)) (now (e2e .entry)) (now (b2e .entry))) (recordOf w) ⌝ }
+fn step_at(
+    w: Walker,
+    n: u32,
+    columns: u32,
+    list: &[u32],
+    v2e: &[u32],
+    e2e: &[u32],
+    b2e: &[u32],
+) -> Moved
+    ensures { λ r. ⌜ movedOf r ≡ walkerStep (mesh n columns (now (list .entry)) (now (v2e .entry)) (now (e2e .entry)) (now (b2e .entry))) (recordOf w) ⌝ }
 {
-    let refusal = length_refusal(n, list, v2e, e2e, b2e);
+    let refusal = length_refusal(n, columns, list, v2e, e2e, b2e);
     if 0 < refusal {
         return Moved {
             answer: refuse(refusal),
@@ -78,7 +94,7 @@ fn step_at(w: Walker, n: u32, list: &[u32], v2e: &[u32], e2e: &[u32], b2e: &[u32
             walker: w,
         };
     }
-    let turn = goes_to(w, n, list, v2e, e2e, b2e);
+    let turn = goes_to(w, n, columns, list, v2e, e2e, b2e);
     let Read::Value(t) = turn else {
         return Moved {
             answer: refuse(12),
@@ -95,17 +111,26 @@ fn step_at(w: Walker, n: u32, list: &[u32], v2e: &[u32], e2e: &[u32], b2e: &[u32
     }
 }
 
-fn start_at(w: Walker, n: u32, list: &[u32], v2e: &[u32], e2e: &[u32], b2e: &[u32], v: u32) -> Moved
-    ensures { λ r. ⌜ movedOf r ≡ walkerStart (mesh n (now (list .entry)) (now (v2e .entry)) (now (e2e .entry)) (now (b2e .entry))) v (recordOf w) ⌝ }
+fn start_at(
+    w: Walker,
+    n: u32,
+    columns: u32,
+    list: &[u32],
+    v2e: &[u32],
+    e2e: &[u32],
+    b2e: &[u32],
+    v: u32,
+) -> Moved
+    ensures { λ r. ⌜ movedOf r ≡ walkerStart (mesh n columns (now (list .entry)) (now (v2e .entry)) (now (e2e .entry)) (now (b2e .entry))) v (recordOf w) ⌝ }
 {
-    let refusal = vertex_refusal(n, list, v2e, e2e, b2e, v);
+    let refusal = vertex_refusal(n, columns, list, v2e, e2e, b2e, v);
     if 0 < refusal {
         return Moved {
             answer: refuse(refusal),
             walker: w,
         };
     }
-    let begun = start_side(n, list, v2e, e2e, b2e, v);
+    let begun = start_side(n, columns, list, v2e, e2e, b2e, v);
     let Read::Value(s) = begun else {
         return Moved {
             answer: refuse(12),
@@ -126,17 +151,18 @@ fn start_at(w: Walker, n: u32, list: &[u32], v2e: &[u32], e2e: &[u32], b2e: &[u3
 pub fn call_at(
     w: Walker,
     n: u32,
+    columns: u32,
     list: &[u32],
     v2e: &[u32],
     e2e: &[u32],
     b2e: &[u32],
     call: Call,
 ) -> Moved
-    ensures { λ r. ⌜ movedOf r ≡ calledBy call (mesh n (now (list .entry)) (now (v2e .entry)) (now (e2e .entry)) (now (b2e .entry))) (recordOf w) ⌝ }
+    ensures { λ r. ⌜ movedOf r ≡ calledBy call (mesh n columns (now (list .entry)) (now (v2e .entry)) (now (e2e .entry)) (now (b2e .entry))) (recordOf w) ⌝ }
 {
     match call {
-        Call::Start(v) => start_at(w, n, list, v2e, e2e, b2e, v),
-        Call::Step => step_at(w, n, list, v2e, e2e, b2e),
+        Call::Start(v) => start_at(w, n, columns, list, v2e, e2e, b2e, v),
+        Call::Step => step_at(w, n, columns, list, v2e, e2e, b2e),
     }
 }
 
@@ -144,16 +170,17 @@ pub fn call_at(
 pub fn move_on(
     w: &mut Walker,
     n: u32,
+    columns: u32,
     list: &[u32],
     v2e: &[u32],
     e2e: &[u32],
     b2e: &[u32],
     call: Call,
 ) -> Answer
-    ensures { λ r. ⌜ leftBy r (now (w .exit)) ≡ calledBy call (mesh n (now (list .entry)) (now (v2e .entry)) (now (e2e .entry)) (now (b2e .entry))) (recordOf (now (w .entry))) ⌝ }
+    ensures { λ r. ⌜ leftBy r (now (w .exit)) ≡ calledBy call (mesh n columns (now (list .entry)) (now (v2e .entry)) (now (e2e .entry)) (now (b2e .entry))) (recordOf (now (w .entry))) ⌝ }
 {
     let before = *w;
-    let moved = call_at(before, n, list, v2e, e2e, b2e, call);
+    let moved = call_at(before, n, columns, list, v2e, e2e, b2e, call);
     *w = moved.walker;
     moved.answer
 }

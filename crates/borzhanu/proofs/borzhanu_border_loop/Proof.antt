@@ -1,9 +1,13 @@
--- `borzhanu::borzhanu_border_loop` meets its contract: what the call answers, packed.
+-- `borzhanu::borzhanu_border_loop` meets its contract: what the call answers, packed, and what it leaves.
 -- Assumes nothing.
 use borrow.Author.Needs.{needs}
-use Rattle.borzhanu.proofs.Packed.{packs-with}
+use Rattle.rules.specs.Queries.{borderLoopAnswer, borderLoopLeaves}
+use Rattle.borzhanu.proofs.Packed.{packs, by-seen}
 use Rattle.borzhanu.proofs.borzhanu_border_loop.Statement.{statement}
 use Rattle.borzhanu.proofs.borzhanu_border_loop.Tie as tie
+
+seen-requires : tie.Need-seen-requires
+seen-requires c κs = search needs
 
 border-loop-requires : tie.Need-border-loop-requires
 border-loop-requires c κs = search needs
@@ -16,8 +20,12 @@ same-length c = search needs
 
 returns : tie.Need-returns
 returns c =
-    let left = c .before .before in
-    packs-with (c .pack .ensures) (left .before .border-loop .ensures)
+    let left = c .before .before .before in
+    let here = left .before .before in
+    let looked = here .seen .ensures in
+    let a = here .before .before .before .before .before .before .args in
+    let (answer, leaves) = left .border-loop .ensures in
+    (packs (c .pack .ensures) (by-seen looked (λ M. borderLoopAnswer M (a .b) (a .out .now)) answer), by-seen looked (λ M. borderLoopLeaves M (a .b) (a .out .now)) leaves)
 
 pub borzhanu-border-loop-spec : {M : Type 1} → statement M
-borzhanu-border-loop-spec = tie.close (tie.spec border-loop-requires pack-requires same-length returns)
+borzhanu-border-loop-spec = tie.close (tie.spec seen-requires border-loop-requires pack-requires same-length returns)

@@ -1,9 +1,13 @@
 -- `borzhanu::borzhanu_element` meets its contract: what the call answers, packed.
 -- Assumes nothing.
 use borrow.Author.Needs.{needs}
-use Rattle.borzhanu.proofs.Packed.{packs}
+use Rattle.rules.specs.Queries.{elementAnswer}
+use Rattle.borzhanu.proofs.Packed.{packs, by-seen}
 use Rattle.borzhanu.proofs.borzhanu_element.Statement.{statement}
 use Rattle.borzhanu.proofs.borzhanu_element.Tie as tie
+
+seen-requires : tie.Need-seen-requires
+seen-requires c κs = search needs
 
 element-requires : tie.Need-element-requires
 element-requires c κs = search needs
@@ -12,7 +16,10 @@ pack-requires : tie.Need-pack-requires
 pack-requires c κs = search needs
 
 returns : tie.Need-returns
-returns c = packs (c .pack .ensures) (c .before .element .ensures)
+returns c =
+    let looked = c .before .before in
+    let a = looked .before .before .before .before .before .args in
+    packs (c .pack .ensures) (by-seen (looked .seen .ensures) (λ M. elementAnswer M (a .code)) (c .before .element .ensures))
 
 pub borzhanu-element-spec : {M : Type 1} → statement M
-borzhanu-element-spec = tie.close (tie.spec element-requires pack-requires returns)
+borzhanu-element-spec = tie.close (tie.spec seen-requires element-requires pack-requires returns)

@@ -1,9 +1,13 @@
 -- `borzhanu::borzhanu_next` meets its contract: what the call answers, packed.
 -- Assumes nothing.
 use borrow.Author.Needs.{needs}
-use Rattle.borzhanu.proofs.Packed.{packs}
+use Rattle.rules.specs.Queries.{nextAnswer}
+use Rattle.borzhanu.proofs.Packed.{packs, by-seen}
 use Rattle.borzhanu.proofs.borzhanu_next.Statement.{statement}
 use Rattle.borzhanu.proofs.borzhanu_next.Tie as tie
+
+seen-requires : tie.Need-seen-requires
+seen-requires c κs = search needs
 
 next-requires : tie.Need-next-requires
 next-requires c κs = search needs
@@ -12,7 +16,10 @@ pack-requires : tie.Need-pack-requires
 pack-requires c κs = search needs
 
 returns : tie.Need-returns
-returns c = packs (c .pack .ensures) (c .before .next .ensures)
+returns c =
+    let looked = c .before .before in
+    let a = looked .before .before .before .before .before .args in
+    packs (c .pack .ensures) (by-seen (looked .seen .ensures) (λ M. nextAnswer M (a .code)) (c .before .next .ensures))
 
 pub borzhanu-next-spec : {M : Type 1} → statement M
-borzhanu-next-spec = tie.close (tie.spec next-requires pack-requires returns)
+borzhanu-next-spec = tie.close (tie.spec seen-requires next-requires pack-requires returns)

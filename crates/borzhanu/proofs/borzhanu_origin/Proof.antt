@@ -1,9 +1,13 @@
 -- `borzhanu::borzhanu_origin` meets its contract: what the call answers, packed.
 -- Assumes nothing.
 use borrow.Author.Needs.{needs}
-use Rattle.borzhanu.proofs.Packed.{packs}
+use Rattle.rules.specs.Queries.{originAnswer}
+use Rattle.borzhanu.proofs.Packed.{packs, by-seen}
 use Rattle.borzhanu.proofs.borzhanu_origin.Statement.{statement}
 use Rattle.borzhanu.proofs.borzhanu_origin.Tie as tie
+
+seen-requires : tie.Need-seen-requires
+seen-requires c κs = search needs
 
 origin-requires : tie.Need-origin-requires
 origin-requires c κs = search needs
@@ -12,7 +16,10 @@ pack-requires : tie.Need-pack-requires
 pack-requires c κs = search needs
 
 returns : tie.Need-returns
-returns c = packs (c .pack .ensures) (c .before .origin .ensures)
+returns c =
+    let looked = c .before .before in
+    let a = looked .before .before .before .before .before .args in
+    packs (c .pack .ensures) (by-seen (looked .seen .ensures) (λ M. originAnswer M (a .code)) (c .before .origin .ensures))
 
 pub borzhanu-origin-spec : {M : Type 1} → statement M
-borzhanu-origin-spec = tie.close (tie.spec origin-requires pack-requires returns)
+borzhanu-origin-spec = tie.close (tie.spec seen-requires origin-requires pack-requires returns)

@@ -1,9 +1,13 @@
--- `borzhanu::borzhanu_ring` meets its contract: what the call answers, packed.
+-- `borzhanu::borzhanu_ring` meets its contract: what the call answers, packed, and what it leaves.
 -- Assumes nothing.
 use borrow.Author.Needs.{needs}
-use Rattle.borzhanu.proofs.Packed.{packs-with}
+use Rattle.rules.specs.Queries.{ringAnswer, ringLeaves}
+use Rattle.borzhanu.proofs.Packed.{packs, by-seen}
 use Rattle.borzhanu.proofs.borzhanu_ring.Statement.{statement}
 use Rattle.borzhanu.proofs.borzhanu_ring.Tie as tie
+
+seen-requires : tie.Need-seen-requires
+seen-requires c κs = search needs
 
 ring-requires : tie.Need-ring-requires
 ring-requires c κs = search needs
@@ -16,8 +20,12 @@ same-length c = search needs
 
 returns : tie.Need-returns
 returns c =
-    let left = c .before .before in
-    packs-with (c .pack .ensures) (left .before .ring .ensures)
+    let left = c .before .before .before in
+    let here = left .before .before in
+    let looked = here .seen .ensures in
+    let a = here .before .before .before .before .before .before .args in
+    let (answer, leaves) = left .ring .ensures in
+    (packs (c .pack .ensures) (by-seen looked (λ M. ringAnswer M (a .v) (a .out .now)) answer), by-seen looked (λ M. ringLeaves M (a .v) (a .out .now)) leaves)
 
 pub borzhanu-ring-spec : {M : Type 1} → statement M
-borzhanu-ring-spec = tie.close (tie.spec ring-requires pack-requires same-length returns)
+borzhanu-ring-spec = tie.close (tie.spec seen-requires ring-requires pack-requires same-length returns)

@@ -1,9 +1,13 @@
 -- `borzhanu::borzhanu_vertex_is_border` meets its contract: what the call answers, packed.
 -- Assumes nothing.
 use borrow.Author.Needs.{needs}
-use Rattle.borzhanu.proofs.Packed.{packs}
+use Rattle.rules.specs.Queries.{vertexBorderAnswer}
+use Rattle.borzhanu.proofs.Packed.{packs, by-seen}
 use Rattle.borzhanu.proofs.borzhanu_vertex_is_border.Statement.{statement}
 use Rattle.borzhanu.proofs.borzhanu_vertex_is_border.Tie as tie
+
+seen-requires : tie.Need-seen-requires
+seen-requires c κs = search needs
 
 vertex-is-border-requires : tie.Need-vertex-is-border-requires
 vertex-is-border-requires c κs = search needs
@@ -12,7 +16,10 @@ pack-requires : tie.Need-pack-requires
 pack-requires c κs = search needs
 
 returns : tie.Need-returns
-returns c = packs (c .pack .ensures) (c .before .vertex-is-border .ensures)
+returns c =
+    let looked = c .before .before in
+    let a = looked .before .before .before .before .before .args in
+    packs (c .pack .ensures) (by-seen (looked .seen .ensures) (λ M. vertexBorderAnswer M (a .v)) (c .before .vertex-is-border .ensures))
 
 pub borzhanu-vertex-is-border-spec : {M : Type 1} → statement M
-borzhanu-vertex-is-border-spec = tie.close (tie.spec vertex-is-border-requires pack-requires returns)
+borzhanu-vertex-is-border-spec = tie.close (tie.spec seen-requires vertex-is-border-requires pack-requires returns)

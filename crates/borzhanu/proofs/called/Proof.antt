@@ -1,8 +1,9 @@
 -- `borzhanu::called` meets its contract: what `call_at` answers, packed, and the three numbers that it leaves.
 -- Assumes nothing.
-use Rattle.borzhanu.proofs.Packed.{packs}
-use Rattle.borzhanu.specs.Walkers.{entriesOf}
+use Rattle.borzhanu.proofs.Packed.{packs, by-seen}
+use Rattle.borzhanu.specs.Walkers.{walkerIn, entriesOf}
 use Rattle.rules.specs.Queries.{Walked}
+use Rattle.walker.specs.Walkers.{calledBy}
 use borrow.Author.Needs.{needs}
 use mathlib.Core.Path.{ap}
 use Rattle.borzhanu.proofs.called.Statement.{statement}
@@ -17,6 +18,9 @@ element-copy-out-following c = search needs
 element-copy-out-handed : tie.Need-element-copy-out-handed
 element-copy-out-handed c = search needs
 
+seen-requires : tie.Need-seen-requires
+seen-requires c κs = search needs
+
 call-at-requires : tie.Need-call-at-requires
 call-at-requires c κs = search needs
 
@@ -26,7 +30,9 @@ pack-requires c κs = search needs
 returns : tie.Need-returns
 returns c =
     let left = c .before .before in
-    let moved = left .before .call-at .ensures in
+    let here = left .before .before in
+    let a = here .before .before .before .before .before .before .before .before .args in
+    let moved = by-seen (here .seen .ensures) (λ M. calledBy (a .call) M (walkerIn (a .walker .now))) (left .before .call-at .ensures) in
     (packs (c .pack .ensures) (ap (λ (m : Walked). m .answer) moved), ap (λ (m : Walked). entriesOf (m .walker)) moved)
 
 pub called-spec : {M : Type 1} → statement M
@@ -36,6 +42,7 @@ called-spec =
     element-copy-out-start
     element-copy-out-following
     element-copy-out-handed
+    seen-requires
     call-at-requires
     pack-requires
     returns)

@@ -6,7 +6,7 @@ use Prim.Native.Nat.{_+_, _*_, _-_}
 use lib.ListN.{drop}
 use Rattle.rules.specs.Elements.{elements}
 use Rattle.answer.specs.Numbers.{numbers}
-use Rattle.build.specs.Building.{Checked, checked, front-fits, sized, Scratched, scratched, refused-on, short-on, commits, counts-on}
+use Rattle.build.specs.Building.{Checked, front-fits, sized, Scratched, scratched, refused-on, short-on, commits, counts-on}
 use borrow.Author.Needs.{needs}
 use Rattle.build.proofs.build_fit.Statement.{statement}
 use Rattle.build.proofs.build_fit.Tie as tie
@@ -31,7 +31,7 @@ abbrev enough : tie.After-commit-arg4 → tie.Else1
 enough c = c .before .before .before .before
 
 known : (c : tie.Start) → let a = c .args in Checked (a .n) (a .list .now) (a .v2e .now) (a .e2e .now) (a .work .now)
-known c = checked (c .pre)
+known c = c .pre .0
 
 -- the scratch buffer is back in front of the rest of the work
 scratch : (c : tie.After-tabulate) →
@@ -92,7 +92,7 @@ commit-requires c κs =
     let room = enough c in
     let k = room .before in
     commits (known (start (found k))) (scratch (found k)) (ap numbers (told k .t .given .1)) (found k .before .before .wide .ensures) (k .wide2 .ensures)
-    (start (found k) .args .b2e .now) (room .if1 .left)
+    (start (found k) .args .b2e .now) (room .if1 .left) (start (found k) .pre .1)
 
 same-length-3 : tie.Need-same-length-3
 same-length-3 c = search needs
@@ -112,7 +112,7 @@ returns-3 c =
     let room = enough (done .before) in
     let k = room .before in
     counts-on (known (start (found k))) (scratch (found k)) (ap numbers (told k .t .given .1)) (found k .before .before .wide .ensures) (k .wide2 .ensures)
-    (start (found k) .args .b2e .now) (room .if1 .left) (done .commit .ensures)
+    (start (found k) .args .b2e .now) (room .if1 .left) (start (found k) .pre .1) (done .commit .ensures)
 
 pub build-fit-spec : {M : Type 1} → statement M
 build-fit-spec =

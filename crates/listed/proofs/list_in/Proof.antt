@@ -1,12 +1,14 @@
 -- `listed::list_in` meets its contract.
 -- Assumes nothing.
 use borrow.Author.Needs.{needs}
-use mathlib.Core.Path.{ap, sym}
+use mathlib.Core.Path.{_≡_, refl, ap, sym, _∙_}
 use mathlib.Core.List.{List}
-use Prim.Native.Nat.{ℕ, _*_}
+use Prim.Native.Nat.{ℕ, _*_, _≤_}
 use native.Mathlib.Omega.{arith}
+use lib.ListN.{take}
 use lib.Seq.{length-take-le}
-use Rattle.listed.specs.Fit.{Read, read-mesh, bad-shown, never-short, mesh-is, fits, written-as}
+use Rattle.rules.specs.Tables.{columns}
+use Rattle.listed.specs.Fit.{Read, read-mesh, bad-shown, never-short, mesh-is, few-entries, fits, written-as}
 use Rattle.listed.proofs.list_in.Statement.{statement}
 use Rattle.listed.proofs.list_in.Tie as tie
 
@@ -33,8 +35,18 @@ read c =
     read-mesh (s .args .text .now) (s .args .list .now) (s .pre .0 .0) (a .0) (meshed c .p .given .1) (a .1) (c .before .wide .ensures)
     (ap (λ (i : ℕ). 4 * i) (c .wide2 .ensures))
 
+-- the columns found, and with them E2e's length
+abbrev rowed : tie.After-wide3 → tie.After-wide2
+rowed c = c .before .before .before
+
+columned : (c : tie.After-wide3) → c .wide3 .result ≡ columns (take (4 * rowed c .wide2 .result) (list (rowed c)))
+columned c = c .wide3 .ensures ∙ c .before .columns-of .ensures
+
+few : (c : tie.After-wide3) → c .wide3 .result * rowed c .wide2 .result ≤ 800
+few c = few-entries (read (rowed c)) (rowed c .wide2 .result) (columned c) refl refl .1
+
 -- its parts lent, and its lines written
-abbrev widened : tie.After-list-mesh-arg6 → tie.After-wide2
+abbrev widened : tie.After-list-mesh-arg6 → tie.After-wide3
 widened c = c .before .before .before .before .before .before
 
 abbrev listed : tie.After-slice-known12 → tie.After-list-mesh
@@ -55,36 +67,59 @@ wide-requires-2 c κs = search needs
 mul-e : tie.Need-mul-e
 mul-e c = search needs
 
-slice-reshare-prefix-list-mesh : tie.Need-slice-reshare-prefix-list-mesh
-slice-reshare-prefix-list-mesh c = let h = read c in omega arith
+slice-reshare-prefix-columns-of : tie.Need-slice-reshare-prefix-columns-of
+slice-reshare-prefix-columns-of c = let h = read c in omega arith
 
-slice-aggregate-list-mesh : tie.Need-slice-aggregate-list-mesh
-slice-aggregate-list-mesh c =
+slice-aggregate-columns-of : tie.Need-slice-aggregate-columns-of
+slice-aggregate-columns-of c =
     let w = c .before in
     let h = read w in sym (length-take-le (4 * w .wide2 .result) (list w) (omega arith))
 
+columns-of-requires : tie.Need-columns-of-requires
+columns-of-requires c κs = search needs
+
+wide-requires-3 : tie.Need-wide-requires-3
+wide-requires-3 c κs = search needs
+
+mul-o : tie.Need-mul-o
+mul-o c = omega (arith, few c)
+
+slice-reshare-prefix-list-mesh : tie.Need-slice-reshare-prefix-list-mesh
+slice-reshare-prefix-list-mesh c = let h = read (rowed c) in omega arith
+
+slice-aggregate-list-mesh : tie.Need-slice-aggregate-list-mesh
+slice-aggregate-list-mesh c =
+    let w = rowed (c .before) in
+    let h = read w in sym (length-take-le (4 * w .wide2 .result) (list w) (omega arith))
+
 slice-relend-prefix-list-mesh : tie.Need-slice-relend-prefix-list-mesh
-slice-relend-prefix-list-mesh c = let h = read (c .before) in omega (arith, begun (c .before) .pre)
+slice-relend-prefix-list-mesh c =
+    let w = rowed (c .before) in
+    let h = read w in omega (arith, begun w .pre)
 
 slice-aggregate-list-mesh-2 : tie.Need-slice-aggregate-list-mesh-2
 slice-aggregate-list-mesh-2 c =
-    let w = c .before .before in
+    let w = rowed (c .before .before) in
     let h = read w in sym (length-take-le (w .before .wide .result) (begun w .args .v2e .now) (omega (arith, begun w .pre)))
 
 slice-relend-prefix-list-mesh-2 : tie.Need-slice-relend-prefix-list-mesh-2
-slice-relend-prefix-list-mesh-2 c = let h = read (c .before .before) in omega (arith, begun (c .before .before) .pre)
+slice-relend-prefix-list-mesh-2 c =
+    let w = c .before .before in omega (arith, few w, begun (rowed w) .pre)
 
 slice-aggregate-list-mesh-3 : tie.Need-slice-aggregate-list-mesh-3
 slice-aggregate-list-mesh-3 c =
     let w = c .before .before .before in
-    let h = read w in sym (length-take-le (4 * w .wide2 .result) (begun w .args .e2e .now) (omega (arith, begun w .pre)))
+    let s = begun (rowed w) in
+    sym (length-take-le (w .wide3 .result * rowed w .wide2 .result) (s .args .e2e .now) (omega (arith, few w, s .pre)))
 
 list-mesh-requires : tie.Need-list-mesh-requires
 list-mesh-requires c κs =
-    let w = widened c in
+    let o = widened c in
+    let w = rowed o in
     let s = begun w in
     let (_, v, e, b, k) = s .pre .0 in
-    (fits (read w) (s .args .v2e .now) (s .args .e2e .now) (s .args .b2e .now) (s .args .work .now) v e b k, s .pre .1)
+    let a = s .args in
+    ((fits (read w) (a .v2e .now) (a .e2e .now) (a .b2e .now) (a .work .now) (w .wide2 .result) v e b k (columned o) refl refl, o .before .columns-of .ensures), s .pre .1)
 
 enum-known-p-2 : tie.Need-enum-known-p-2
 enum-known-p-2 c = search needs
@@ -116,7 +151,7 @@ same-length-6 c = search needs
 returns : tie.Need-returns
 returns c =
     let z = listed c in
-    let w = widened (z .before) in (written-as (begun w .args .out .now) (mesh-is (read w)) (z .list-mesh .ensures .0), z .list-mesh .ensures .1)
+    let w = rowed (widened (z .before)) in (written-as (begun w .args .out .now) (mesh-is (read w)) (z .list-mesh .ensures .0), z .list-mesh .ensures .1)
 
 same-length-7 : tie.Need-same-length-7
 same-length-7 c = search needs
@@ -151,6 +186,11 @@ list-in-spec =
     wide-requires
     wide-requires-2
     mul-e
+    slice-reshare-prefix-columns-of
+    slice-aggregate-columns-of
+    columns-of-requires
+    wide-requires-3
+    mul-o
     slice-reshare-prefix-list-mesh
     slice-aggregate-list-mesh
     slice-relend-prefix-list-mesh

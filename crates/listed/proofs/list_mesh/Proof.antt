@@ -56,12 +56,12 @@ wide-requires c κs = search needs
 slice-reshare-prefix-print-tables : tie.Need-slice-reshare-prefix-print-tables
 slice-reshare-prefix-print-tables c =
     let w = c .before .before .before in
-    border-long (start (tabled w) .pre .0) (given w) (tabled w .build .ensures .1)
+    border-long (start (tabled w) .pre .0 .0) (given w) (tabled w .build .ensures .1)
 
 slice-aggregate-print-tables : tie.Need-slice-aggregate-print-tables
 slice-aggregate-print-tables c =
     let w = lent-tables c in
-    sym (length-take-le (w .wide .result) _ (border-long (start (tabled w) .pre .0) (given w) (tabled w .build .ensures .1)))
+    sym (length-take-le (w .wide .result) _ (border-long (start (tabled w) .pre .0 .0) (given w) (tabled w .build .ensures .1)))
 
 print-tables-requires : tie.Need-print-tables-requires
 print-tables-requires c κs = search needs
@@ -92,7 +92,7 @@ returns c =
     let z = c .before .before in
     let w = lent-tables (z .before) in
     let s = start (tabled w) in
-    let e = tables-shown (s .pre .0) (given w) (tabled w .build .ensures .1) (s .pre .1) in
+    let e = tables-shown (s .pre .0 .0) (given w) (tabled w .build .ensures .1) (s .pre .1) (s .pre .0 .1) in
     (written-as (s .args .out .now) e (z .print-tables .ensures .0), z .print-tables .ensures .1)
 
 same-length-6 : tie.Need-same-length-6
@@ -115,7 +115,7 @@ returns-2 c =
     let z = c .before .before in
     let a = z .before .before .before in
     let s = start (refusing a) in
-    let e = refusal-shown (s .pre .0) (s .pre .1) (no-tables a) in
+    let e = refusal-shown (s .pre .0 .0) (s .pre .1) (no-tables a) in
     (written-as (s .args .out .now) e (z .print-refusal .ensures .0), z .print-refusal .ensures .1)
 
 pub list-mesh-spec : {M : Type 1} → statement M

@@ -9,10 +9,10 @@ use Rattle.passes.proofs.count.Statement.{statement}
 use Rattle.passes.proofs.count.Tie as tie
 
 abbrev Inv-loop : tie.InvT-loop
-Inv-loop walk n list v2e e2e b2e limit start x₀ count₀ x count = Counting walk (mesh n list v2e e2e b2e) start limit count x
+Inv-loop walk n columns list v2e e2e b2e limit start x₀ count₀ x count = Counting walk (mesh n columns list v2e e2e b2e) start limit count x
 
 abbrev μ-loop : tie.MeasureT-loop
-μ-loop walk n list v2e e2e b2e limit start x₀ count₀ x count = limit - count
+μ-loop walk n columns list v2e e2e b2e limit start x₀ count₀ x count = limit - count
 
 abbrev begun : tie.At-loop Inv-loop μ-loop → tie.Start Inv-loop μ-loop
 begun c = c .before .before .before .before .before

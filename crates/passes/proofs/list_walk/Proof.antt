@@ -15,7 +15,7 @@ use Rattle.passes.proofs.list_walk.Statement.{statement}
 use Rattle.passes.proofs.list_walk.Tie as tie
 
 abbrev meshOf : tie.Start → Mesh
-meshOf s = mesh (s .args .n) (s .args .list .now) (s .args .v2e .now) (s .args .e2e .now) (s .args .b2e .now)
+meshOf s = mesh (s .args .n) (s .args .columns) (s .args .list .now) (s .args .v2e .now) (s .args .e2e .now) (s .args .b2e .now)
 
 abbrev begun : tie.After-counted → tie.Start
 begun c = c .before .before .before .before .before .before .before .before

@@ -10,10 +10,10 @@ use Rattle.passes.proofs.write.Statement.{statement}
 use Rattle.passes.proofs.write.Tie as tie
 
 abbrev Inv-loop : tie.InvT-loop
-Inv-loop walk n list v2e e2e b2e start from size out₀ x₀ at₀ out x at = Writing walk (mesh n list v2e e2e b2e) start from size out₀ at x out
+Inv-loop walk n columns list v2e e2e b2e start from size out₀ x₀ at₀ out x at = Writing walk (mesh n columns list v2e e2e b2e) start from size out₀ at x out
 
 abbrev μ-loop : tie.MeasureT-loop
-μ-loop walk n list v2e e2e b2e start from size out₀ x₀ at₀ out x at = size - at
+μ-loop walk n columns list v2e e2e b2e start from size out₀ x₀ at₀ out x at = size - at
 
 abbrev begun : tie.At-loop Inv-loop μ-loop → tie.Start Inv-loop μ-loop
 begun c = c .before .before .before .before .before .before

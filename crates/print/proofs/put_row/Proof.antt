@@ -4,17 +4,13 @@ use borrow.Author.Needs.{needs}
 use mathlib.Core.List.{List}
 use mathlib.Core.Path.{_≡_}
 use Prim.Native.Nat.{ℕ, _+_, _*_, _-_}
-use lib.ListN.{take, drop, length-take}
-use Rattle.rules.specs.Elements.{row}
+use lib.ListN.{take, drop, length-take, length-drop}
 use native.Mathlib.Omega.{arith}
 use Rattle.print.proofs.put_row.Statement.{statement}
 use Rattle.print.proofs.put_row.Tie as tie
 
-part : (e : List ℕ) (k : ℕ) → take (4 * k + 4 - 4 * k) (drop (4 * k) e) ≡ row e (k + 1)
-part e k =
-    let n : 4 * k + 4 - 4 * k ≡ 4 = omega arith in
-    let m : 4 * (k + 1 - 1) ≡ 4 * k = omega arith in
-    rw (n, m)
+part : (e : List ℕ) (c k : ℕ) → take (c * k + c - c * k) (drop (c * k) e) ≡ take c (drop (c * k) e)
+part e c k = let n : c * k + c - c * k ≡ c = omega arith in rw n
 
 mul-a : tie.Need-mul-a
 mul-a c = search needs
@@ -35,14 +31,14 @@ part-put-line-end : tie.Need-part-put-line-end
 part-put-line-end c = search needs
 
 put-line-requires : tie.Need-put-line-requires
-put-line-requires c κs = rw length-take (omega arith)
+put-line-requires c κs = simp (length-take, length-drop) (omega arith)
 
 same-length : tie.Need-same-length
 same-length c = search needs
 
 returns : tie.Need-returns
 returns c = let n = c .before .before in
-    (rw part at (n .put-line .ensures .0), omega (arith, simp length-take at (n .put-line .ensures .1)))
+    (rw part at (n .put-line .ensures .0), omega (arith, simp (length-take, length-drop) at (n .put-line .ensures .1)))
 
 pub put-row-spec : {M : Type 1} → statement M
 put-row-spec =

@@ -16,7 +16,7 @@ begun c = c .before .before .before .before .before
 abbrev widened : tie.After-tabulate → tie.After-wide
 widened c = c .before .before
 
-abbrev tabulated : tie.After-wide2 → tie.After-tabulate
+abbrev tabulated : tie.After-columns-of → tie.After-tabulate
 tabulated c = c .before .before .before
 
 wide-requires : tie.Need-wide-requires
@@ -45,23 +45,28 @@ tabulate-requires c κs =
     let z : s .args .n + 12 * elements (s .args .list .now) - 0 ≡ s .args .n + 12 * elements (s .args .list .now) = omega arith in
     rw (c .before .wide .ensures, z) (s .pre .sized)
 
+columns-of-requires : tie.Need-columns-of-requires
+columns-of-requires c κs = search needs
+
 wide-requires-2 : tie.Need-wide-requires-2
 wide-requires-2 c κs = search needs
 
 is-theirs-requires : tie.Need-is-theirs-requires
 is-theirs-requires c κs =
-    let t = tabulated (c .before) in
+    let columned = c .before .before in
+    let t = tabulated columned in
     let w = widened t in
-    to-compare (begun w .pre) (w .wide .ensures) (t .tabulate .ensures) (c .before .wide2 .ensures)
+    to-compare (begun w .pre) (w .wide .ensures) (t .tabulate .ensures) (c .before .wide2 .ensures) (columned .columns-of .ensures)
 
 same-length : tie.Need-same-length
 same-length c = search needs
 
 returns : tie.Need-returns
 returns c =
-    let t = tabulated (c .before .before) in
+    let index = c .before .before in
+    let t = tabulated (index .before) in
     let w = widened t in
-    tried (begun w .pre) (w .wide .ensures) (t .tabulate .ensures) (c .before .before .wide2 .ensures) (c .is-theirs .ensures)
+    tried (begun w .pre) (w .wide .ensures) (t .tabulate .ensures) (index .wide2 .ensures) (index .before .columns-of .ensures) (c .is-theirs .ensures)
 
 pub has-tables-spec : {M : Type 1} → statement M
 has-tables-spec =
@@ -74,6 +79,7 @@ has-tables-spec =
     part-tabulate-start
     part-tabulate-end
     tabulate-requires
+    columns-of-requires
     wide-requires-2
     is-theirs-requires
     same-length

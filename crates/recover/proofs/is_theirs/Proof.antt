@@ -1,12 +1,13 @@
 -- `recover::is_theirs` meets its contract.
 -- Assumes nothing.
 use mathlib.Core.Path.{_≡_, ap, _∙_}
-use Prim.Native.Nat.{ℕ, _+_, _-_}
+use Prim.Native.Nat.{ℕ, _+_, _*_, _-_}
 use native.Mathlib.Omega.{arith}
 use borrow.Author.Tests.{not-true, not-false}
-use lib.ListN.{length, take}
+use lib.ListN.{length, take, drop, length-take, length-drop}
 use Rattle.lists.specs.Tests.{same}
 use Rattle.lists.specs.Parts.{part}
+use Rattle.theory.specs.Columns.{narrowed}
 use Rattle.answer.specs.Numbers.{numbers}
 use Rattle.recover.specs.Recovering.{differs-v, compares}
 use borrow.Author.Needs.{needs}
@@ -35,6 +36,9 @@ enum-told-2 c = search needs
 returns : tie.Need-returns
 returns c = search needs
 
+mul-end : tie.Need-mul-end
+mul-end c = search needs
+
 add-end : tie.Need-add-end
 add-end c = search needs
 
@@ -53,28 +57,32 @@ is-same-requires c κs = search needs
 returns-2 : tie.Need-returns-2
 returns-2 c = differs-v (ap numbers (told (c .before) .enum-told .given .1)) _ _ _ _ (vertices (c .before)) (not-true _ (c .if1 .taken))
 
-mul-is-same : tie.Need-mul-is-same
-mul-is-same c = search needs
+mul-is-put : tie.Need-mul-is-put
+mul-is-put c = search needs
 
-sub-is-same-2 : tie.Need-sub-is-same-2
-sub-is-same-2 c = search needs
+sub-is-put : tie.Need-sub-is-put
+sub-is-put c = search needs
 
-part-is-same-start-2 : tie.Need-part-is-same-start-2
-part-is-same-start-2 c = search needs
+part-is-put-start : tie.Need-part-is-put-start
+part-is-put-start c = search needs
 
-part-is-same-end-2 : tie.Need-part-is-same-end-2
-part-is-same-end-2 c = search needs
+part-is-put-end : tie.Need-part-is-put-end
+part-is-put-end c = search needs
 
-is-same-requires-2 : tie.Need-is-same-requires-2
-is-same-requires-2 c κs = search needs
+is-put-requires : tie.Need-is-put-requires
+is-put-requires c κs =
+    let s = begun (c .before .before) in
+    let l : length (take (s .args .n + 4 * s .args .m - s .args .n) (drop (s .args .n) (s .args .work .now))) ≡ 4 * s .args .m =
+    simp (length-take, length-drop) (omega (arith, s .pre .0)) in
+    (s .pre .1, omega arith)
 
 returns-3 : tie.Need-returns-3
 returns-3 c =
     let first = c .before .before in
     let s = begun (first .before) .args in
-    let z : s .n + length (s .e2e .now) - s .n ≡ length (s .e2e .now) = omega arith in
+    let z : s .n + 4 * s .m - s .n ≡ 4 * s .m = omega arith in
     compares (ap numbers (told (first .before) .enum-told .given .1)) _ _ _ _ (vertices (first .before)) (not-false _ (first .if1 .left))
-    (c .is-same2 .ensures ∙ ap (λ (k : ℕ). same (part (s .n) k (s .work .now)) (s .e2e .now)) z)
+    (c .is-put .ensures ∙ ap (λ (k : ℕ). same (narrowed (s .columns) (part (s .n) k (s .work .now))) (s .e2e .now)) z)
 
 pub is-theirs-spec : {M : Type 1} → statement M
 is-theirs-spec =
@@ -83,15 +91,16 @@ is-theirs-spec =
     enum-told
     enum-told-2
     returns
+    mul-end
     add-end
     sub-is-same
     part-is-same-start
     part-is-same-end
     is-same-requires
     returns-2
-    mul-is-same
-    sub-is-same-2
-    part-is-same-start-2
-    part-is-same-end-2
-    is-same-requires-2
+    mul-is-put
+    sub-is-put
+    part-is-put-start
+    part-is-put-end
+    is-put-requires
     returns-3)

@@ -4,8 +4,7 @@ use mathlib.Core.List.{List}
 use Prim.Native.Nat.{ℕ, _+_, _*_, _≤_}
 use native.Mathlib.Omega.{arith}
 use lib.ListN.{length}
-use Rattle.rules.specs.Elements.{elements}
-use Rattle.recover.specs.Recovering.{Proposed, roomy, to-try, kept-inside, recovered-list, recovered-none}
+use Rattle.recover.specs.Recovering.{Proposed, Tried, roomy, as-many, to-try, kept-inside, recovered-list, recovered-none}
 use borrow.Author.Needs.{needs}
 use Rattle.recover.proofs.recover_fit.Statement.{statement}
 use Rattle.recover.proofs.recover_fit.Tie as tie
@@ -24,11 +23,18 @@ abbrev work₁ : tie.After-propose → List ℕ
 work₁ c = c .propose .last .1 .1 .1 .1 .1 .0
 
 proposed : (c : tie.After-propose)
-    → let s = begun (widened c) .args in Proposed (s .n) (elements (s .e2e .now)) (s .v2e .now) (s .e2e .now) (s .list .now) (s .work .now) (list₁ c) (work₁ c)
+    → let s = begun (widened c) .args in Proposed (s .n) (s .m) (s .v2e .now) (s .e2e .now) (s .list .now) (s .work .now) (list₁ c) (work₁ c)
 proposed c = rw (widened c .wide .ensures) at (c .propose .ensures)
 
 abbrev given : tie.After-has-tables-arg2 → tie.After-propose
 given c = c .before .before .before .before .before .before
+
+-- ... and tried
+attempted : (c : tie.After-has-tables)
+    → let g = given (c .before) in
+    let s = begun (widened g) .args in Tried (s .n) (s .m) (s .v2e .now) (s .e2e .now) (c .has-tables .result) (work₁ g) (c .has-tables .last .1 .1 .1 .1 .0)
+attempted c =
+    let g = given (c .before) in rw (as-many (begun (widened g) .pre) (proposed g)) at (c .has-tables .ensures)
 
 -- past the trial
 abbrev tried : tie.After-slice-known5 → tie.After-has-tables
@@ -59,7 +65,7 @@ returns : tie.Need-returns
 returns c =
     let t = tried (c .before .before) in
     let g = given (t .before) in
-    recovered-list (begun (widened g) .pre) (proposed g) (t .has-tables .ensures) (c .before .if1 .taken) (c .give .ensures)
+    recovered-list (begun (widened g) .pre) (proposed g) (attempted t) (c .before .if1 .taken) (c .give .ensures)
 
 wide-requires-2 : tie.Need-wide-requires-2
 wide-requires-2 c κs = search needs
@@ -93,8 +99,8 @@ part-copy-end c =
     let t = refused w in
     let g = given (t .before) in
     let s = begun (widened g) in
-    let h : w .wide2 .result + 12 * elements (s .args .e2e .now) + 4 * elements (s .args .e2e .now) ≤ length (t .has-tables .last .1 .1 .1 .1 .0) =
-    rw (w .wide2 .ensures) (kept-inside (s .pre) (proposed g) (t .has-tables .ensures)) in
+    let h : w .wide2 .result + 12 * s .args .m + 4 * s .args .m ≤ length (t .has-tables .last .1 .1 .1 .1 .0) =
+    rw (w .wide2 .ensures) (kept-inside (s .pre) (proposed g) (attempted t)) in
     search needs
 
 copy-requires : tie.Need-copy-requires
@@ -115,7 +121,7 @@ returns-2 c =
     let w = copied .before .before .before .before in
     let t = refused w in
     let g = given (t .before) in
-    recovered-none (begun (widened g) .pre) (proposed g) (t .has-tables .ensures) (w .before .if1 .left) (c .refuse .ensures)
+    recovered-none (begun (widened g) .pre) (proposed g) (attempted t) (w .before .if1 .left) (c .refuse .ensures)
     (rw (w .wide2 .ensures) at (copied .copy .ensures))
 
 pub recover-fit-spec : {M : Type 1} → statement M

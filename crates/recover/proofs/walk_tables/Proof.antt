@@ -23,7 +23,7 @@ returns c =
     let linked = walked .before .before .before .before in
     let filled = linked .before .before .before .before in
     let h = filled .before .before .before .before .before .pre in
-    walk-filled (h .0) (h .1) (h .2) (filled .fill .ensures) (linked .link .ensures) (walked .walk .ensures)
+    walk-filled (h .0) (h .1) (filled .fill .ensures) (linked .link .ensures) (walked .walk .ensures)
 
 pub walk-tables-spec : {M : Type 1} → statement M
 walk-tables-spec =

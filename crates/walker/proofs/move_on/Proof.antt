@@ -96,12 +96,15 @@ stayed = (
   (
     stay-none (λ _. u32) yes,
     (
-      stay-none-slice (1 ∷ []) tt (plain (λ _. u32)) yes,
+      stay-none (λ _. u32) yes,
       (
-        stay-none-slice (2 ∷ []) tt (plain (λ _. u32)) yes,
+        stay-none-slice (1 ∷ []) tt (plain (λ _. u32)) yes,
         (
-          stay-none-slice (3 ∷ []) tt (plain (λ _. u32)) yes,
-          (stay-none-slice (4 ∷ []) tt (plain (λ _. u32)) yes, (stay-none (λ _. Cl.the-row) yes, tt)),
+          stay-none-slice (2 ∷ []) tt (plain (λ _. u32)) yes,
+          (
+            stay-none-slice (3 ∷ []) tt (plain (λ _. u32)) yes,
+            (stay-none-slice (4 ∷ []) tt (plain (λ _. u32)) yes, (stay-none (λ _. Cl.the-row) yes, tt)),
+          ),
         ),
       ),
     ),
@@ -113,17 +116,17 @@ abbrev CallAt : {M : Type 1} (𝓤 : URA M) (H : Heap 𝓤) (A : Atoms 𝓤) (me
 CallAt 𝓤 H A mem run = tripleOf 𝓤 H A callee.signature (callee.spec 𝓤 H A mem run)
 
 module _ {M : Type 1} (𝓤 : URA M) (H : Heap 𝓤) (A : Atoms 𝓤) (W : Given 𝓤 H A) (at-mem : Memory → SProp 𝓤) (run : Routine → Fun 𝓤)
-    (κ₀ κ₁ κ₂ κ₃ κ₄ : Lft) (q₀ q₁ q₂ q₃ q₄ : Share) (b o : ℕ) (γ : GName) (h : Walker) (n : ℕ) (l t e d : RefT (List ℕ)) (k : Call)
-    (n-fits : n < 2 ^ 32) (k-is : Is Cl.the-row k (told k)) where
-  -- the slices' lifetimes, and the slices with the two numbers beside them
+    (κ₀ κ₁ κ₂ κ₃ κ₄ : Lft) (q₀ q₁ q₂ q₃ q₄ : Share) (b o : ℕ) (γ : GName) (h : Walker) (n c : ℕ) (l t e d : RefT (List ℕ)) (k : Call)
+    (n-fits : n < 2 ^ 32) (c-fits : c < 2 ^ 32) (k-is : Is Cl.the-row k (told k)) where
+  -- the slices' lifetimes, and the slices with the two numbers and the call beside them
   abbrev tokens : Item 𝓤
   tokens = ‵ (flft κ₁ q₁) ⊛ ‵ (flft κ₂ q₂) ⊛ ‵ (flft κ₃ q₃) ⊛ ‵ (flft κ₄ q₄) ⊛ ‵ ftrue
 
   abbrev rows : List RattleType
-  rows = u32 ∷ ShrSlice (named 1) κ₁ u32 ∷ ShrSlice (named 2) κ₂ u32 ∷ ShrSlice (named 3) κ₃ u32 ∷ ShrSlice (named 4) κ₄ u32 ∷ Cl.the-row ∷ []
+  rows = u32 ∷ u32 ∷ ShrSlice (named 1) κ₁ u32 ∷ ShrSlice (named 2) κ₂ u32 ∷ ShrSlice (named 3) κ₃ u32 ∷ ShrSlice (named 4) κ₄ u32 ∷ Cl.the-row ∷ []
 
   abbrev Slices : Fml
-  Slices = owns rows (n, (l, (t, (e, (d, (k, tt)))))) (vint w32 n ∷ [], (at l, (at t, (at e, (at d, (told k, tt))))))
+  Slices = owns rows (n, (c, (l, (t, (e, (d, (k, tt))))))) (vint w32 n ∷ [], (vint w32 c ∷ [], (at l, (at t, (at e, (at d, (told k, tt)))))))
 
   abbrev lent : RefT Walker
   lent = record { ptr = (b, o); name = γ; now = h }
@@ -134,8 +137,8 @@ module _ {M : Type 1} (𝓤 : URA M) (H : Heap 𝓤) (A : Atoms 𝓤) (W : Given
       (κ₀, (κ₁, (κ₂, (κ₃, (κ₄, tt))))),
       (q₀, (q₁, (q₂, (q₃, (q₄, tt))))),
       tt,
-      (lent, (n, (l, (t, (e, (d, (k, tt))))))),
-      (vptr b o ∷ [], (vint w32 n ∷ [], (at l, (at t, (at e, (at d, (told k, tt))))))),
+      (lent, (n, (c, (l, (t, (e, (d, (k, tt)))))))),
+      (vptr b o ∷ [], (vint w32 n ∷ [], (vint w32 c ∷ [], (at l, (at t, (at e, (at d, (told k, tt)))))))),
     ),
     tt,
   )
@@ -150,14 +153,14 @@ module _ {M : Type 1} (𝓤 : URA M) (H : Heap 𝓤) (A : Atoms 𝓤) (W : Given
       (κ₁, (κ₂, (κ₃, (κ₄, tt)))),
       (q₁, (q₂, (q₃, (q₄, tt)))),
       tt,
-      (h, (n, (l, (t, (e, (d, (k, tt))))))),
-      (held h, (vint w32 n ∷ [], (at l, (at t, (at e, (at d, (told k, tt))))))),
+      (h, (n, (c, (l, (t, (e, (d, (k, tt)))))))),
+      (held h, (vint w32 n ∷ [], (vint w32 c ∷ [], (at l, (at t, (at e, (at d, (told k, tt)))))))),
     ),
     tt,
   )
 
   abbrev asks : List RattleType
-  asks = T.the-row ∷ u32 ∷ ShrSlice (named 0) κ₁ u32 ∷ ShrSlice (named 1) κ₂ u32 ∷ ShrSlice (named 2) κ₃ u32 ∷ ShrSlice (named 3) κ₄ u32 ∷ Cl.the-row ∷ []
+  asks = T.the-row ∷ u32 ∷ u32 ∷ ShrSlice (named 0) κ₁ u32 ∷ ShrSlice (named 1) κ₂ u32 ∷ ShrSlice (named 2) κ₃ u32 ∷ ShrSlice (named 3) κ₄ u32 ∷ Cl.the-row ∷ []
 
   -- a slice is had twice
   abbrev twice : ℕ → Lft → RefT (List ℕ) → Item 𝓤
@@ -166,19 +169,21 @@ module _ {M : Type 1} (𝓤 : URA M) (H : Heap 𝓤) (A : Atoms 𝓤) (W : Given
   -- the slices go twice: once for the call, and once for the exit
   goes : Is T.the-row h (held h) → ent 𝓤 (⋆ 𝓤 H A (tokens ∷ ‵ Slices ∷ [])) (sep 𝓤 (CallAt 𝓤 H A at-mem run .pre to) (sem 𝓤 H A Slices))
   goes was =
-      qed W (tokens ∷ ‵ Slices ∷ []) ∵ move ! (1 ∷ []) $ fsplit ! $ drop ! $
+      qed W (tokens ∷ ‵ Slices ∷ []) ∵ move ! (1 ∷ []) $ fsplit ! $ drop ! $ fsplit ! $ drop ! $
       fsplit ! $ use1 W (twice 1 κ₁ l) (shr-slice-copy 𝓤 H A W (named 1) κ₁ u32 .twice l (at l)) $ split ! $ move ! (2 ∷ []) $
       fsplit ! $ use1 W (twice 2 κ₂ t) (shr-slice-copy 𝓤 H A W (named 2) κ₂ u32 .twice t (at t)) $ split ! $ move ! (2 ∷ []) $
       fsplit ! $ use1 W (twice 3 κ₃ e) (shr-slice-copy 𝓤 H A W (named 3) κ₃ u32 .twice e (at e)) $ split ! $ move ! (2 ∷ []) $
       fsplit ! $ use1 W (twice 4 κ₄ d) (shr-slice-copy 𝓤 H A W (named 4) κ₄ u32 .twice d (at d)) $ split ! $
       -- [b2e's; b2e's; the call's; e2e's; e2e's; v2e's; v2e's; list's; list's; the tokens]
       move ! (0 ∷ 2 ∷ []) $ fjoin ! $ move ! (2 ∷ 0 ∷ []) $ fjoin ! $ move ! (3 ∷ 0 ∷ []) $ fjoin ! $ move ! (4 ∷ 0 ∷ []) $ fjoin ! $
+      owned ! u32 (Is u32) (uint-makes 𝓤 H A W w32) c _ (refl, c-fits) $ fjoin ! $
       owned ! u32 (Is u32) (uint-makes 𝓤 H A W w32) n _ (refl, n-fits) $ fjoin ! $
       owned ! T.the-row (Is T.the-row) (LL.makes T.the-type T′.the-plain 𝓤 H A) h _ was $ fjoin ! $
       -- [what the callee asks; b2e's; e2e's; v2e's; list's; the tokens]
       move ! (5 ∷ 0 ∷ []) $ use2 W (raw (CallAt 𝓤 H A at-mem run .pre to)) asked $
       move ! (1 ∷ []) $ nothing ! $ owned ! Cl.the-row (Is Cl.the-row) (EL.makes Cl.the-type Cl′.the-plain 𝓤 H A) k _ k-is $ fjoin ! $
       move ! (1 ∷ 0 ∷ []) $ fjoin ! $ move ! (2 ∷ 0 ∷ []) $ fjoin ! $ move ! (2 ∷ 0 ∷ []) $ fjoin ! $ move ! (2 ∷ 0 ∷ []) $ fjoin ! $
+      owned ! u32 (Is u32) (uint-makes 𝓤 H A W w32) c _ (refl, c-fits) $ fjoin ! $
       owned ! u32 (Is u32) (uint-makes 𝓤 H A W w32) n _ (refl, n-fits) $ fjoin ! $ move ! (1 ∷ 0 ∷ []) $ frame ! $ done !
     where
       asked : ent 𝓤 (onEntry 𝓤 H A callee.signature (to .0 .0) (to .0 .1) (to .0 .3) (to .0 .4)) (CallAt 𝓤 H A at-mem run .pre to)
@@ -186,7 +191,7 @@ module _ {M : Type 1} (𝓤 : URA M) (H : Heap 𝓤) (A : Atoms 𝓤) (W : Given
 
   -- what the call leaves
   abbrev rule : Walked
-  rule = calledBy k (mesh n (l .now) (t .now) (e .now) (d .now)) (recordOf h)
+  rule = calledBy k (mesh n c (l .now) (t .now) (e .now) (d .now)) (recordOf h)
 
   abbrev ensures : Moved → SProp 𝓤
   ensures r = ensured 𝓤 H A callee.ended (callee.clauses 𝓤 H A at-mem run) (to .0 .0) (to .0 .3) tt r
@@ -202,7 +207,7 @@ module _ {M : Type 1} (𝓤 : URA M) (H : Heap 𝓤) (A : Atoms 𝓤) (W : Given
   exits r g is =
       qed W (left r) ∵
       suffices ! _ (ends-at 𝓤 H A f.ended stayed (f.clauses 𝓤 H A at-mem run) W entry (answered r) (r .answer)
-      (r .walker, (tt, (tt, (tt, (tt, (tt, (tt, tt))))))) (tt, (tt, (tt, (tt, (tt, (tt, (tt, tt)))))))) $ says ! g $
+      (r .walker, (tt, (tt, (tt, (tt, (tt, (tt, (tt, tt)))))))) (tt, (tt, (tt, (tt, (tt, (tt, (tt, (tt, tt))))))))) $ says ! g $
       move ! (2 ∷ 3 ∷ []) $ join ! $ frame ! $ feqI ! (List Val) (vptr b o ∷ []) (vptr b o ∷ []) refl $ fjoin3 ! $ fjoin ! $
       owned ! An.the-row (Is An.the-row) (EL.makes An.the-type An′.the-plain 𝓤 H A) (r .answer) _ is $ move ! (1 ∷ 0 ∷ []) $ done !
 
@@ -210,54 +215,56 @@ module _ {M : Type 1} (𝓤 : URA M) (H : Heap 𝓤) (A : Atoms 𝓤) (W : Given
       (p₁ : Is (ShrSlice (named 1) κ₁ u32) l (at l)) (p₂ : Is (ShrSlice (named 2) κ₂ u32) t (at t))
       (p₃ : Is (ShrSlice (named 3) κ₃ u32) e (at e)) (p₄ : Is (ShrSlice (named 4) κ₄ u32) d (at d)) where
     abbrev args : List Val
-    args = vptr b o ∷ vint w32 n ∷ only (at l) ∷ only (at t) ∷ only (at e) ∷ only (at d) ∷ only (told k) ∷ []
+    args = vptr b o ∷ vint w32 n ∷ vint w32 c ∷ only (at l) ∷ only (at t) ∷ only (at e) ∷ only (at d) ∷ only (told k) ∷ []
 
     walk : ent 𝓤 (onEntry 𝓤 H A f.signature (entry .0 .0) (entry .0 .1) (entry .0 .3) (entry .0 .4)) (WpFn 𝓤 H C Λ code.function args Post)
     walk =
         qed W ((‵ (flft κ₀ q₀) ⊛ tokens) ∷ ‵ (owns (MutRef (named 0) κ₀ T.the-row ∷ rows) (entry .0 .3) (entry .0 .4)) ∷ []) ∵
         enter ! C Λ code.function args _ $
         alloc1 ! (λ l₀. alloc1 ! (λ l₁. alloc1 ! (λ l₂. alloc1 ! (λ l₃. alloc1 ! (λ l₄. alloc1 ! (λ l₅. alloc1 ! (λ l₆. alloc1 ! (λ l₇. alloc1 ! (λ l₈.
-        alloc1 ! (λ l₉. alloc0 ! $ params1 ! $
-        pass1 ! (init ! 16 refl (tt, tt)) $ pass1 ! (init ! 14 refl (tt, record { fits = n-fits })) $
+        alloc1 ! (λ l₉. alloc1 ! (λ l₁₀. alloc0 ! $ params1 ! $
+        pass1 ! (init ! 18 refl (tt, tt)) $ pass1 ! (init ! 16 refl (tt, record { fits = n-fits })) $
+        pass1 ! (init ! 14 refl (tt, record { fits = c-fits })) $
         pass1 ! (init ! 12 refl (shr-slice-lawful 𝓤 H A W (named 1) κ₁ u32 .typed l (at l) p₁ .0)) $
         pass1 ! (init ! 10 refl (shr-slice-lawful 𝓤 H A W (named 2) κ₂ u32 .typed t (at t) p₂ .0)) $
         pass1 ! (init ! 8 refl (shr-slice-lawful 𝓤 H A W (named 3) κ₃ u32 .typed e (at e) p₃ .0)) $
         pass1 ! (init ! 6 refl (shr-slice-lawful 𝓤 H A W (named 4) κ₄ u32 .typed d (at d) p₄ .0)) $
         pass1 ! (init ! 4 refl (EL.lawful Cl.the-type Cl′.the-laws 𝓤 H A W tt .typed k _ k-is .0)) $ pass0 ! $
         -- the borrow is opened
-        move ! (21 ∷ []) $ fsplit ! $ fsplit3 ! $ drop ! $ move ! (23 ∷ []) $ split ! $ move ! (2 ∷ 3 ∷ 0 ∷ []) $
+        move ! (23 ∷ []) $ fsplit ! $ fsplit3 ! $ drop ! $ move ! (25 ∷ []) $ split ! $ move ! (2 ∷ 3 ∷ 0 ∷ []) $
         opens ! tt T.the-row {h = h} b o (λ vs.
         spelt ! T.the-row (Is T.the-row) (shows 𝓤 H A T.the-row) (LL.vals T.the-type T′.the-laws) (LL.tells T.the-type T′.the-laws) fullShare h vs b o $
         move ! (1 ∷ []) $ peeks ! T.the-row (Is T.the-row) (shows 𝓤 H A T.the-row) h (held h) (λ was. move ! (1 ∷ 0 ∷ []) $
-        -- [the struct's cell; what a Walker owns; the open borrow; obs; auth; the tokens; the slices; _9; …; _8; …; ..; _1; …; room for _0; …]
-        assigns ! (of-opd ! (load ! (from ! (hop ! (look ! 23 refl) (stop !))) (look-raw ! 0 refl))) (from ! (stop !))
+        -- [the struct's cell; what a Walker owns; the open borrow; obs; auth; the tokens; the slices; _10; …; _9; …; ..; _1; …; room for _0; …]
+        assigns ! (of-opd ! (load ! (from ! (hop ! (look ! 25 refl) (stop !))) (look-raw ! 0 refl))) (from ! (stop !))
         (init ! 9 refl (LL.lawful T.the-type T′.the-laws 𝓤 H A W .typed h _ was .0)) $
         -- the call
         move ! (5 ∷ 6 ∷ []) $ use2 W (raw (CallAt 𝓤 H A at-mem run .pre to) ⊛ ‵ Slices) (goes was) $ split ! $
         calls-at ! fm (CallAt 𝓤 H A at-mem run) known to
-        (and-then ! (load ! (from ! (stop !)) (look ! 9 refl)) (and-then ! (load ! (from ! (stop !)) (look ! 21 refl))
+        (and-then ! (load ! (from ! (stop !)) (look ! 9 refl)) (and-then ! (load ! (from ! (stop !)) (look ! 23 refl))
+        (and-then ! (load ! (from ! (stop !)) (look ! 21 refl))
         (and-then ! (load ! (from ! (stop !)) (look ! 19 refl)) (and-then ! (load ! (from ! (stop !)) (look ! 17 refl))
         (and-then ! (load ! (from ! (stop !)) (look ! 15 refl)) (and-then ! (load ! (from ! (stop !)) (look ! 13 refl))
-        (and-then ! (load ! (from ! (stop !)) (look ! 11 refl)) (no-more !)))))))) (λ u.
+        (and-then ! (load ! (from ! (stop !)) (look ! 11 refl)) (no-more !))))))))) (λ u.
         use1 W (later (some (λ (r : Moved). (tokens ⊛ ‵ (Mv.the-row .own r (u ∷ []))) ⊛ raw (ensures r)))) (id⊢ 𝓤 _) $ await ! tt $ pick ! (λ r.
         split ! $ move ! (1 ∷ []) $ use1 W (raw (fact 𝓤 (movedOf r ≡ rule))) (said r) $ heard ! (movedOf r ≡ rule) (λ g. split ! $ move ! (1 ∷ []) $
         peeks ! Mv.the-row (Is Mv.the-row) (shows 𝓤 H A Mv.the-row) r (u ∷ []) (λ is. drop ! $
         land ! (from ! (stop !)) (init ! 7 refl (LL.lawful Mv.the-type Mv′.the-laws 𝓤 H A W .typed r _ is .0)) $
-        rewrite ! 7 (λ (z : Val). ‵ (fat fullShare Mv′.mir l₉ 0 z)) (ap only (LL.tells Mv.the-type Mv′.the-laws r (u ∷ []) is)) refl $
-        -- [the tokens; the slices; the struct's cell; what a Walker owns; the open borrow; obs; auth; _9; …]
-        assigns ! (of-opd ! (load ! (from ! (fld ! refl (stop !))) (look-in ! 7 (sub ! 1 refl (whole !))))) (from ! (hop ! (look ! 23 refl) (stop !)))
+        rewrite ! 7 (λ (z : Val). ‵ (fat fullShare Mv′.mir l₁₀ 0 z)) (ap only (LL.tells Mv.the-type Mv′.the-laws r (u ∷ []) is)) refl $
+        -- [the tokens; the slices; the struct's cell; what a Walker owns; the open borrow; obs; auth; _10; …]
+        assigns ! (of-opd ! (load ! (from ! (fld ! refl (stop !))) (look-in ! 7 (sub ! 1 refl (whole !))))) (from ! (hop ! (look ! 25 refl) (stop !)))
         (store-raw ! 2 refl (LL.lawful T.the-type T′.the-laws 𝓤 H A W .typed (r .walker) _ (walker-is r u is) .0)) $
         assigns ! (of-opd ! (load ! (from ! (fld ! refl (stop !))) (look-in ! 7 (sub ! 0 refl (whole !))))) (from ! (stop !))
-        (init ! 25 refl (EL.lawful An.the-type An′.the-laws 𝓤 H A W tt .typed (r .answer) _ (answer-is r u is) .0)) $
+        (init ! 27 refl (EL.lawful An.the-type An′.the-laws 𝓤 H A W tt .typed (r .answer) _ (answer-is r u is) .0)) $
         -- the borrow is closed at the new record
         move ! (3 ∷ []) $ drop ! $ owned ! T.the-row (Is T.the-row) (LL.makes T.the-type T′.the-plain 𝓤 H A) (r .walker) _ (walker-is r u is) $
         move ! (3 ∷ 0 ∷ 4 ∷ 5 ∷ 6 ∷ []) $ closes ! tt T.the-row (r .walker) (held (r .walker)) b o $
-        returns ! (look ! 23 refl) $ forget ! 5 refl $ forget ! 7 refl $ forget ! 9 refl $ forget ! 11 refl $ forget ! 13 refl $ forget ! 15 refl $
-        forget ! 17 refl $ forget ! 19 refl $ forget ! 21 refl $ forget ! 23 refl $
-        move ! (23 ∷ 24 ∷ []) $ free1 ! $ move ! (21 ∷ 22 ∷ []) $ free1 ! $ move ! (19 ∷ 20 ∷ []) $ free1 ! $ move ! (17 ∷ 18 ∷ []) $ free1 ! $
+        returns ! (look ! 25 refl) $ forget ! 5 refl $ forget ! 7 refl $ forget ! 9 refl $ forget ! 11 refl $ forget ! 13 refl $ forget ! 15 refl $
+        forget ! 17 refl $ forget ! 19 refl $ forget ! 21 refl $ forget ! 23 refl $ forget ! 25 refl $
+        move ! (25 ∷ 26 ∷ []) $ free1 ! $ move ! (23 ∷ 24 ∷ []) $ free1 ! $ move ! (21 ∷ 22 ∷ []) $ free1 ! $ move ! (19 ∷ 20 ∷ []) $ free1 ! $ move ! (17 ∷ 18 ∷ []) $ free1 ! $
         move ! (15 ∷ 16 ∷ []) $ free1 ! $ move ! (13 ∷ 14 ∷ []) $ free1 ! $ move ! (11 ∷ 12 ∷ []) $ free1 ! $ move ! (9 ∷ 10 ∷ []) $ free1 ! $
         move ! (7 ∷ 8 ∷ []) $ free1 ! $ move ! (5 ∷ 6 ∷ []) $ free1 ! $ free0 ! $
-        keep ! (0 ∷ 1 ∷ 2 ∷ 3 ∷ 4 ∷ []) $ by ! (exits r g (answer-is r u is))))))))))))))))))
+        keep ! (0 ∷ 1 ∷ 2 ∷ 3 ∷ 4 ∷ []) $ by ! (exits r g (answer-is r u is)))))))))))))))))))
 
 module _ {M : Type 1} (𝓤 : URA M) (H : Heap 𝓤) (A : Atoms 𝓤) (W : Given 𝓤 H A) (at-mem : Memory → SProp 𝓤) (run : Routine → Fun 𝓤) where
   move-on-walks :
@@ -265,18 +272,21 @@ module _ {M : Type 1} (𝓤 : URA M) (H : Heap 𝓤) (A : Atoms 𝓤) (W : Given
       Walks 𝓤 H A f.ended stayed (WpFn 𝓤 H C Λ code.function) (f.clauses 𝓤 H A at-mem run)
   move-on-walks C Λ fm known =
       walked 𝓤 H A f.ended stayed (f.clauses 𝓤 H A at-mem run) (WpFn 𝓤 H C Λ code.function)
-      (λ κs. (ptr-vals, (uint-vals w32, (slice-vals, (slice-vals, (slice-vals, (slice-vals, (told, tt))))))))
+      (λ κs. (ptr-vals, (uint-vals w32, (uint-vals w32, (slice-vals, (slice-vals, (slice-vals, (slice-vals, (told, tt)))))))))
       (λ κs. (
         mut-tells (named 0) (κs .0) T.the-row,
         (
           uint-tells w32,
           (
-            shr-slice-tells (named 1) (κs .1 .0) u32,
+            uint-tells w32,
             (
-              shr-slice-tells (named 2) (κs .1 .1 .0) u32,
+              shr-slice-tells (named 1) (κs .1 .0) u32,
               (
-                shr-slice-tells (named 3) (κs .1 .1 .1 .0) u32,
-                (shr-slice-tells (named 4) (κs .1 .1 .1 .1 .0) u32, (EL.tells Cl.the-type Cl′.the-laws, tt)),
+                shr-slice-tells (named 2) (κs .1 .1 .0) u32,
+                (
+                  shr-slice-tells (named 3) (κs .1 .1 .1 .0) u32,
+                  (shr-slice-tells (named 4) (κs .1 .1 .1 .1 .0) u32, (EL.tells Cl.the-type Cl′.the-laws, tt)),
+                ),
               ),
             ),
           ),
@@ -285,8 +295,9 @@ module _ {M : Type 1} (𝓤 : URA M) (H : Heap 𝓤) (A : Atoms 𝓤) (W : Given
       (λ κs qs bounds a _ are. via 𝓤 _ (fst∗ 𝓤 _ (emp 𝓤))
       (walk 𝓤 H A W at-mem run (κs .0) (κs .1 .0) (κs .1 .1 .0) (κs .1 .1 .1 .0) (κs .1 .1 .1 .1 .0)
       (qs .0) (qs .1 .0) (qs .1 .1 .0) (qs .1 .1 .1 .0) (qs .1 .1 .1 .1 .0) (a .0 .ptr .0) (a .0 .ptr .1) (a .0 .name) (a .0 .now)
-      (a .1 .0) (a .1 .1 .0) (a .1 .1 .1 .0) (a .1 .1 .1 .1 .0) (a .1 .1 .1 .1 .1 .0) (a .1 .1 .1 .1 .1 .1 .0)
-      (are .1 .0 .1) (are .1 .1 .1 .1 .1 .1 .0) C Λ fm known (are .1 .1 .0) (are .1 .1 .1 .0) (are .1 .1 .1 .1 .0) (are .1 .1 .1 .1 .1 .0)))
+      (a .1 .0) (a .1 .1 .0) (a .1 .1 .1 .0) (a .1 .1 .1 .1 .0) (a .1 .1 .1 .1 .1 .0) (a .1 .1 .1 .1 .1 .1 .0) (a .1 .1 .1 .1 .1 .1 .1 .0)
+      (are .1 .0 .1) (are .1 .1 .0 .1) (are .1 .1 .1 .1 .1 .1 .1 .0) C Λ fm known
+      (are .1 .1 .1 .0) (are .1 .1 .1 .1 .0) (are .1 .1 .1 .1 .1 .0) (are .1 .1 .1 .1 .1 .1 .0)))
 
   all-go : AllGo 𝓤 H A W 5 (f.signature .params) (f.ended .kept) stayed
   all-go = (
@@ -294,14 +305,17 @@ module _ {M : Type 1} (𝓤 : URA M) (H : Heap 𝓤) (A : Atoms 𝓤) (W : Given
     (
       goes-none 𝓤 H A W 5 (λ _. u32) yes (λ κs x f. refl),
       (
-        goes-none-slice 𝓤 H A W 5 (1 ∷ []) tt (plain (λ _. u32)) yes,
+        goes-none 𝓤 H A W 5 (λ _. u32) yes (λ κs x f. refl),
         (
-          goes-none-slice 𝓤 H A W 5 (2 ∷ []) tt (plain (λ _. u32)) yes,
+          goes-none-slice 𝓤 H A W 5 (1 ∷ []) tt (plain (λ _. u32)) yes,
           (
-            goes-none-slice 𝓤 H A W 5 (3 ∷ []) tt (plain (λ _. u32)) yes,
+            goes-none-slice 𝓤 H A W 5 (2 ∷ []) tt (plain (λ _. u32)) yes,
             (
-              goes-none-slice 𝓤 H A W 5 (4 ∷ []) tt (plain (λ _. u32)) yes,
-              (goes-none 𝓤 H A W 5 (λ _. Cl.the-row) yes (λ κs x f. refl), tt),
+              goes-none-slice 𝓤 H A W 5 (3 ∷ []) tt (plain (λ _. u32)) yes,
+              (
+                goes-none-slice 𝓤 H A W 5 (4 ∷ []) tt (plain (λ _. u32)) yes,
+                (goes-none 𝓤 H A W 5 (λ _. Cl.the-row) yes (λ κs x f. refl), tt),
+              ),
             ),
           ),
         ),

@@ -64,8 +64,8 @@ element-of-requires c κs = search needs
 give-requires-2 : tie.Need-give-requires-2
 give-requires-2 c κs = search needs
 
-add-t16 : tie.Need-add-t16
-add-t16 c =
+add-t17 : tie.Need-add-t17
+add-t17 c =
     let known = named c in
     let on = going known .before in
     let passed = on .before .before in
@@ -100,5 +100,5 @@ step-at-spec =
     returns-3
     element-of-requires
     give-requires-2
-    add-t16
+    add-t17
     returns-4)
