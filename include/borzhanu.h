@@ -8,11 +8,16 @@
  * nothing. Vertices that belong to no element are accepted, however many: n may be 1,000,000 with one
  * element, or with none.
  *
- *   V2e  n entries      the border half-edge that leaves the vertex; for a vertex that is on no
- *                       border, its least side; 0 for a vertex that belongs to no element
- *   E2e  4 * m entries  what lies opposite each side: a side or a border half-edge; 0 in the fourth
- *                       entry of a triangle
- *   B2e  k entries      the side opposite each border half-edge, in rising order
+ *   V2e  n entries            the border half-edge that leaves the vertex; for a vertex that is on no
+ *                             border, its least side; 0 for a vertex that belongs to no element
+ *   E2e  columns * m entries  what lies opposite each side: a side or a border half-edge
+ *   B2e  k entries            the side opposite each border half-edge, in rising order
+ *
+ * Columns. E2e has 3 * m entries where no element is a quadrilateral, 4 * m where at least one is: for
+ * each element as many as the widest element of the list has sides. That number, 3 or 4, is called
+ * columns, and borzhanu_columns says it. The entry of side i of element f is
+ * e2e[columns * (f - 1) + (i - 1)]. In four columns a triangle's fourth entry is 0. The element list
+ * has four entries for each element in any case.
  *
  * Buffers. Each is a pointer and a length in entries, all entries 32-bit. The pointer is aligned to 4
  * bytes; with length 0 it may be null, as an empty vector of C++ gives it. A buffer that a call
@@ -46,10 +51,11 @@ extern "C" {
 enum {
     /* The call has answered. */
     BORZHANU_ANSWERED = 0,
-    /* More than 1,000,000 vertices or elements, or an element list or E2e whose length isn't a
-       multiple of four. All buffers are as they were. */
+    /* More than 1,000,000 vertices or elements, or an element list whose length isn't a multiple of
+       four. All buffers are as they were. */
     BORZHANU_SIZES = 1,
-    /* A buffer is too short or too long for this n and m. All buffers are as they were. */
+    /* A buffer is too short or too long for this n, this m and this number of columns; or a query was
+       told columns other than 0, 3 and 4. All buffers are as they were. */
     BORZHANU_LENGTHS = 2,
     /* An element has the corner 0 among its first three, or a corner above n.
        Place: the first such element, its first such corner. */
@@ -69,13 +75,15 @@ enum {
     BORZHANU_FAN_BROKEN = 8,
     /* B2e is too short. Place: k, the length that it needs, 0. */
     BORZHANU_BORDER_SHORT = 9,
-    /* No element list has exactly this V2e and this E2e. */
+    /* No element list of m elements has exactly this V2e and this E2e. A list of triangles has its E2e
+       in three columns alone: four columns of it give this. */
     BORZHANU_NO_LIST = 10,
     /* There is no such vertex, border or half-edge, or the question makes no sense for it. */
     BORZHANU_NOT_THERE = 11,
     /* The tables aren't those of a mesh: an entry that was read names nothing, or a walk doesn't
-       come to its end. Or a walker's record isn't one that these calls made. A V2e entry of 0 is
-       fit where a vertex is asked about: the vertex is unused. */
+       come to its end. Or a walker's record isn't one that these calls made, or the columns told
+       aren't those of the list. A V2e entry of 0 is fit where a vertex is asked about: the vertex is
+       unused. */
     BORZHANU_TABLE_BROKEN = 12,
     /* The output is too short. Place: the length that it needs, 0. */
     BORZHANU_OUTPUT_SHORT = 13,
@@ -115,9 +123,9 @@ static inline const char *borzhanu_refusal_text(uint32_t refusal) {
     case BORZHANU_ANSWERED:
         return "the call has answered";
     case BORZHANU_SIZES:
-        return "more than 1,000,000 vertices or elements, or an element list or E2e not in fours";
+        return "more than 1,000,000 vertices or elements, or an element list not in fours";
     case BORZHANU_LENGTHS:
-        return "a buffer's length doesn't fit n and m";
+        return "a buffer's length doesn't fit n, m and the columns, or the columns told aren't 0, 3 or 4";
     case BORZHANU_CORNER_UNFIT:
         return "a corner is 0 (not the fourth) or above n";
     case BORZHANU_CORNER_REPEATED:
@@ -182,6 +190,20 @@ static inline size_t borzhanu_work_length(uint32_t n, size_t m) {
     return (size_t)n + 16u * m;
 }
 
+/* The length of E2e, in entries, where columns is what borzhanu_columns answered. */
+static inline size_t borzhanu_e2e_length(uint32_t columns, size_t m) {
+    return (size_t)columns * m;
+}
+
+/*
+ * The number of columns of E2e. Answers 3 where no element of the list is a quadrilateral, so also for
+ * a list of no element, else 4; the second number is 0. It looks at the fourth corner of each element,
+ * and at nothing else. It refuses 1 and nothing else.
+ *
+ *   elements  4 * m entries, only read
+ */
+uint64_t borzhanu_columns(uint32_t n, const uint32_t *elements, size_t elements_len);
+
 /*
  * Builds the three tables of an element list. Answers k, the number of border half-edges, and the
  * number of edges. Vertices that belong to no element change neither number; their V2e entry is 0.
@@ -189,7 +211,7 @@ static inline size_t borzhanu_work_length(uint32_t n, size_t m) {
  *
  *   elements  4 * m entries, only read
  *   v2e       n entries
- *   e2e       4 * m entries
+ *   e2e       columns * m entries: 3 * m where no element is a quadrilateral, else 4 * m
  *   b2e       at least k entries; n are always enough, since no two border sides end at the same
  *             vertex
  *   work      at least n + 16 * m entries
@@ -206,36 +228,52 @@ uint64_t borzhanu_build(uint32_t n,
                         uint32_t *work, size_t work_len);
 
 /*
- * Writes the one element list that building turns into exactly this V2e and this E2e. Answers 0, 0.
+ * Writes the one element list of m elements that building turns into exactly this V2e and this E2e.
+ * Answers 0, 0. m is told, since lists of different m can have the same two tables: four triangles
+ * apart and three quadrilaterals apart do.
  *
  *   v2e       n entries, only read
- *   e2e       4 * m entries, only read: its length says m
+ *   e2e       3 * m or 4 * m entries, only read
  *   elements  4 * m entries
  *   work      at least n + 16 * m entries
  *
  * After an answer elements is the list; after a refusal, 1, 2 or 10, it is as it was. Nothing is
- * repaired: 10 means that no list has these tables, as where V2e has 0 for a vertex that the other
- * entries give a side, or a half-edge for a vertex that they give none. After 1 and 2 work is as it
- * was; after everything else it is all zero.
+ * repaired: 10 means that no list of m elements has these tables, as where V2e has 0 for a vertex that
+ * the other entries give a side, or a half-edge for a vertex that they give none, or where E2e has
+ * four columns and no quadrilateral. After 1 and 2 work is as it was; after everything else it is all
+ * zero.
  */
-uint64_t borzhanu_recover(uint32_t n,
+uint64_t borzhanu_recover(uint32_t n, uint32_t m,
                           const uint32_t *v2e, size_t v2e_len,
                           const uint32_t *e2e, size_t e2e_len,
                           uint32_t *elements, size_t elements_len,
                           uint32_t *work, size_t work_len);
 
 /*
- * The queries take a mesh: n, an element list (4 * m entries), V2e (n), E2e (4 * m) and B2e (exactly
- * k entries, so cut after building; never more than 4 * m). They only read these. Each refuses 1, 2
- * and 11 as above, and 12 where an entry that it reads is broken; tables that building wrote never
- * give 12. Where no second number is named, it is 0.
+ * The queries take a mesh: n, columns, an element list (4 * m entries), V2e (n), E2e (columns * m) and
+ * B2e (exactly k entries, so cut after building; never more than 4 * m). They only read these. Each
+ * refuses 1, 2 and 11 as above, and 12 where an entry that it reads is broken; tables that building
+ * wrote never give 12. Where no second number is named, it is 0.
+ *
+ * columns is 0, 3 or 4; any other number is refused, 2.
+ *
+ *   3, 4  You have asked borzhanu_columns once, for this list, and tell what it answered. A query then
+ *         reads what it asks about and no more, however long the list is.
+ *   0     You haven't. The query looks at the whole list, at each call. The answer is the same.
+ *
+ * Told 3 for a list with a quadrilateral, or 4 for one without, a query still ends. It asks E2e for
+ * the length of the columns told, and reads it so. A fourth side has no entry in three columns: where
+ * that would be read, 12 comes.
+ *
+ * borzhanu_mesh, at the end of this file, holds a mesh together, and its functions ask the same queries
+ * with fewer arguments.
  *
  * A query about a vertex goes by its V2e entry. An entry of 0 says that the vertex is unused, and it
  * is believed: elements that have the vertex all the same aren't looked for.
  */
 
 /* The half-edge that runs along the same edge the other way. */
-uint64_t borzhanu_opposite(uint32_t n,
+uint64_t borzhanu_opposite(uint32_t n, uint32_t columns,
                            const uint32_t *elements, size_t elements_len,
                            const uint32_t *v2e, size_t v2e_len,
                            const uint32_t *e2e, size_t e2e_len,
@@ -246,49 +284,49 @@ uint64_t borzhanu_opposite(uint32_t n,
  * the V2e entry of the vertex where it ends. An entry there that is no border half-edge, 0 included,
  * gives 12.
  */
-uint64_t borzhanu_next(uint32_t n,
+uint64_t borzhanu_next(uint32_t n, uint32_t columns,
                        const uint32_t *elements, size_t elements_len,
                        const uint32_t *v2e, size_t v2e_len,
                        const uint32_t *e2e, size_t e2e_len,
                        const uint32_t *b2e, size_t b2e_len, uint32_t code);
 
 /* The side before a side, in its element. A border half-edge is refused, 11. */
-uint64_t borzhanu_previous(uint32_t n,
+uint64_t borzhanu_previous(uint32_t n, uint32_t columns,
                            const uint32_t *elements, size_t elements_len,
                            const uint32_t *v2e, size_t v2e_len,
                            const uint32_t *e2e, size_t e2e_len,
                            const uint32_t *b2e, size_t b2e_len, uint32_t code);
 
 /* The element of a side. A border half-edge is refused, 11. */
-uint64_t borzhanu_element(uint32_t n,
+uint64_t borzhanu_element(uint32_t n, uint32_t columns,
                           const uint32_t *elements, size_t elements_len,
                           const uint32_t *v2e, size_t v2e_len,
                           const uint32_t *e2e, size_t e2e_len,
                           const uint32_t *b2e, size_t b2e_len, uint32_t code);
 
 /* The vertex where a half-edge begins. */
-uint64_t borzhanu_origin(uint32_t n,
+uint64_t borzhanu_origin(uint32_t n, uint32_t columns,
                          const uint32_t *elements, size_t elements_len,
                          const uint32_t *v2e, size_t v2e_len,
                          const uint32_t *e2e, size_t e2e_len,
                          const uint32_t *b2e, size_t b2e_len, uint32_t code);
 
 /* The vertex where a half-edge ends. */
-uint64_t borzhanu_destination(uint32_t n,
+uint64_t borzhanu_destination(uint32_t n, uint32_t columns,
                               const uint32_t *elements, size_t elements_len,
                               const uint32_t *v2e, size_t v2e_len,
                               const uint32_t *e2e, size_t e2e_len,
                               const uint32_t *b2e, size_t b2e_len, uint32_t code);
 
 /* The element on the other side of a side, or 0 at a border. A border half-edge is refused, 11. */
-uint64_t borzhanu_across(uint32_t n,
+uint64_t borzhanu_across(uint32_t n, uint32_t columns,
                          const uint32_t *elements, size_t elements_len,
                          const uint32_t *v2e, size_t v2e_len,
                          const uint32_t *e2e, size_t e2e_len,
                          const uint32_t *b2e, size_t b2e_len, uint32_t code);
 
 /* 1 for a border half-edge, 0 for a side. */
-uint64_t borzhanu_halfedge_is_border(uint32_t n,
+uint64_t borzhanu_halfedge_is_border(uint32_t n, uint32_t columns,
                                      const uint32_t *elements, size_t elements_len,
                                      const uint32_t *v2e, size_t v2e_len,
                                      const uint32_t *e2e, size_t e2e_len,
@@ -298,7 +336,7 @@ uint64_t borzhanu_halfedge_is_border(uint32_t n,
  * What a vertex is: 0 inner, 1 rim, 2 unused, as BORZHANU_INNER, BORZHANU_RIM and BORZHANU_UNUSED. So
  * an answer other than 0 doesn't yet say that the vertex is on a border.
  */
-uint64_t borzhanu_vertex_is_border(uint32_t n,
+uint64_t borzhanu_vertex_is_border(uint32_t n, uint32_t columns,
                                    const uint32_t *elements, size_t elements_len,
                                    const uint32_t *v2e, size_t v2e_len,
                                    const uint32_t *e2e, size_t e2e_len,
@@ -314,7 +352,7 @@ uint64_t borzhanu_vertex_is_border(uint32_t n,
  * The elements about a vertex, in turn order, each once: at a border from rim to rim. None at an
  * unused vertex: the count is 0, and nothing is written. At most m entries.
  */
-uint64_t borzhanu_ring(uint32_t n,
+uint64_t borzhanu_ring(uint32_t n, uint32_t columns,
                        const uint32_t *elements, size_t elements_len,
                        const uint32_t *v2e, size_t v2e_len,
                        const uint32_t *e2e, size_t e2e_len,
@@ -325,7 +363,7 @@ uint64_t borzhanu_ring(uint32_t n,
  * The vertices joined to a vertex by an edge, in turn order; at a border one more than the ring has
  * elements. None at an unused vertex: the count is 0, and nothing is written. At most m + 1 entries.
  */
-uint64_t borzhanu_neighbours(uint32_t n,
+uint64_t borzhanu_neighbours(uint32_t n, uint32_t columns,
                              const uint32_t *elements, size_t elements_len,
                              const uint32_t *v2e, size_t v2e_len,
                              const uint32_t *e2e, size_t e2e_len,
@@ -336,7 +374,7 @@ uint64_t borzhanu_neighbours(uint32_t n,
  * The border half-edges of one hole, as border numbers: b, the next one, and so on until b would come
  * again. At most k entries.
  */
-uint64_t borzhanu_border_loop(uint32_t n,
+uint64_t borzhanu_border_loop(uint32_t n, uint32_t columns,
                               const uint32_t *elements, size_t elements_len,
                               const uint32_t *v2e, size_t v2e_len,
                               const uint32_t *e2e, size_t e2e_len,
@@ -354,7 +392,7 @@ typedef struct borzhanu_walker {
  * Sets a walker to the beginning of the ring of v: the start side, the start side again, and 0; for an
  * unused vertex 0, 0, 0, a ring that is over. Answers 0. After a refusal the record is as it was.
  */
-uint64_t borzhanu_walker_start(uint32_t n,
+uint64_t borzhanu_walker_start(uint32_t n, uint32_t columns,
                                const uint32_t *elements, size_t elements_len,
                                const uint32_t *v2e, size_t v2e_len,
                                const uint32_t *e2e, size_t e2e_len,
@@ -366,11 +404,107 @@ uint64_t borzhanu_walker_start(uint32_t n,
  * leaves the record as it was, however often it is called. After a refusal, 1, 2 or 12, the record is
  * as it was.
  */
-uint64_t borzhanu_walker_step(uint32_t n,
+uint64_t borzhanu_walker_step(uint32_t n, uint32_t columns,
                               const uint32_t *elements, size_t elements_len,
                               const uint32_t *v2e, size_t v2e_len,
                               const uint32_t *e2e, size_t e2e_len,
                               const uint32_t *b2e, size_t b2e_len, borzhanu_walker *walker);
+
+/*
+ * A mesh as the queries take it. Its buffers are lent, not copied; the lengths are in entries. Put it
+ * together once, with the columns that borzhanu_columns answered, or with 0 and then
+ * borzhanu_mesh_look. When the element list changes, look again.
+ */
+typedef struct borzhanu_mesh {
+    uint32_t n;
+    uint32_t columns; /* 0, 3 or 4, as the queries are told it */
+    const uint32_t *elements;
+    size_t elements_len; /* 4 * m */
+    const uint32_t *v2e;
+    size_t v2e_len; /* n */
+    const uint32_t *e2e;
+    size_t e2e_len; /* columns * m */
+    const uint32_t *b2e;
+    size_t b2e_len; /* k */
+} borzhanu_mesh;
+
+/*
+ * Asks borzhanu_columns, and returns what it returned. Where it answers, columns of the mesh is put to
+ * the answer; where it refuses, columns is as it was.
+ */
+static inline uint64_t borzhanu_mesh_look(borzhanu_mesh *mesh) {
+    uint64_t returned = borzhanu_columns(mesh->n, mesh->elements, mesh->elements_len);
+    if (borzhanu_refusal(returned) == BORZHANU_ANSWERED)
+        mesh->columns = borzhanu_first(returned);
+    return returned;
+}
+
+/* The queries above, each of a mesh. room is the length of out. */
+#define BORZHANU_LENT_(mesh) \
+    (mesh)->n, (mesh)->columns, (mesh)->elements, (mesh)->elements_len, (mesh)->v2e, (mesh)->v2e_len, \
+        (mesh)->e2e, (mesh)->e2e_len, (mesh)->b2e, (mesh)->b2e_len
+
+static inline uint64_t borzhanu_mesh_opposite(const borzhanu_mesh *mesh, uint32_t code) {
+    return borzhanu_opposite(BORZHANU_LENT_(mesh), code);
+}
+
+static inline uint64_t borzhanu_mesh_next(const borzhanu_mesh *mesh, uint32_t code) {
+    return borzhanu_next(BORZHANU_LENT_(mesh), code);
+}
+
+static inline uint64_t borzhanu_mesh_previous(const borzhanu_mesh *mesh, uint32_t code) {
+    return borzhanu_previous(BORZHANU_LENT_(mesh), code);
+}
+
+static inline uint64_t borzhanu_mesh_element(const borzhanu_mesh *mesh, uint32_t code) {
+    return borzhanu_element(BORZHANU_LENT_(mesh), code);
+}
+
+static inline uint64_t borzhanu_mesh_origin(const borzhanu_mesh *mesh, uint32_t code) {
+    return borzhanu_origin(BORZHANU_LENT_(mesh), code);
+}
+
+static inline uint64_t borzhanu_mesh_destination(const borzhanu_mesh *mesh, uint32_t code) {
+    return borzhanu_destination(BORZHANU_LENT_(mesh), code);
+}
+
+static inline uint64_t borzhanu_mesh_across(const borzhanu_mesh *mesh, uint32_t code) {
+    return borzhanu_across(BORZHANU_LENT_(mesh), code);
+}
+
+static inline uint64_t borzhanu_mesh_halfedge_is_border(const borzhanu_mesh *mesh, uint32_t code) {
+    return borzhanu_halfedge_is_border(BORZHANU_LENT_(mesh), code);
+}
+
+static inline uint64_t borzhanu_mesh_vertex_is_border(const borzhanu_mesh *mesh, uint32_t v) {
+    return borzhanu_vertex_is_border(BORZHANU_LENT_(mesh), v);
+}
+
+static inline uint64_t borzhanu_mesh_ring(const borzhanu_mesh *mesh, uint32_t v, uint32_t *out,
+                                          size_t room) {
+    return borzhanu_ring(BORZHANU_LENT_(mesh), v, out, room);
+}
+
+static inline uint64_t borzhanu_mesh_neighbours(const borzhanu_mesh *mesh, uint32_t v, uint32_t *out,
+                                                size_t room) {
+    return borzhanu_neighbours(BORZHANU_LENT_(mesh), v, out, room);
+}
+
+static inline uint64_t borzhanu_mesh_border_loop(const borzhanu_mesh *mesh, uint32_t b, uint32_t *out,
+                                                 size_t room) {
+    return borzhanu_border_loop(BORZHANU_LENT_(mesh), b, out, room);
+}
+
+static inline uint64_t borzhanu_mesh_walker_start(const borzhanu_mesh *mesh, uint32_t v,
+                                                  borzhanu_walker *walker) {
+    return borzhanu_walker_start(BORZHANU_LENT_(mesh), v, walker);
+}
+
+static inline uint64_t borzhanu_mesh_walker_step(const borzhanu_mesh *mesh, borzhanu_walker *walker) {
+    return borzhanu_walker_step(BORZHANU_LENT_(mesh), walker);
+}
+
+#undef BORZHANU_LENT_
 
 #ifdef __cplusplus
 }

@@ -30,7 +30,7 @@ struct slice copied(struct slice from) {
 }
 
 struct mesh copied_tables(const struct mesh *t) {
-    return (struct mesh){t->n, copied(t->elements), copied(t->v2e), copied(t->e2e), copied(t->b2e)};
+    return (struct mesh){t->n, t->columns, copied(t->elements), copied(t->v2e), copied(t->e2e), copied(t->b2e)};
 }
 
 void drop_tables(struct mesh *t) {
@@ -44,6 +44,30 @@ static size_t elements_of(const struct mesh *t) {
     return t->elements.len / 4;
 }
 
+struct slice resized(enum role role, struct slice from, size_t len) {
+    struct slice result = copied(noise_of(role, len));
+    size_t kept = from.len < len ? from.len : len;
+    if (kept != 0)
+        memcpy(result.at, from.at, kept * sizeof(uint32_t));
+    return result;
+}
+
+void bring_to_columns(struct mesh *t, uint32_t columns) {
+    size_t m = elements_of(t), from = m == 0 ? columns : t->e2e.len / m;
+    if (from == columns)
+        return;
+    struct slice brought = resized(E2E, t->e2e, columns * m);
+    for (size_t f = 0; f < m; f++)
+        for (size_t i = 0; i < columns; i++)
+            brought.at[columns * f + i] = i < from ? t->e2e.at[from * f + i] : 0;
+    free(t->e2e.at);
+    t->e2e = brought;
+}
+
+uint32_t other_columns(const struct mesh *t) {
+    return columns_of(t->elements) == 3 ? 4 : 3;
+}
+
 /* one past the codes that a damaged entry or a question may name */
 static uint32_t code_bound(const struct mesh *t) {
     size_t m = elements_of(t), most = m > t->b2e.len ? m : t->b2e.len;
@@ -51,7 +75,7 @@ static uint32_t code_bound(const struct mesh *t) {
 }
 
 static struct call empty_call(const struct exported *exported, uint32_t n) {
-    struct call call = {exported, n, 0, {{NULL, 0}}};
+    struct call call = {exported, n, 0, 0, 0, {{NULL, 0}}};
     for (int role = 0; role < ROLES; role++)
         call.given[role] = noise_of((enum role)role, role == RECORD ? RECORD_LENGTH : 0);
     return call;
@@ -61,23 +85,31 @@ struct call build_of(const struct list *list, size_t b2e_len) {
     struct call call = empty_call(&build_call, list->n);
     call.given[ELEMENTS] = (struct slice){list->rows, 4 * list->m};
     call.given[V2E] = noise_of(V2E, list->n);
-    call.given[E2E] = noise_of(E2E, 4 * list->m);
+    call.given[E2E] = noise_of(E2E, columns_of(call.given[ELEMENTS]) * list->m);
     call.given[B2E] = noise_of(B2E, b2e_len);
     call.given[WORK] = noise_of(WORK, list->n + 16 * list->m);
     return call;
 }
 
+struct call look_at(const struct list *list) {
+    struct call call = empty_call(&columns_call, list->n);
+    call.given[ELEMENTS] = (struct slice){list->rows, 4 * list->m};
+    return call;
+}
+
 struct call recovery_of(const struct mesh *t) {
     struct call call = empty_call(&recover_call, t->n);
+    call.m = (uint32_t)elements_of(t);
     call.given[ELEMENTS] = noise_of(ELEMENTS, t->elements.len);
     call.given[V2E] = t->v2e;
     call.given[E2E] = t->e2e;
-    call.given[WORK] = noise_of(WORK, t->n + 4 * t->e2e.len);
+    call.given[WORK] = noise_of(WORK, t->n + 16 * elements_of(t));
     return call;
 }
 
 struct call query_of(const struct exported *exported, const struct mesh *t, uint32_t number) {
     struct call call = empty_call(exported, t->n);
+    call.columns = t->columns;
     call.number = number;
     call.given[ELEMENTS] = t->elements;
     call.given[V2E] = t->v2e;
@@ -129,7 +161,7 @@ void ask_vertex(const struct mesh *t, uint32_t v) {
     ask_walker(t, v);
 }
 
-static void ask_everything(const struct mesh *t) {
+void ask_everything(const struct mesh *t) {
     for (uint32_t code = 0; code < code_bound(t); code++)
         ask_code(t, code);
     for (uint32_t v = 0; v <= t->n + 1; v++)
@@ -175,7 +207,7 @@ int built(const struct list *list, struct mesh *t) {
     if (answer.refusal != 0)
         return 0;
     struct slice b2e = {results[B2E].at, answer.first};
-    *t = (struct mesh){list->n, copied(results[ELEMENTS]), copied(results[V2E]), copied(results[E2E]), copied(b2e)};
+    *t = (struct mesh){list->n, 0, copied(results[ELEMENTS]), copied(results[V2E]), copied(results[E2E]), copied(b2e)};
     return 1;
 }
 
@@ -243,10 +275,20 @@ static void recover_any_claimed(const struct mesh *t, struct dice *dice) {
         recover_claimed(t, v, below(dice, 2) == 0 ? t->v2e.at[below(dice, t->n)] : any_code(t, dice));
 }
 
+/* Recovery from E2e in other columns: four of triangles, or three of a list with a quadrilateral. */
+static void recover_in_other_columns(const struct mesh *t) {
+    struct mesh other = copied_tables(t);
+    bring_to_columns(&other, other_columns(t));
+    recover(&other);
+    drop_tables(&other);
+}
+
 /* Recovery from tables that aren't quite these. Exchanged V2e entries can be those of another list. */
 static void recover_damaged(const struct mesh *t, struct dice *dice) {
     struct mesh damaged = copied_tables(t);
-    uint32_t how = below(dice, 4);
+    uint32_t how = below(dice, 5);
+    if (how == 4)
+        bring_to_columns(&damaged, other_columns(t));
     if (how == 0 && t->n > 0) {
         uint32_t a = below(dice, t->n), b = below(dice, t->n), kept = damaged.v2e.at[a];
         damaged.v2e.at[a] = damaged.v2e.at[b];
@@ -254,10 +296,31 @@ static void recover_damaged(const struct mesh *t, struct dice *dice) {
     }
     if (how == 1 || how == 3)
         damage_table(damaged.v2e.at, damaged.v2e.len, code_bound(t), dice);
-    if (how == 2 || how == 3)
+    if (how >= 2)
         damage_table(damaged.e2e.at, damaged.e2e.len, code_bound(t), dice);
     recover(&damaged);
     drop_tables(&damaged);
+}
+
+/* What queries are told is made wrong, of three columns and four the other; E2e gets the length that fits it, row by
+   row or as it stands. */
+static void tell_other_columns(struct mesh *t, struct dice *dice) {
+    t->columns = other_columns(t);
+    if (below(dice, 2) == 0) {
+        bring_to_columns(t, t->columns);
+        return;
+    }
+    struct slice e2e = resized(E2E, t->e2e, t->columns * elements_of(t));
+    free(t->e2e.at);
+    t->e2e = e2e;
+}
+
+/* A query told what is no number of columns. */
+static void ask_without_columns(const struct mesh *t, struct dice *dice) {
+    static const uint32_t numbers[] = {1, 2, 5, 7, UINT32_MAX};
+    struct call call = query_of(queries[below(dice, QUERIES)], t, any_code(t, dice));
+    call.columns = numbers[below(dice, sizeof numbers / sizeof *numbers)];
+    compare(&call, NULL);
 }
 
 static void ask_damaged(const struct mesh *t, struct dice *dice, int times) {
@@ -271,18 +334,25 @@ static void ask_damaged(const struct mesh *t, struct dice *dice, int times) {
         damage_table(damaged.b2e.at, damaged.b2e.len, codes, dice);
     if (which & 8)
         damage_table(damaged.elements.at, damaged.elements.len, t->n + 2, dice);
+    bring_to_columns(&damaged, columns_of(damaged.elements));
     ask_something(&damaged, dice, times);
+    tell_other_columns(&damaged, dice);
+    ask_something(&damaged, dice, times);
+    ask_without_columns(&damaged, dice);
     drop_tables(&damaged);
 }
 
 void try_small_list(const struct list *list, struct dice *dice) {
+    struct call look = look_at(list);
     struct mesh t;
+    compare(&look, NULL);
     if (!built(list, &t)) {
         build_without_room(list);
         return;
     }
     build_with_other_room(list, t.b2e.len);
     recover(&t);
+    recover_in_other_columns(&t);
     recover_damaged(&t, dice);
     recover_any_claimed(&t, dice);
     ask_everything(&t);
@@ -292,13 +362,16 @@ void try_small_list(const struct list *list, struct dice *dice) {
 }
 
 void try_list(const struct list *list, struct dice *dice, int times) {
+    struct call look = look_at(list);
     struct mesh t;
+    compare(&look, NULL);
     if (!built(list, &t)) {
         build_without_room(list);
         return;
     }
     build_with_other_room(list, t.b2e.len);
     recover(&t);
+    recover_in_other_columns(&t);
     ask_something(&t, dice, times);
     for (int i = 0; i <= times / 4; i++) {
         recover_damaged(&t, dice);

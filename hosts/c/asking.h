@@ -13,14 +13,24 @@ struct slice copied(struct slice from);
 struct mesh copied_tables(const struct mesh *t);
 void drop_tables(struct mesh *t);
 
-/* Calls with buffers of the right lengths, those that are written full of noise. */
+/* The first `len` entries of a buffer, and noise where it has no more. */
+struct slice resized(enum role role, struct slice from, size_t len);
+/* E2e brought to so many columns row by row: a fourth entry is left out, or is 0. */
+void bring_to_columns(struct mesh *t, uint32_t columns);
+/* 4 for a list in three columns, 3 for one in four */
+uint32_t other_columns(const struct mesh *t);
+
+/* Calls with buffers of the right lengths, those that are written full of noise. Recovery is told the m of the element
+   list's length, a query the columns of the mesh. */
 struct call build_of(const struct list *list, size_t b2e_len);
+struct call look_at(const struct list *list);
 struct call recovery_of(const struct mesh *t);
 struct call query_of(const struct exported *exported, const struct mesh *t, uint32_t number);
 
-/* Every query of a half-edge; every query of a vertex. */
+/* Every query of a half-edge; every query of a vertex; every query of everything. */
 void ask_code(const struct mesh *t, uint32_t code);
 void ask_vertex(const struct mesh *t, uint32_t v);
+void ask_everything(const struct mesh *t);
 /* A list with no room, and then with one entry too few, just enough and more than enough. */
 void ask_list(const struct exported *exported, const struct mesh *t, uint32_t number);
 /* A walker from the start until the walk is over or refused, and a little further. */

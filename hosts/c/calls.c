@@ -13,14 +13,16 @@
 
 static const char *const role_names[ROLES] = {"elements", "v2e", "e2e", "b2e", "work", "out", "walker"};
 
-enum { SECONDS_PER_CALL = 120 };
+/* what the calls that compare one case may take */
+enum { SECONDS = 120 };
 
 #define BIT(role) (1u << (role))
 #define TABLES(b) \
     (b)[ELEMENTS].at, (b)[ELEMENTS].len, (b)[V2E].at, (b)[V2E].len, (b)[E2E].at, (b)[E2E].len, (b)[B2E].at, (b)[B2E].len
+#define MESH(call, b) (call)->n, (call)->columns, TABLES(b)
 
 static struct mesh mesh_of(const struct call *call, const struct slice *b) {
-    return (struct mesh){call->n, b[ELEMENTS], b[V2E], b[E2E], b[B2E]};
+    return (struct mesh){call->n, call->columns, b[ELEMENTS], b[V2E], b[E2E], b[B2E]};
 }
 
 static uint64_t kernel_build(const struct call *call, const struct slice *b) {
@@ -32,18 +34,26 @@ static struct answer expect_build(const struct call *call, const struct slice *b
     return reference_build(&mesh, b[WORK]);
 }
 
+static uint64_t kernel_columns(const struct call *call, const struct slice *b) {
+    return borzhanu_columns(call->n, b[ELEMENTS].at, b[ELEMENTS].len);
+}
+
+static struct answer expect_columns(const struct call *call, const struct slice *b) {
+    return reference_columns(call->n, b[ELEMENTS]);
+}
+
 static uint64_t kernel_recover(const struct call *call, const struct slice *b) {
-    return borzhanu_recover(call->n, b[V2E].at, b[V2E].len, b[E2E].at, b[E2E].len, b[ELEMENTS].at, b[ELEMENTS].len,
-                            b[WORK].at, b[WORK].len);
+    return borzhanu_recover(call->n, call->m, b[V2E].at, b[V2E].len, b[E2E].at, b[E2E].len, b[ELEMENTS].at,
+                            b[ELEMENTS].len, b[WORK].at, b[WORK].len);
 }
 
 static struct answer expect_recover(const struct call *call, const struct slice *b) {
     struct mesh mesh = mesh_of(call, b);
-    return reference_recover(&mesh, b[WORK]);
+    return reference_recover(&mesh, call->m, b[WORK]);
 }
 
 static uint64_t kernel_walker_start(const struct call *call, const struct slice *b) {
-    return borzhanu_walker_start(call->n, TABLES(b), call->number, (borzhanu_walker *)(void *)b[RECORD].at);
+    return borzhanu_walker_start(MESH(call, b), call->number, (borzhanu_walker *)(void *)b[RECORD].at);
 }
 
 static struct answer expect_walker_start(const struct call *call, const struct slice *b) {
@@ -52,7 +62,7 @@ static struct answer expect_walker_start(const struct call *call, const struct s
 }
 
 static uint64_t kernel_walker_step(const struct call *call, const struct slice *b) {
-    return borzhanu_walker_step(call->n, TABLES(b), (borzhanu_walker *)(void *)b[RECORD].at);
+    return borzhanu_walker_step(MESH(call, b), (borzhanu_walker *)(void *)b[RECORD].at);
 }
 
 static struct answer expect_walker_step(const struct call *call, const struct slice *b) {
@@ -62,7 +72,7 @@ static struct answer expect_walker_step(const struct call *call, const struct sl
 
 #define OF_ONE_NUMBER(name)                                                                \
     static uint64_t kernel_##name(const struct call *call, const struct slice *b) {       \
-        return borzhanu_##name(call->n, TABLES(b), call->number);                          \
+        return borzhanu_##name(MESH(call, b), call->number);                               \
     }                                                                                      \
     static struct answer expect_##name(const struct call *call, const struct slice *b) {  \
         struct mesh mesh = mesh_of(call, b);                                               \
@@ -71,7 +81,7 @@ static struct answer expect_walker_step(const struct call *call, const struct sl
 
 #define OF_A_LIST(name)                                                                    \
     static uint64_t kernel_##name(const struct call *call, const struct slice *b) {       \
-        return borzhanu_##name(call->n, TABLES(b), call->number, b[OUT].at, b[OUT].len);   \
+        return borzhanu_##name(MESH(call, b), call->number, b[OUT].at, b[OUT].len);        \
     }                                                                                      \
     static struct answer expect_##name(const struct call *call, const struct slice *b) {  \
         struct mesh mesh = mesh_of(call, b);                                               \
@@ -91,20 +101,27 @@ OF_A_LIST(ring)
 OF_A_LIST(neighbours)
 OF_A_LIST(border_loop)
 
-#define EXPORTED(name, writes) {#name, kernel_##name, expect_##name, writes}
+#define EXPORTED(name, writes) {#name, kernel_##name, expect_##name, writes, 0}
+#define QUERY(name, writes) {#name, kernel_##name, expect_##name, writes, 1}
 
 const struct exported build_call = EXPORTED(build, BIT(V2E) | BIT(E2E) | BIT(B2E) | BIT(WORK));
+const struct exported columns_call = EXPORTED(columns, 0);
 const struct exported recover_call = EXPORTED(recover, BIT(ELEMENTS) | BIT(WORK));
-const struct exported start_call = EXPORTED(walker_start, BIT(RECORD));
-const struct exported step_call = EXPORTED(walker_step, BIT(RECORD));
+const struct exported start_call = QUERY(walker_start, BIT(RECORD));
+const struct exported step_call = QUERY(walker_step, BIT(RECORD));
 
 const struct exported code_calls[CODE_CALLS] = {
-    EXPORTED(opposite, 0),    EXPORTED(next, 0),   EXPORTED(previous, 0),           EXPORTED(element, 0),
-    EXPORTED(origin, 0),      EXPORTED(across, 0), EXPORTED(halfedge_is_border, 0), EXPORTED(destination, 0),
+    QUERY(opposite, 0), QUERY(next, 0),   QUERY(previous, 0),           QUERY(element, 0),
+    QUERY(origin, 0),   QUERY(across, 0), QUERY(halfedge_is_border, 0), QUERY(destination, 0),
 };
-const struct exported vertex_test = EXPORTED(vertex_is_border, 0);
-const struct exported vertex_lists[VERTEX_LISTS] = {EXPORTED(ring, BIT(OUT)), EXPORTED(neighbours, BIT(OUT))};
-const struct exported border_list = EXPORTED(border_loop, BIT(OUT));
+const struct exported vertex_test = QUERY(vertex_is_border, 0);
+const struct exported vertex_lists[VERTEX_LISTS] = {QUERY(ring, BIT(OUT)), QUERY(neighbours, BIT(OUT))};
+const struct exported border_list = QUERY(border_loop, BIT(OUT));
+
+const struct exported *const queries[QUERIES] = {
+    &code_calls[0], &code_calls[1], &code_calls[2],   &code_calls[3],   &code_calls[4], &code_calls[5], &code_calls[6],
+    &code_calls[7], &vertex_test,   &vertex_lists[0], &vertex_lists[1], &border_list,   &start_call,    &step_call,
+};
 
 /* ---- reporting ---- */
 
@@ -124,7 +141,8 @@ static void print_current(const char *what) {
     printf("MISMATCH: borzhanu_%s: %s\n", current->exported->name, what);
     printf("  family '%s', seed %llu, after %lu calls, %s of each buffer at a guard page\n", progress.family,
            (unsigned long long)progress.seed, progress.calls, current_placement == END_AT_GUARD ? "end" : "start");
-    printf("  n %u, number asked about %u\n", current->n, current->number);
+    printf("  n %u, told m %u, told columns %u, number asked about %u\n", current->n, current->m, current->columns,
+           current->number);
     for (int role = 0; role < ROLES; role++)
         print_buffer(role_names[role], current->given[role]);
 }
@@ -134,9 +152,13 @@ void stop(void) {
     _exit(1);
 }
 
-static void on_fault(int number) {
-    print_current(number == SIGALRM ? "the call doesn't end" : "the call touched memory outside its buffers");
+void fail(const char *what) {
+    print_current(what);
     stop();
+}
+
+static void on_fault(int number) {
+    fail(number == SIGALRM ? "the call doesn't end" : "the call touched memory outside its buffers");
 }
 
 static void fail_answer(struct answer want, struct answer got) {
@@ -214,33 +236,54 @@ static struct answer taken_apart(uint64_t returned) {
     return (struct answer){borzhanu_refusal(returned), borzhanu_first(returned), borzhanu_second(returned)};
 }
 
+static void place_buffer(const struct call *call, enum placement placement, int role, struct slice *buffers) {
+    buffers[role].len = call->given[role].len;
+    buffers[role].at = placed(&memory[role], call->given[role].len, placement);
+    copy_into(buffers[role].at, call->given[role]);
+}
+
 static void place_buffers(const struct call *call, enum placement placement, struct slice *buffers) {
-    for (int role = 0; role < ROLES; role++) {
-        buffers[role].len = call->given[role].len;
-        buffers[role].at = placed(&memory[role], call->given[role].len, placement);
-        copy_into(buffers[role].at, call->given[role]);
-    }
+    for (int role = 0; role < ROLES; role++)
+        place_buffer(call, placement, role, buffers);
     current_placement = placement;
 }
 
+/* What a call wrote is put back to what it was given; the rest was found as it was. */
+static void place_written(const struct call *call, enum placement placement, struct slice *buffers) {
+    for (int role = 0; role < ROLES; role++)
+        if (call->exported->writes & BIT(role))
+            place_buffer(call, placement, role, buffers);
+}
+
 static struct answer kernel_answer(const struct call *call, const struct slice *buffers) {
-    alarm(SECONDS_PER_CALL);
-    uint64_t returned = call->exported->kernel(call, buffers);
-    alarm(0);
-    progress.calls++;
-    return taken_apart(returned);
+    current = call;
+    return taken_apart(call->exported->kernel(call, buffers));
 }
 
 static void call_kernel(const struct call *call, struct answer want, const struct slice *expected,
-                        enum placement placement) {
-    struct slice buffers[ROLES];
-    place_buffers(call, placement, buffers);
+                        const struct slice *buffers) {
     struct answer got = kernel_answer(call, buffers);
+    progress.calls++;
     if (memcmp(&want, &got, sizeof want) != 0)
         fail_answer(want, got);
     check_left(call, buffers, got);
     for (int role = 0; role < ROLES; role++)
-        check_same("another result", role, expected[role].at, buffers[role].at, 0, buffers[role].len);
+        if (call->exported->writes & BIT(role))
+            check_same("another result", role, expected[role].at, buffers[role].at, 0, buffers[role].len);
+}
+
+static void call_placed(const struct call *call, struct answer want, const struct slice *expected,
+                        enum placement placement) {
+    struct slice buffers[ROLES];
+    place_buffers(call, placement, buffers);
+    call_kernel(call, want, expected, buffers);
+    if (!call->exported->is_query || call->columns != 0)
+        return;
+    struct call told = *call;
+    told.columns = columns_of(call->given[ELEMENTS]);
+    place_written(&told, placement, buffers);
+    call_kernel(&told, want, expected, buffers);
+    current = call;
 }
 
 struct answer compare(const struct call *call, struct slice *results) {
@@ -254,11 +297,18 @@ struct answer compare(const struct call *call, struct slice *results) {
         }
     }
     struct answer want = call->exported->reference(call, expected);
-    call_kernel(call, want, expected, END_AT_GUARD);
-    call_kernel(call, want, expected, START_AT_GUARD);
+    alarm(SECONDS);
+    call_placed(call, want, expected, END_AT_GUARD);
+    call_placed(call, want, expected, START_AT_GUARD);
     if (results != NULL)
         memcpy(results, expected, sizeof expected);
     return want;
+}
+
+void compare_with(const struct call *call, uint32_t refusal, uint32_t first) {
+    struct answer known = {refusal, first, 0}, answer = compare(call, NULL);
+    if (memcmp(&known, &answer, sizeof known) != 0)
+        fail_answer(known, answer);
 }
 
 /* ---- time ---- */
@@ -269,25 +319,30 @@ static double processor_seconds(void) {
     return (double)now.tv_sec + 1e-9 * (double)now.tv_nsec;
 }
 
-static double seconds_of(const struct call *call) {
+/* Of up to so many calls: it is enough to have seen that they take longer than is allowed. */
+static double seconds_of(const struct call *call, int times, double allowed) {
     struct slice buffers[ROLES];
-    current = call;
+    double taken = 0;
+    alarm(SECONDS);
     place_buffers(call, END_AT_GUARD, buffers);
     double began = processor_seconds();
-    kernel_answer(call, buffers);
-    return processor_seconds() - began;
+    while (times-- > 0 && taken <= allowed) {
+        kernel_answer(call, buffers);
+        taken = processor_seconds() - began;
+    }
+    return taken;
 }
 
-void check_time(const struct call *call, double allowed) {
+void check_time(const struct call *call, int times, double allowed) {
     enum { TRIES = 3 };
-    double least = seconds_of(call);
+    double least = seconds_of(call, times, allowed);
     for (int i = 1; i < TRIES && least > allowed; i++) {
-        double other = seconds_of(call);
+        double other = seconds_of(call, times, allowed);
         least = other < least ? other : least;
     }
     if (least <= allowed)
         return;
     print_current("the call is too slow");
-    printf("  allowed %.1f s of processor time, taken %.1f s\n", allowed, least);
+    printf("  %d calls: allowed %.1f s of processor time, taken at least %.1f s\n", times, allowed, least);
     stop();
 }

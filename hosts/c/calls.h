@@ -9,7 +9,7 @@
 
 enum role { ELEMENTS, V2E, E2E, B2E, WORK, OUT, RECORD, ROLES };
 
-enum { RECORD_LENGTH = 3, CODE_CALLS = 8, VERTEX_LISTS = 2 };
+enum { RECORD_LENGTH = 3, CODE_CALLS = 8, VERTEX_LISTS = 2, QUERIES = CODE_CALLS + VERTEX_LISTS + 4 };
 
 struct call;
 
@@ -19,17 +19,21 @@ struct exported {
     uint64_t (*kernel)(const struct call *call, const struct slice *buffers);
     struct answer (*reference)(const struct call *call, const struct slice *buffers);
     unsigned writes; /* a bit for each role that an answer may change */
+    int is_query;
 };
 
-/* What a call is given: n, the vertex, border or half-edge asked about, and what each buffer holds. */
+/* What a call is given: n, the m that recovery is told, the columns that a query is told, the vertex, border or
+   half-edge asked about, and what each buffer holds. */
 struct call {
     const struct exported *exported;
-    uint32_t n, number;
+    uint32_t n, m, columns, number;
     struct slice given[ROLES];
 };
 
-extern const struct exported build_call, recover_call, vertex_test, border_list, start_call, step_call;
+extern const struct exported build_call, columns_call, recover_call, vertex_test, border_list, start_call, step_call;
 extern const struct exported code_calls[CODE_CALLS], vertex_lists[VERTEX_LISTS];
+/* all of these that are told columns */
+extern const struct exported *const queries[QUERIES];
 
 /* What a report of a mismatch names beside the call. */
 struct progress {
@@ -45,13 +49,19 @@ void prepare_calls(void);
 size_t room_of(enum role role);
 
 /* Compares a call, in both placements, and hands over the answer; `results`, where not null, then shows what each
-   buffer holds, until the next call. A mismatch is printed and ends the program. */
+   buffer holds, until the next call. A query told 0 is made again told the list's own columns, which must change
+   nothing. A mismatch is printed and ends the program. */
 struct answer compare(const struct call *call, struct slice *results);
 
-/* Makes a call on the kernel alone, for its processor time. Where it takes more than `allowed` seconds three times in
-   a row, this is printed and ends the program. */
-void check_time(const struct call *call, double allowed);
+/* Compares a call whose answer is known beforehand. */
+void compare_with(const struct call *call, uint32_t refusal, uint32_t first);
 
+/* Makes a call on the kernel alone, so many times, for its processor time. Where they take more than `allowed` seconds
+   three times in a row, this is printed and ends the program. */
+void check_time(const struct call *call, int times, double allowed);
+
+/* Prints what is wrong with the last call, and ends the program. */
+void fail(const char *what);
 /* Ends the program after a mismatch. */
 void stop(void);
 

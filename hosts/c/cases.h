@@ -1,21 +1,23 @@
 /* The worked cases that docs/TRACE.md quotes under "Housings to hold up to the rules", and the sample surface mesh of
    T. J. Alumbaugh and X. Jiao, "Compact Array-Based Mesh Data Structures", with the values printed there; the sides of
    TRI_3 and QUAD_4 in the figures of CGNS; and some of these lists with spare vertices, worked out by hand: the entry
-   of a spare vertex is 0, and nothing else changes but the numbers of the vertices after it. */
+   of a spare vertex is 0, and nothing else changes but the numbers of the vertices after it. Lists in which one row
+   alone is a quadrilateral, and what is read where queries are told other columns, are worked out by hand too. */
 #ifndef CASES_H
 #define CASES_H
 
 #include <stddef.h>
 #include <stdint.h>
 
-enum { CASE_ROWS = 8, CASE_VERTICES = 9, CASE_BORDERS = 8, RECOVERED_ROWS = 2 };
+enum { CASE_ROWS = 8, CASE_ENTRIES = 4 * CASE_ROWS, CASE_VERTICES = 12, CASE_BORDERS = 12, RECOVERED_ROWS = 4 };
 
+/* E2e has `columns` entries for each row. */
 struct build_case {
     const char *name;
-    uint32_t n, m;
+    uint32_t n, m, columns;
     uint32_t rows[CASE_ROWS][4];
     uint32_t refusal, first, second;
-    uint32_t v2e[CASE_VERTICES], e2e[CASE_ROWS][4], b2e[CASE_BORDERS];
+    uint32_t v2e[CASE_VERTICES], e2e[CASE_ENTRIES], b2e[CASE_BORDERS];
 };
 
 /* What a list query gives on the tables of the case before it. */
@@ -49,9 +51,18 @@ struct figure {
     uint32_t element, sides, next[4], previous[4];
 };
 
+/* What a query of a half-edge gives on the list, V2e and B2e of the case when it is told these columns and E2e is this,
+   of columns * m entries. */
+struct told_case {
+    const char *build_case, *query;
+    uint32_t columns, e2e[CASE_ENTRIES], code;
+    uint32_t refusal, first;
+};
+
+/* E2e is offered in `columns` entries for each row; m is told. */
 struct recovery_case {
     const char *name;
-    uint32_t n, m, v2e[CASE_VERTICES], e2e[RECOVERED_ROWS][4];
+    uint32_t n, m, columns, v2e[CASE_VERTICES], e2e[4 * RECOVERED_ROWS];
     uint32_t refusal;
     uint32_t rows[RECOVERED_ROWS][4];
 };
@@ -68,6 +79,8 @@ extern const struct zeroed_case zeroed_cases[];
 extern const size_t zeroed_case_count;
 extern const struct figure figures[];
 extern const size_t figure_count;
+extern const struct told_case told_cases[];
+extern const size_t told_case_count;
 extern const struct recovery_case recovery_cases[];
 extern const size_t recovery_case_count;
 

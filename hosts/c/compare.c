@@ -2,6 +2,7 @@
  * Compares every exported call with the reference, on inputs of every kind: answers, refusals, places,
  * and each entry of each buffer afterwards. Every call is made twice, once with the end of each buffer
  * at a page that faults when touched and once with its start; an empty buffer is null the second time.
+ * A query that is told no columns is made again, told those of the list.
  *
  *     compare [SEED]
  */
@@ -95,24 +96,30 @@ static void two_rows(struct dice *dice) {
     }
 }
 
-/* Every content of V2e and E2e of one element on three vertices, out of the codes that could be meant. */
-static void small_tables(struct dice *dice) {
+/* Every content of V2e and of E2e of one element on three vertices, out of the codes that could be meant. */
+static void small_tables_of(uint32_t columns) {
     static const uint32_t codes[] = {0, 8, 16, 24, 32, 9};
-    enum { VALUES = 6, ENTRIES = 7, ALL = 279936 };
-    uint32_t e2e[4], v2e[3];
-    (void)dice;
-    for (uint32_t number = 0; number < ALL; number++) {
+    uint32_t entries[7], all = 1;
+    for (uint32_t i = 0; i < columns + 3; i++)
+        all *= COUNT(codes);
+    for (uint32_t number = 0; number < all; number++) {
         uint32_t rest = number;
-        for (int i = 0; i < ENTRIES; i++, rest /= VALUES)
-            *(i < 4 ? &e2e[i] : &v2e[i - 4]) = codes[rest % VALUES];
-        struct mesh t = {3, noise_of(ELEMENTS, 4), {v2e, 3}, {e2e, 4}, noise_of(B2E, 0)};
+        for (uint32_t i = 0; i < columns + 3; i++, rest /= COUNT(codes))
+            entries[i] = codes[rest % COUNT(codes)];
+        struct mesh t = {3, 0, noise_of(ELEMENTS, 4), {entries + columns, 3}, {entries, columns}, noise_of(B2E, 0)};
         struct call call = recovery_of(&t);
         compare(&call, NULL);
     }
 }
 
+static void small_tables(struct dice *dice) {
+    (void)dice;
+    small_tables_of(3);
+    small_tables_of(4);
+}
+
 /* Recovery of every content of V2e on n vertices, out of the codes that could be meant, beside one E2e. */
-static void every_v2e(uint32_t n, uint32_t *e2e, size_t m) {
+static void every_v2e(uint32_t n, struct slice e2e, size_t m) {
     static const uint32_t codes[] = {0, 8, 16, 24, 32, 9, 17};
     uint32_t v2e[5], all = 1;
     for (uint32_t v = 0; v < n; v++)
@@ -121,22 +128,30 @@ static void every_v2e(uint32_t n, uint32_t *e2e, size_t m) {
         uint32_t rest = number;
         for (uint32_t v = 0; v < n; v++, rest /= COUNT(codes))
             v2e[v] = codes[rest % COUNT(codes)];
-        struct mesh t = {n, noise_of(ELEMENTS, 4 * m), {v2e, n}, {e2e, 4 * m}, noise_of(B2E, 0)};
+        struct mesh t = {n, 0, noise_of(ELEMENTS, 4 * m), {v2e, n}, e2e, noise_of(B2E, 0)};
         struct call call = recovery_of(&t);
         compare(&call, NULL);
     }
 }
 
 /* E2e of no element, of one triangle, of one quadrilateral, of two triangles back to back and of the listing: on up to
-   five vertices some are spare, and any of them can be. */
+   five vertices some are spare, and any of them can be. Of the listing in four columns too. */
 static void small_spare_tables(struct dice *dice) {
-    static uint32_t e2e[][8] = {
-        {0}, {8, 16, 24, 0}, {8, 16, 24, 32}, {19, 18, 17, 0, 11, 10, 9, 0}, {8, 16, 17, 0, 11, 24, 32, 0}};
-    static const size_t m[] = {0, 1, 1, 2, 2};
+    static struct {
+        size_t m, columns;
+        uint32_t e2e[8];
+    } tables[] = {
+        {0, 3, {0}},
+        {1, 3, {8, 16, 24}},
+        {1, 4, {8, 16, 24, 32}},
+        {2, 3, {19, 18, 17, 11, 10, 9}},
+        {2, 3, {8, 16, 17, 11, 24, 32}},
+        {2, 4, {8, 16, 17, 0, 11, 24, 32, 0}},
+    };
     (void)dice;
-    for (size_t i = 0; i < COUNT(m); i++)
+    for (size_t i = 0; i < COUNT(tables); i++)
         for (uint32_t n = 0; n <= 5; n++)
-            every_v2e(n, e2e[i], m[i]);
+            every_v2e(n, (struct slice){tables[i].e2e, tables[i].columns * tables[i].m}, tables[i].m);
 }
 
 static void prepare_any(struct list *list, struct dice *dice) {
@@ -188,16 +203,22 @@ static void large_housings(struct dice *dice) {
     drop_list(&list);
 }
 
-/* Tables and lists of noise, near to codes. */
+/* Tables and lists of noise, near to codes; queries are told 0, or the columns of E2e, which needn't be the list's. */
 static void noise_tables(struct dice *dice) {
     for (int i = 0; i < 4000; i++) {
-        uint32_t n = 1 + below(dice, 6), m = below(dice, 7), k = below(dice, 4 * m + 1);
-        struct mesh given = {n, noise_of(ELEMENTS, 4 * m), noise_of(V2E, n), noise_of(E2E, 4 * m), noise_of(B2E, k)};
+        uint32_t n = 1 + below(dice, 6), m = below(dice, 7), k = below(dice, 4 * m + 1), columns = 3 + below(dice, 2);
+        struct mesh given = {n,
+                             below(dice, 4) == 0 ? 0 : columns,
+                             noise_of(ELEMENTS, 4 * m),
+                             noise_of(V2E, n),
+                             noise_of(E2E, columns * m),
+                             noise_of(B2E, k)};
         struct mesh t = copied_tables(&given);
-        for (size_t j = 0; j < t.elements.len; j++) {
-            t.elements.at[j] = below(dice, n + 2);
+        int triangles = below(dice, 3) == 0;
+        for (size_t j = 0; j < t.elements.len; j++)
+            t.elements.at[j] = triangles && j % 4 == 3 ? 0 : below(dice, n + 2);
+        for (size_t j = 0; j < t.e2e.len; j++)
             t.e2e.at[j] = below(dice, 3) == 0 ? 8 * below(dice, k + 2) : below(dice, 8 * m + 16);
-        }
         for (size_t j = 0; j < n; j++)
             t.v2e.at[j] = below(dice, 2) == 0 ? 8 * below(dice, k + 2) : below(dice, 8 * m + 16);
         for (size_t j = 0; j < k; j++)
@@ -208,20 +229,37 @@ static void noise_tables(struct dice *dice) {
     }
 }
 
-/* Each buffer of a call made longer and shorter, and n changed, one at a time and two at a time. */
-static void try_lengths(const struct call *call, const int *roles, int count, struct dice *dice) {
-    static const int changes[] = {-4, -1, 0, 1, 4};
+/* A buffer cut, or longer and full of noise. */
+static void change_length(struct slice *given, enum role role, long change) {
+    long len = (long)given->len + change;
+    if (change > 0)
+        *given = noise_of(role, (size_t)len);
+    else
+        given->len = len < 0 ? 0 : (size_t)len;
+}
+
+/* n, the m that recovery is told and the columns that a query is told, now and then. */
+static void change_numbers(struct call *call, struct dice *dice) {
+    static const uint32_t columns[] = {0, 0, 0, 3, 3, 4, 4, 1, 2, 5, 7, UINT32_MAX};
+    if (below(dice, 8) == 0)
+        call->n = call->n + below(dice, 3) - 1;
+    if (below(dice, 8) == 0)
+        call->m = call->m + below(dice, 3) - 1;
+    if (below(dice, 2) == 0)
+        call->columns = columns[below(dice, COUNT(columns))];
+}
+
+/* Each buffer of a call made longer and shorter, one at a time and two at a time, and its numbers changed. By m entries
+   E2e goes from three columns to four, and back. */
+static void try_lengths(const struct call *call, const int *roles, int count, long m, struct dice *dice) {
+    const long changes[] = {-m, -4, -1, 0, 1, 4, m};
     for (int a = 0; a < count; a++)
         for (int b = 0; b < count; b++)
             for (size_t i = 0; i < COUNT(changes) * COUNT(changes); i++) {
                 struct call other = *call;
-                int first = changes[i % COUNT(changes)], second = changes[i / COUNT(changes)];
-                long first_len = (long)other.given[roles[a]].len + first;
-                other.given[roles[a]] = noise_of((enum role)roles[a], first_len < 0 ? 0 : (size_t)first_len);
-                long second_len = (long)other.given[roles[b]].len + second;
-                other.given[roles[b]] = noise_of((enum role)roles[b], second_len < 0 ? 0 : (size_t)second_len);
-                if (below(dice, 8) == 0)
-                    other.n = other.n + below(dice, 3) - 1;
+                change_length(&other.given[roles[a]], (enum role)roles[a], changes[i % COUNT(changes)]);
+                change_length(&other.given[roles[b]], (enum role)roles[b], changes[i / COUNT(changes)]);
+                change_numbers(&other, dice);
                 compare(&other, NULL);
             }
 }
@@ -230,25 +268,26 @@ static void lengths(struct dice *dice) {
     static const int of_build[] = {ELEMENTS, V2E, E2E, B2E, WORK}, of_recovery[] = {V2E, E2E, ELEMENTS, WORK},
                      of_query[] = {ELEMENTS, V2E, E2E, B2E};
     for (int i = 0; i < 12; i++) {
-        struct list list = sheet(1 + below(dice, 3), 1 + below(dice, 3), 0, 0, MIXED, dice);
-        add_spare(&list, below(dice, list.n + 1), (uint32_t)i % 3 * 40);
+        struct list list = sheet(1 + below(dice, 3), 1 + below(dice, 3), 0, 0, (enum kinds)(i % 3), dice);
+        add_spare(&list, below(dice, list.n + 1), (uint32_t)i % 4 * 30);
+        long m = (long)list.m;
         struct mesh t;
         if (!built(&list, &t))
             exit(2);
         struct call call = build_of(&list, t.b2e.len);
-        try_lengths(&call, of_build, COUNT(of_build), dice);
+        try_lengths(&call, of_build, COUNT(of_build), m, dice);
         call = recovery_of(&t);
-        try_lengths(&call, of_recovery, COUNT(of_recovery), dice);
+        try_lengths(&call, of_recovery, COUNT(of_recovery), m, dice);
         const struct exported *queries[] = {&code_calls[i % CODE_CALLS], &vertex_test, &vertex_lists[i % VERTEX_LISTS],
                                             &border_list, &start_call, &step_call};
         for (size_t j = 0; j < COUNT(queries); j++) {
             call = query_of(queries[j], &t, 1 + below(dice, 9));
-            try_lengths(&call, of_query, COUNT(of_query), dice);
+            try_lengths(&call, of_query, COUNT(of_query), m, dice);
         }
         uint32_t ring_over[RECORD_LENGTH] = {9, 0, 1};
         call = query_of(&step_call, &t, 0);
         call.given[RECORD] = (struct slice){ring_over, RECORD_LENGTH};
-        try_lengths(&call, of_query, COUNT(of_query), dice);
+        try_lengths(&call, of_query, COUNT(of_query), m, dice);
         drop_tables(&t);
         drop_list(&list);
     }
@@ -270,6 +309,7 @@ static void try_emptied_calls(const struct list *list) {
     struct mesh t;
     if (!built(list, &t))
         exit(2);
+    try_emptied(look_at(list));
     try_emptied(build_of(list, t.b2e.len));
     try_emptied(recovery_of(&t));
     for (size_t i = 0; i < CODE_CALLS; i++)
@@ -290,14 +330,15 @@ static void empty_buffers(struct dice *dice) {
     try_emptied_calls(&triangle);
 }
 
-/* B2e may have as many entries as E2e, and no more. */
+/* B2e may have four entries for an element, whatever the columns of E2e, and no more. */
 static void longest_b2e(const struct mesh *t) {
     struct mesh longest = *t;
-    for (size_t extra = 0; extra < 2; extra++) {
-        longest.b2e = noise_of(B2E, t->e2e.len + extra);
-        struct call call = query_of(&code_calls[0], &longest, borzhanu_border(BORZHANU_MAX_BORDERS));
+    uint32_t most = (uint32_t)t->elements.len;
+    for (uint32_t extra = 0; extra < 2; extra++) {
+        longest.b2e = noise_of(B2E, most + extra);
+        struct call call = query_of(&code_calls[0], &longest, borzhanu_border(most));
         compare(&call, NULL);
-        call.number = borzhanu_border(BORZHANU_MAX_BORDERS + 1);
+        call.number = borzhanu_border(most + 1);
         compare(&call, NULL);
     }
 }
@@ -316,6 +357,7 @@ static void ask_largest_sheet(const struct mesh *t) {
 static void ask_largest_fan(const struct mesh *t) {
     ask_list(&vertex_lists[1], t, 1);
     ask_list(&border_list, t, (uint32_t)t->b2e.len);
+    longest_b2e(t);
 }
 
 static void largest_list(struct list list, void (*ask)(const struct mesh *t)) {
@@ -327,14 +369,15 @@ static void largest_list(struct list list, void (*ask)(const struct mesh *t)) {
     drop_list(&list);
 }
 
-/* n, and the numbers of rows of the element list and of E2e, at their largest or one past it; then there is no need
-   of a work buffer. */
-static void about_the_largest(uint32_t n, size_t m, size_t e2e_rows) {
+/* n, the numbers of rows of the element list and of E2e, and the m that recovery is told, at their largest or one past
+   it; then there is no need of a work buffer. */
+static void about_the_largest(uint32_t n, size_t m, uint32_t e2e_rows) {
     int past = n > BORZHANU_MAX_VERTICES || m > BORZHANU_MAX_ELEMENTS || e2e_rows > BORZHANU_MAX_ELEMENTS;
-    struct mesh t = {n, noise_of(ELEMENTS, 4 * m), noise_of(V2E, n), noise_of(E2E, 4 * e2e_rows), noise_of(B2E, 9)};
+    struct mesh t = {n, 0, noise_of(ELEMENTS, 4 * m), noise_of(V2E, n), noise_of(E2E, 4 * e2e_rows), noise_of(B2E, 9)};
     struct list list = {n, m, m, t.elements.at};
-    struct call calls[] = {build_of(&list, 9), recovery_of(&t), query_of(&code_calls[0], &t, 9)};
+    struct call calls[] = {build_of(&list, 9), look_at(&list), recovery_of(&t), query_of(&code_calls[0], &t, 9)};
     calls[0].given[E2E] = t.e2e;
+    calls[2].m = e2e_rows;
     for (size_t i = 0; i < COUNT(calls); i++) {
         if (past)
             calls[i].given[WORK].len = 0;

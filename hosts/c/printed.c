@@ -20,11 +20,23 @@ static void check_printed(const char *name, const char *what, const uint32_t *pr
         fail_case(name, what);
 }
 
+static int answers(struct answer answer, uint32_t first) {
+    return answer.refusal == 0 && answer.first == first;
+}
+
+static void check_columns(const struct build_case *c, const struct list *list) {
+    struct call call = look_at(list);
+    if (!answers(compare(&call, NULL), c->columns))
+        fail_case(c->name, "the number of columns");
+}
+
 static struct mesh tables_of_case(const struct build_case *c) {
     struct list list = empty_list(c->n, c->m);
     for (uint32_t f = 0; f < c->m; f++)
         add_row(&list, c->rows[f][0], c->rows[f][1], c->rows[f][2], c->rows[f][3]);
+    check_columns(c, &list);
     struct call call = build_of(&list, CASE_BORDERS + 1);
+    call.given[E2E] = noise_of(E2E, c->columns * c->m);
     struct slice results[ROLES];
     struct answer answer = compare(&call, results);
     if (answer.refusal != c->refusal || answer.first != c->first || answer.second != c->second)
@@ -32,16 +44,17 @@ static struct mesh tables_of_case(const struct build_case *c) {
     results[B2E].len = answer.refusal == 0 ? answer.first : 0;
     if (answer.refusal == 0) {
         check_printed(c->name, "V2e", c->v2e, results[V2E]);
-        check_printed(c->name, "E2e", c->e2e[0], results[E2E]);
+        check_printed(c->name, "E2e", c->e2e, results[E2E]);
         check_printed(c->name, "B2e", c->b2e, results[B2E]);
     }
-    struct mesh t = {c->n, copied(results[ELEMENTS]), copied(results[V2E]), copied(results[E2E]), copied(results[B2E])};
+    struct mesh t = {c->n,
+                     0,
+                     copied(results[ELEMENTS]),
+                     copied(results[V2E]),
+                     copied(results[E2E]),
+                     copied(results[B2E])};
     drop_list(&list);
     return t;
-}
-
-static int answers(struct answer answer, uint32_t first) {
-    return answer.refusal == 0 && answer.first == first;
 }
 
 static void check_list(const char *name, const struct exported *list, const struct mesh *t, uint32_t number,
@@ -136,9 +149,19 @@ static void check_figure(const struct figure *c, const struct mesh *t) {
     }
 }
 
+static void check_told_case(const struct told_case *c, const struct mesh *t) {
+    struct mesh told = *t;
+    told.columns = c->columns;
+    told.e2e = (struct slice){(uint32_t *)c->e2e, c->columns * (t->elements.len / 4)};
+    struct call call = query_of(code_call(c->query), &told, c->code);
+    struct answer answer = compare(&call, NULL);
+    if (answer.refusal != c->refusal || answer.first != c->first || answer.second != 0)
+        fail_case(c->build_case, "a query told its columns");
+}
+
 static void check_recovery_case(const struct recovery_case *c) {
-    struct slice v2e = {(uint32_t *)c->v2e, c->n}, e2e = {(uint32_t *)c->e2e[0], 4 * c->m}, results[ROLES];
-    struct mesh t = {c->n, noise_of(ELEMENTS, 4 * c->m), v2e, e2e, noise_of(B2E, 0)};
+    struct slice v2e = {(uint32_t *)c->v2e, c->n}, e2e = {(uint32_t *)c->e2e, c->columns * c->m}, results[ROLES];
+    struct mesh t = {c->n, 0, noise_of(ELEMENTS, 4 * c->m), v2e, e2e, noise_of(B2E, 0)};
     struct call call = recovery_of(&t);
     if (compare(&call, results).refusal != c->refusal)
         fail_case(c->name, "recovery's answer");
@@ -163,6 +186,9 @@ static void check_queries(const char *name, const struct mesh *t) {
     for (size_t i = 0; i < figure_count; i++)
         if (strcmp(figures[i].build_case, name) == 0)
             check_figure(&figures[i], t);
+    for (size_t i = 0; i < told_case_count; i++)
+        if (strcmp(told_cases[i].build_case, name) == 0)
+            check_told_case(&told_cases[i], t);
 }
 
 void printed_cases(struct dice *dice) {

@@ -33,7 +33,12 @@ static uint32_t number_of(uint32_t code) {
     return code % 8;
 }
 
-/* where the entry of a side stands, in the element list and in E2e */
+/* where the entry of a side stands in E2e of so many columns */
+static size_t e2e_place(uint32_t columns, uint32_t side) {
+    return columns * ((size_t)element_of(side) - 1) + (number_of(side) - 1);
+}
+
+/* where the corner that a side begins at stands in the element list */
 static size_t place_of(uint32_t side) {
     return 4 * ((size_t)element_of(side) - 1) + (number_of(side) - 1);
 }
@@ -42,7 +47,7 @@ static uint32_t side_at(size_t place) {
     return (uint32_t)(8 * (place / 4 + 1) + place % 4 + 1);
 }
 
-/* 3 where the fourth entry of the row is 0, else 4. An E2e row answers as the element's own does. */
+/* 3 where the fourth entry of the row is 0, else 4. A row of E2e in four columns answers as the element's own does. */
 static uint32_t side_count(const uint32_t *rows, uint32_t f) {
     return rows[4 * (size_t)f - 1] == 0 ? 3 : 4;
 }
@@ -70,20 +75,27 @@ static uint32_t destination_of(const uint32_t *rows, uint32_t side) {
     return origin_of(rows, next_side(rows, side));
 }
 
-/* ---- checks 1 and 2 ---- */
-
-/* m is told by one of the element list and E2e; the other one is in fours too */
-static int sizes_unfit(uint32_t n, struct slice tells, struct slice other) {
-    return n > MAX_VERTICES || tells.len / 4 > MAX_ELEMENTS || tells.len % 4 != 0 || other.len % 4 != 0;
+uint32_t columns_of(struct slice elements) {
+    uint32_t columns = 3;
+    for (uint32_t f = 1; f <= elements.len / 4; f++)
+        if (side_count(elements.at, f) > columns)
+            columns = side_count(elements.at, f);
+    return columns;
 }
 
-static struct answer check_lengths(uint32_t n, struct slice tells, struct slice other, size_t v2e_len,
-                                   int rest_unfit) {
-    if (sizes_unfit(n, tells, other))
+/* ---- checks 1 and 2 ---- */
+
+static struct answer check_sizes(uint32_t n, size_t m, struct slice elements) {
+    if (n > MAX_VERTICES || m > MAX_ELEMENTS || elements.len % 4 != 0)
         return refused(1, 0, 0);
-    if (v2e_len != n || other.len != tells.len || rest_unfit)
-        return refused(2, 0, 0);
     return gives(0, 0);
+}
+
+static struct answer check_lengths(uint32_t n, size_t m, struct slice elements, int lengths_unfit) {
+    struct answer answer = check_sizes(n, m, elements);
+    if (answer.refusal == 0 && lengths_unfit)
+        answer = refused(2, 0, 0);
+    return answer;
 }
 
 static int work_short(uint32_t n, size_t m, struct slice work) {
@@ -92,9 +104,9 @@ static int work_short(uint32_t n, size_t m, struct slice work) {
 
 /* ---- building ---- */
 
-/* A list under examination and what is found of it. Arrays over sides are indexed by place. */
+/* A list under examination and what is found of it. Arrays over sides, but for E2e, are indexed by place. */
 struct study {
-    uint32_t n;
+    uint32_t n, columns;
     const uint32_t *rows;
     size_t m;
     uint32_t *partner; /* the paired side; 0: border */
@@ -221,17 +233,19 @@ static struct answer check_turn_orders(const struct study *s) {
     return answer;
 }
 
+/* The code of what is opposite a side; a border side gets the next border number. */
+static uint32_t opposite_of(struct study *s, uint32_t side) {
+    uint32_t partner = s->partner[place_of(side)];
+    if (partner != 0)
+        return partner;
+    s->b2e[s->k++] = side;
+    return 8 * s->k;
+}
+
 static void write_tables(struct study *s) {
-    for (size_t p = 0; p < 4 * s->m; p++) {
-        if (s->rows[p] == 0) {
-            s->e2e[p] = 0;
-        } else if (s->partner[p] != 0) {
-            s->e2e[p] = s->partner[p];
-        } else {
-            s->b2e[s->k++] = side_at(p);
-            s->e2e[p] = 8 * s->k;
-        }
-    }
+    for (size_t p = 0; p < 4 * s->m; p++)
+        if (s->rows[p] != 0)
+            s->e2e[e2e_place(s->columns, side_at(p))] = opposite_of(s, side_at(p));
     /* no corner names a vertex without sides, whose entry stays 0 */
     for (size_t p = 4 * s->m; p-- > 0;)
         if (s->rows[p] != 0)
@@ -253,11 +267,12 @@ static struct answer examine(struct study *s) {
     return gives(s->k, (s->side_total + s->k) / 2);
 }
 
-static struct study study_of(uint32_t n, const uint32_t *rows, size_t m) {
-    struct study s = {.n = n, .rows = rows, .m = m};
+static struct study study_of(uint32_t n, struct slice elements) {
+    size_t m = elements.len / 4;
+    struct study s = {.n = n, .columns = columns_of(elements), .rows = elements.at, .m = m};
     s.partner = zeroed(4 * m, sizeof(uint32_t));
     s.v2e = zeroed(n, sizeof(uint32_t));
-    s.e2e = zeroed(4 * m, sizeof(uint32_t));
+    s.e2e = zeroed(s.columns * m, sizeof(uint32_t));
     s.b2e = zeroed(4 * m, sizeof(uint32_t));
     return s;
 }
@@ -274,8 +289,8 @@ static void copy_entries(uint32_t *to, const uint32_t *from, size_t count) {
         memcpy(to, from, count * sizeof(uint32_t));
 }
 
-static int same_entries(const uint32_t *a, const uint32_t *b, size_t count) {
-    return count == 0 || memcmp(a, b, count * sizeof(uint32_t)) == 0;
+static int same_table(const uint32_t *table, size_t len, struct slice given) {
+    return given.len == len && (len == 0 || memcmp(table, given.at, len * sizeof(uint32_t)) == 0);
 }
 
 static void clear_entries(struct slice s) {
@@ -283,19 +298,27 @@ static void clear_entries(struct slice s) {
         s.at[i] = 0;
 }
 
+struct answer reference_columns(uint32_t n, struct slice elements) {
+    struct answer answer = check_sizes(n, elements.len / 4, elements);
+    if (answer.refusal == 0)
+        answer = gives(columns_of(elements), 0);
+    return answer;
+}
+
 struct answer reference_build(const struct mesh *mesh, struct slice work) {
     size_t m = mesh->elements.len / 4;
-    struct answer answer = check_lengths(mesh->n, mesh->elements, mesh->e2e, mesh->v2e.len,
-                                         work_short(mesh->n, m, work));
+    int lengths_unfit = mesh->v2e.len != mesh->n || mesh->e2e.len != columns_of(mesh->elements) * m ||
+                        work_short(mesh->n, m, work);
+    struct answer answer = check_lengths(mesh->n, m, mesh->elements, lengths_unfit);
     if (answer.refusal != 0)
         return answer;
-    struct study s = study_of(mesh->n, mesh->elements.at, m);
+    struct study s = study_of(mesh->n, mesh->elements);
     answer = examine(&s);
     if (answer.refusal == 0 && mesh->b2e.len < s.k)
         answer = refused(9, s.k, 0);
     if (answer.refusal == 0) {
         copy_entries(mesh->v2e.at, s.v2e, mesh->n);
-        copy_entries(mesh->e2e.at, s.e2e, 4 * m);
+        copy_entries(mesh->e2e.at, s.e2e, s.columns * m);
         copy_entries(mesh->b2e.at, s.b2e, s.k);
     }
     drop_study(&s);
@@ -304,6 +327,14 @@ struct answer reference_build(const struct mesh *mesh, struct slice work) {
 }
 
 /* ---- recovery ---- */
+
+/* E2e as rows of four: in three columns every element is a triangle. */
+static uint32_t *rows_of_four(struct slice e2e, size_t m) {
+    uint32_t *rows = zeroed(4 * m, sizeof *rows), columns = e2e.len == 3 * m ? 3 : 4;
+    for (size_t f = 0; f < m; f++)
+        copy_entries(rows + 4 * f, e2e.at + columns * f, columns);
+    return rows;
+}
 
 /* In a list with this E2e, a side begins where its turn begins: sides are gathered into sets that
    share their origin, and V2e names one set for each vertex, or none where it has 0. */
@@ -345,9 +376,9 @@ static uint32_t side_from(uint32_t entry, const uint32_t *e2e, size_t m, const u
     return next_side(e2e, borders[b - 1]);
 }
 
-/* The only list that can have these tables; 0 stands where no vertex was found. */
-static uint32_t *candidate_list(const struct mesh *mesh, size_t m) {
-    const uint32_t *e2e = mesh->e2e.at;
+/* The only list of m elements that can have these tables; 0 stands where no vertex was found. */
+static struct slice candidate_list(const struct mesh *mesh, size_t m) {
+    uint32_t *e2e = rows_of_four(mesh->e2e, m);
     size_t *parent = origin_sets(e2e, m);
     uint32_t *borders = zeroed(4 * m, sizeof *borders), *vertex = zeroed(4 * m, sizeof *vertex);
     uint32_t *list = zeroed(4 * m, sizeof *list);
@@ -360,26 +391,30 @@ static uint32_t *candidate_list(const struct mesh *mesh, size_t m) {
     for (size_t p = 0; p < 4 * m; p++)
         if (is_side(e2e, m, side_at(p)))
             list[p] = vertex[set_of(parent, p)];
+    free(e2e);
     free(parent);
     free(borders);
     free(vertex);
-    return list;
+    return (struct slice){list, 4 * m};
 }
 
-struct answer reference_recover(const struct mesh *mesh, struct slice work) {
-    size_t m = mesh->e2e.len / 4;
-    struct answer answer = check_lengths(mesh->n, mesh->e2e, mesh->elements, mesh->v2e.len,
-                                         work_short(mesh->n, m, work));
+static int recovery_unfit(const struct mesh *mesh, size_t m, struct slice work) {
+    return mesh->v2e.len != mesh->n || (mesh->e2e.len != 3 * m && mesh->e2e.len != 4 * m) ||
+           mesh->elements.len != 4 * m || work_short(mesh->n, m, work);
+}
+
+struct answer reference_recover(const struct mesh *mesh, uint32_t m, struct slice work) {
+    struct answer answer = check_lengths(mesh->n, m, mesh->elements, recovery_unfit(mesh, m, work));
     if (answer.refusal != 0)
         return answer;
-    uint32_t *list = candidate_list(mesh, m);
-    struct study s = study_of(mesh->n, list, m);
-    int found = examine(&s).refusal == 0 && same_entries(s.v2e, mesh->v2e.at, mesh->n) &&
-                same_entries(s.e2e, mesh->e2e.at, 4 * m);
+    struct slice list = candidate_list(mesh, m);
+    struct study s = study_of(mesh->n, list);
+    int found = examine(&s).refusal == 0 && same_table(s.v2e, s.n, mesh->v2e) &&
+                same_table(s.e2e, s.columns * s.m, mesh->e2e);
     if (found)
-        copy_entries(mesh->elements.at, list, 4 * m);
+        copy_entries(mesh->elements.at, list.at, list.len);
     drop_study(&s);
-    free(list);
+    free(list.at);
     clear_entries(work);
     return found ? gives(0, 0) : refused(10, 0, 0);
 }
@@ -391,7 +426,16 @@ static size_t elements_in(const struct mesh *mesh) {
 }
 
 static struct answer check_query(const struct mesh *mesh) {
-    return check_lengths(mesh->n, mesh->elements, mesh->e2e, mesh->v2e.len, mesh->b2e.len > mesh->elements.len);
+    size_t m = elements_in(mesh);
+    uint32_t columns = mesh->columns == 0 ? columns_of(mesh->elements) : mesh->columns;
+    int lengths_unfit = (columns != 3 && columns != 4) || mesh->v2e.len != mesh->n || mesh->e2e.len != columns * m ||
+                        mesh->b2e.len > 4 * m;
+    return check_lengths(mesh->n, m, mesh->elements, lengths_unfit);
+}
+
+/* The columns that a query goes by: past check 2 they are those that E2e's length makes. There is an element. */
+static uint32_t columns_read(const struct mesh *mesh) {
+    return (uint32_t)(mesh->e2e.len / elements_in(mesh));
 }
 
 static int has_vertex(const struct mesh *mesh, uint32_t v) {
@@ -413,7 +457,10 @@ static int has_half_edge(const struct mesh *mesh, uint32_t code) {
 /* Each read gives 0 where the entry names nothing: 0 is no code and no vertex. */
 
 static uint32_t read_e2e(const struct mesh *mesh, uint32_t side) {
-    uint32_t code = mesh->e2e.at[place_of(side)];
+    uint32_t columns = columns_read(mesh);
+    if (number_of(side) > columns)
+        return 0;
+    uint32_t code = mesh->e2e.at[e2e_place(columns, side)];
     return has_half_edge(mesh, code) ? code : 0;
 }
 

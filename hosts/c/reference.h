@@ -16,6 +16,7 @@ struct slice {
 /* What a call is given apart from its own numbers: the element list and the three tables. */
 struct mesh {
     uint32_t n;
+    uint32_t columns; /* what a query is told; 0: it is to look at the list */
     struct slice elements, v2e, e2e, b2e;
 };
 
@@ -29,8 +30,12 @@ struct record {
     uint32_t start, next, count;
 };
 
+/* 3 where no whole row of an element list has a fourth entry other than 0, else 4 */
+uint32_t columns_of(struct slice elements);
+
 struct answer reference_build(const struct mesh *mesh, struct slice work);
-struct answer reference_recover(const struct mesh *mesh, struct slice work);
+struct answer reference_columns(uint32_t n, struct slice elements);
+struct answer reference_recover(const struct mesh *mesh, uint32_t m, struct slice work);
 
 struct answer reference_opposite(const struct mesh *mesh, uint32_t code);
 struct answer reference_next(const struct mesh *mesh, uint32_t code);

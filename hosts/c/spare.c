@@ -176,11 +176,11 @@ static const double allowed = 5;
 static void check_list_time(struct list list) {
     struct call call = build_of(&list, list.n);
     struct mesh t;
-    check_time(&call, allowed);
+    check_time(&call, 1, allowed);
     if (!built(&list, &t))
         exit(2);
     call = recovery_of(&t);
-    check_time(&call, allowed);
+    check_time(&call, 1, allowed);
     drop_tables(&t);
     drop_list(&list);
 }

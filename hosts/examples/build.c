@@ -34,22 +34,33 @@ int main(void) {
                                       6, 5, 9, 0, 8, 9, 5, 0, 7, 8, 5, 0, 5, 4, 7, 0};
     uint32_t v2e[N], e2e[4 * M], b2e[N], work[N + 16 * M];
 
-    uint64_t built = borzhanu_build(N, elements, 4 * M, v2e, N, e2e, 4 * M, b2e, N, work, N + 16 * M);
+    /* The list is looked at once. It has no quadrilateral, so E2e takes three entries for each element;
+       the buffer would hold four. */
+    uint64_t looked = borzhanu_columns(N, elements, 4 * M);
+    if (refused(looked))
+        return 1;
+    uint32_t columns = borzhanu_first(looked);
+    size_t e2e_len = borzhanu_e2e_length(columns, M);
+
+    uint64_t built = borzhanu_build(N, elements, 4 * M, v2e, N, e2e, e2e_len, b2e, N, work, N + 16 * M);
     if (refused(built))
         return 1;
     uint32_t k = borzhanu_first(built), edges = borzhanu_second(built);
     printf("%u edges, %u on the border\n", edges, k);
     print_half_edges("V2e", v2e, N);
     for (uint32_t f = 0; f < M; f++)
-        print_half_edges("E2e", e2e + 4 * f, elements[4 * f + 3] == 0 ? 3 : 4);
+        print_half_edges("E2e", e2e + columns * f, elements[4 * f + 3] == 0 ? 3 : 4);
     print_half_edges("B2e", b2e, k);
 
+    /* Every query goes by these columns and doesn't look at the whole list again. B2e is cut to k. */
+    const borzhanu_mesh mesh = {.n = N, .columns = columns, .elements = elements, .elements_len = 4 * M, .v2e = v2e,
+                                .v2e_len = N, .e2e = e2e, .e2e_len = e2e_len, .b2e = b2e, .b2e_len = k};
     borzhanu_walker walker;
-    if (refused(borzhanu_walker_start(N, elements, 4 * M, v2e, N, e2e, 4 * M, b2e, k, 5, &walker)))
+    if (refused(borzhanu_mesh_walker_start(&mesh, 5, &walker)))
         return 1;
     printf("elements about vertex 5:");
     for (;;) {
-        uint64_t step = borzhanu_walker_step(N, elements, 4 * M, v2e, N, e2e, 4 * M, b2e, k, &walker);
+        uint64_t step = borzhanu_mesh_walker_step(&mesh, &walker);
         if (refused(step))
             return 1;
         if (borzhanu_first(step) == 0)
