@@ -405,6 +405,7 @@ static const struct {
     {"tables of one element", small_tables},
     {"tables of spare vertices", small_spare_tables},
     {"tables of noise", noise_tables},
+    {"queries of a mesh", mesh_functions},
     {"lengths", lengths},
     {"empty buffers", empty_buffers},
     {"small housings", small_housings},

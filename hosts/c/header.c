@@ -1,7 +1,7 @@
 #include "header.h"
 
+#include "asking.h"
 #include "borzhanu.h"
-#include "calls.h"
 
 #include <stdio.h>
 #include <string.h>
@@ -81,8 +81,129 @@ static void check_sentences(void) {
             fail_number("no sentence for a number before refusal", number);
 }
 
+static void check_words(uint32_t number, const char *words) {
+    if (strcmp(sentence(number), words) != 0)
+        fail_number("other words for refusal", number);
+}
+
+static void check_lengths(void) {
+    size_t three = 0, four = 0;
+    for (uint32_t m = 0; m <= 1000; m++, three += 3, four += 4)
+        if (borzhanu_e2e_length(3, m) != three || borzhanu_e2e_length(4, m) != four)
+            fail_number("another length of E2e for m", m);
+}
+
 void check_header(void) {
     check_numbers();
     check_codes();
     check_sentences();
+    check_words(1, "more than 1,000,000 vertices or elements, or an element list not in fours");
+    check_words(2, "a buffer's length doesn't fit n, m and the columns, or the columns told aren't 0, 3 or 4");
+    check_lengths();
+}
+
+/* ---- queries of a mesh ---- */
+
+#define LENT(mesh) \
+    (mesh)->n, (mesh)->columns, (mesh)->elements, (mesh)->elements_len, (mesh)->v2e, (mesh)->v2e_len, (mesh)->e2e, \
+        (mesh)->e2e_len, (mesh)->b2e, (mesh)->b2e_len
+
+static void check_same(const char *name, int same, uint32_t number) {
+    progress.calls++;
+    if (same)
+        return;
+    printf("MISMATCH: include/borzhanu.h: borzhanu_mesh_%s of %u isn't borzhanu_%s\n", name, number, name);
+    stop();
+}
+
+#define CHECK(name, number) \
+    check_same(#name, borzhanu_mesh_##name(mesh, number) == borzhanu_##name(LENT(mesh), number), number)
+
+static void check_code_queries(const borzhanu_mesh *mesh, uint32_t code) {
+    CHECK(opposite, code);
+    CHECK(next, code);
+    CHECK(previous, code);
+    CHECK(element, code);
+    CHECK(origin, code);
+    CHECK(destination, code);
+    CHECK(across, code);
+    CHECK(halfedge_is_border, code);
+}
+
+#define CHECK_LIST(name, number)                                                                       \
+    do {                                                                                               \
+        uint32_t plain[ROOM] = {0}, of_mesh[ROOM] = {0};                                               \
+        uint64_t returned = borzhanu_##name(LENT(mesh), number, plain, room);                          \
+        int same = borzhanu_mesh_##name(mesh, number, of_mesh, room) == returned;                      \
+        check_same(#name, same && memcmp(plain, of_mesh, sizeof plain) == 0, number);                  \
+    } while (0)
+
+/* With room for some of the lists. */
+static void check_lists(const borzhanu_mesh *mesh, uint32_t number, size_t room) {
+    enum { ROOM = 16 };
+    CHECK_LIST(ring, number);
+    CHECK_LIST(neighbours, number);
+    CHECK_LIST(border_loop, number);
+}
+
+static int same_walkers(borzhanu_walker a, borzhanu_walker b) {
+    return a.start == b.start && a.next == b.next && a.count == b.count;
+}
+
+static void check_walkers(const borzhanu_mesh *mesh, uint32_t v) {
+    borzhanu_walker plain = {9, 9, 0}, of_mesh = {9, 9, 0};
+    uint64_t returned = borzhanu_walker_start(LENT(mesh), v, &plain);
+    int same = borzhanu_mesh_walker_start(mesh, v, &of_mesh) == returned;
+    check_same("walker_start", same && same_walkers(plain, of_mesh), v);
+    for (int steps = 0; steps < 8; steps++) {
+        returned = borzhanu_walker_step(LENT(mesh), &plain);
+        same = borzhanu_mesh_walker_step(mesh, &of_mesh) == returned;
+        check_same("walker_step", same && same_walkers(plain, of_mesh), v);
+    }
+}
+
+static void check_mesh(const borzhanu_mesh *mesh) {
+    uint32_t vertices = mesh->n + 1, borders = (uint32_t)mesh->b2e_len + 1, rows = (uint32_t)mesh->elements_len / 4;
+    for (uint32_t code = 0; code <= 8 * (rows + borders); code++)
+        check_code_queries(mesh, code);
+    for (uint32_t number = 0; number <= vertices || number <= borders; number++) {
+        CHECK(vertex_is_border, number);
+        check_lists(mesh, number, number % 12);
+        check_walkers(mesh, number);
+    }
+}
+
+/* Looking fills in the columns where it answers, and returns what borzhanu_columns does. */
+static void check_look(borzhanu_mesh *mesh, uint32_t columns) {
+    borzhanu_mesh unfit = *mesh;
+    uint64_t returned = borzhanu_columns(mesh->n, mesh->elements, mesh->elements_len);
+    check_same("look", borzhanu_mesh_look(mesh) == returned && mesh->columns == columns, columns);
+    unfit.n = BORZHANU_MAX_VERTICES + 1;
+    unfit.columns = 7;
+    returned = borzhanu_columns(unfit.n, unfit.elements, unfit.elements_len);
+    check_same("look", borzhanu_mesh_look(&unfit) == returned && unfit.columns == 7, unfit.n);
+}
+
+static void check_tables(const struct mesh *t) {
+    static const uint32_t numbers[] = {0, 3, 4, 5};
+    borzhanu_mesh mesh = {.n = t->n, .elements = t->elements.at, .elements_len = t->elements.len, .v2e = t->v2e.at,
+                          .v2e_len = t->v2e.len, .e2e = t->e2e.at, .e2e_len = t->e2e.len, .b2e = t->b2e.at,
+                          .b2e_len = t->b2e.len};
+    check_look(&mesh, columns_of(t->elements));
+    for (size_t i = 0; i < sizeof numbers / sizeof *numbers; i++) {
+        mesh.columns = numbers[i];
+        check_mesh(&mesh);
+    }
+}
+
+void mesh_functions(struct dice *dice) {
+    for (int i = 0; i < 100; i++) {
+        struct list list = any_housing(dice, 8);
+        struct mesh t;
+        if (built(&list, &t)) {
+            check_tables(&t);
+            drop_tables(&t);
+        }
+        drop_list(&list);
+    }
 }
