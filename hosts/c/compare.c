@@ -9,6 +9,7 @@
 #define _DEFAULT_SOURCE
 #include "asking.h"
 #include "borzhanu.h"
+#include "columns.h"
 #include "header.h"
 #include "printed.h"
 #include "spare.h"
@@ -405,6 +406,9 @@ static const struct {
     {"tables of one element", small_tables},
     {"tables of spare vertices", small_spare_tables},
     {"tables of noise", noise_tables},
+    {"columns of lists", columns_of_lists},
+    {"told columns", told_columns},
+    {"recovery told m", recovery_told_m},
     {"queries of a mesh", mesh_functions},
     {"lengths", lengths},
     {"empty buffers", empty_buffers},
@@ -412,6 +416,7 @@ static const struct {
     {"housings", housings},
     {"large housings", large_housings},
     {"the largest sizes", largest},
+    {"time of told columns", time_of_told_columns},
     {"time of spare vertices", time_of_spare_vertices},
     {"many spare vertices", many_spare_vertices},
 };
