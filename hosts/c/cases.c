@@ -177,6 +177,10 @@ const struct told_case told_cases[] = {
     {"the last row a quadrilateral", "destination", 3, {8, 16, 17, 11, 24, 32}, H(2, 4), 0, 1},
     {"the last row a quadrilateral", "opposite", 3, {8, 16, 20, 11, 24, 32}, H(1, 3), 0, H(2, 4)},
     {"the last row a quadrilateral", "opposite", 3, {8, 16, 12, 11, 24, 32}, H(1, 3), 12, 0},
+    {"the first row a quadrilateral", "opposite", 3, {8, 16, 24, 12, 32, 40}, H(1, 4), 12, 0},
+    {"the first row a quadrilateral", "across", 3, {8, 16, 24, 12, 32, 40}, H(1, 4), 12, 0},
+    {"the middle row a quadrilateral", "opposite", 3, {8, 16, 17, 11, 24, 32, 20, 40, 48}, H(2, 4), 12, 0},
+    {"the middle row a quadrilateral", "opposite", 3, {8, 16, 17, 11, 24, 32, 20, 40, 48}, H(3, 1), 0, H(2, 4)},
     /* told rightly */
     {"the listing", "opposite", 3, {8, 16, 17, 11, 24, 32}, H(2, 1), 0, 11},
     {"the last row a quadrilateral", "opposite", 4, {8, 16, 17, 0, 11, 24, 32, 40}, H(2, 4), 0, 40},
