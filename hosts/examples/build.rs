@@ -25,11 +25,11 @@ fn main() -> Result<(), Refusal> {
     let tables = Tables::build(9, &rows)?;
     let (mesh, counts) = (tables.mesh(), tables.counts());
     println!("{} edges, {} on the border", counts.edges, counts.borders);
-    print_half_edges("V2e", mesh.v2e);
-    for (row, entries) in rows.iter().zip(mesh.e2e.chunks(4)) {
-        print_half_edges("E2e", &entries[..if row[3] == 0 { 3 } else { 4 }]);
+    print_half_edges("V2e", mesh.v2e());
+    for entries in mesh.e2e().chunks(mesh.columns() as usize) {
+        print_half_edges("E2e", entries);
     }
-    print_half_edges("B2e", mesh.b2e);
+    print_half_edges("B2e", mesh.b2e());
 
     print!("elements about vertex 5:");
     for element in tables.walk(5)? {

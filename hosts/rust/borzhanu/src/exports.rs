@@ -8,6 +8,7 @@ macro_rules! queries {
             $(
                 pub fn $name(
                     n: u32,
+                    columns: u32,
                     elements: *const u32,
                     elements_len: usize,
                     v2e: *const u32,
@@ -55,8 +56,11 @@ extern "C" {
         work_len: usize,
     ) -> u64;
 
+    pub fn borzhanu_columns(n: u32, elements: *const u32, elements_len: usize) -> u64;
+
     pub fn borzhanu_recover(
         n: u32,
+        m: u32,
         v2e: *const u32,
         v2e_len: usize,
         e2e: *const u32,

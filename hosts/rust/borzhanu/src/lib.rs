@@ -16,6 +16,22 @@
 //! # Ok::<(), borzhanu::Refusal>(())
 //! ```
 //!
+//! E2e, what lies opposite each side, has as many columns as the widest element has sides: three in a list of
+//! triangles, four in one with a quadrilateral, where the fourth entry of a triangle is 0:
+//!
+//! ```
+//! use borzhanu::Tables;
+//!
+//! let triangles = Tables::build(4, &[[1, 2, 3, 0], [1, 3, 4, 0]])?;
+//! assert_eq!(triangles.mesh().columns(), 3);
+//! assert_eq!(triangles.mesh().e2e(), [8, 16, 17, 11, 24, 32]);
+//!
+//! let mixed = Tables::build(5, &[[1, 2, 3, 4], [4, 3, 5, 0]])?;
+//! assert_eq!(mixed.mesh().columns(), 4);
+//! assert_eq!(mixed.mesh().e2e(), [8, 16, 17, 24, 11, 32, 40, 0]);
+//! # Ok::<(), borzhanu::Refusal>(())
+//! ```
+//!
 //! Vertices that no element uses are accepted. There is nothing about them, and [`VertexKind`] tells them:
 //!
 //! ```
@@ -23,28 +39,29 @@
 //!
 //! // The same triangles, and a fifth vertex that neither uses.
 //! let tables = Tables::build(5, &[[1, 2, 3, 0], [1, 3, 4, 0]])?;
-//! assert_eq!(tables.mesh().v2e, [32, 8, 16, 24, 0]);
+//! assert_eq!(tables.mesh().v2e(), [32, 8, 16, 24, 0]);
 //! assert_eq!(tables.vertex_kind(1)?, VertexKind::Rim);
 //! assert_eq!(tables.vertex_kind(5)?, VertexKind::Unused);
 //! assert!(tables.ring(5)?.is_empty());
 //! # Ok::<(), borzhanu::Refusal>(())
 //! ```
 //!
-//! [`build`], [`recover`] and [`Mesh`] are the kernel's own calls, on buffers that the caller lends; these
+//! [`columns`], [`build`], [`recover`] and [`Mesh`] are the kernel's own calls, on buffers that the caller lends; these
 //! allocate nothing. Half-edges are codes there, which [`side`], [`border`] and [`HalfEdge`] make, and code 0
 //! names nothing:
 //!
 //! ```
-//! use borzhanu::{build, recover, work_length, Mesh};
+//! use borzhanu::{build, columns, recover, work_length, Mesh};
 //!
 //! let elements = [1, 2, 3, 0, 1, 3, 4, 0];
-//! let (mut v2e, mut e2e, mut b2e) = ([0; 4], [0; 8], [0; 4]);
+//! assert_eq!(columns(4, &elements)?, 3);
+//! let (mut v2e, mut e2e, mut b2e) = ([0; 4], [0; 3 * 2], [0; 4]);
 //! let mut work = vec![0; work_length(4, 2)];
 //! let counts = build(4, &elements, &mut v2e, &mut e2e, &mut b2e, &mut work)?;
 //! assert_eq!((counts.borders, counts.edges), (4, 5));
 //! assert_eq!(v2e, [32, 8, 16, 24]);
 //!
-//! let mesh = Mesh { n: 4, elements: &elements, v2e: &v2e, e2e: &e2e, b2e: &b2e[..4] };
+//! let mesh = Mesh::new(4, &elements, &v2e, &e2e, &b2e[..4])?;
 //! let ring: Result<Vec<u32>, _> = mesh.walk(1)?.collect();
 //! assert_eq!(ring?, [2, 1]);
 //!
@@ -53,7 +70,7 @@
 //! assert_eq!(neighbours, [4, 3, 2]);
 //!
 //! let mut recovered = [0; 8];
-//! recover(4, &v2e, &e2e, &mut recovered, &mut work)?;
+//! recover(4, 2, &v2e, &e2e, &mut recovered, &mut work)?;
 //! assert_eq!(recovered, elements);
 //! # Ok::<(), borzhanu::Refusal>(())
 //! ```
@@ -128,9 +145,19 @@ fn first_number(returned: u64) -> Result<u32, Refusal> {
     taken_apart(returned).map(|(first, _)| first)
 }
 
+/// The columns of E2e for an element list: 3 where no row has a fourth corner, so also where there is no row, else 4.
+///
+/// # Errors
+///
+/// Refusal 1.
+pub fn columns(n: u32, elements: &[u32]) -> Result<u32, Refusal> {
+    // SAFETY: the pointer has its slice's own length, and the kernel stays within it.
+    first_number(unsafe { exports::borzhanu_columns(n, elements.as_ptr(), elements.len()) })
+}
+
 /// Builds the three tables of an element list of m rows.
 ///
-/// `v2e` has n entries, `e2e` 4 × m, `b2e` at least k (n are always enough, and so are 4 × m) and `work` at
+/// `v2e` has n entries, `e2e` [`columns`] × m, `b2e` at least k (n are always enough, and so are 4 × m) and `work` at
 /// least [`work_length`]. What they hold before doesn't matter. After an answer `v2e`, `e2e` and the first k
 /// entries of `b2e` are the tables, and the rest of `b2e` is as it was; queries take it cut to k. A vertex that
 /// no element uses gets V2e entry 0. After a refusal all three are as they were. After 1 and 2 `work` is as it
@@ -167,20 +194,29 @@ pub fn build(
     Ok(Counts { borders, edges })
 }
 
-/// Writes the one element list that [`build`] turns into exactly this V2e and this E2e.
+/// Writes the one element list of m rows that [`build`] turns into exactly this V2e and this E2e.
 ///
-/// `v2e` has n entries, 0 for each vertex that no element uses, `e2e` and `elements` 4 × m, `work` at least
-/// [`work_length`]. After a refusal `elements` is as it was. After 1 and 2 `work` is as it was; after everything
-/// else it is all zero.
+/// `v2e` has n entries, 0 for each vertex that no element uses, `e2e` 3 × m or 4 × m, `elements` 4 × m, `work` at least
+/// [`work_length`]. What comes back from 3 × m entries is triangles, and from 4 × m a list with a quadrilateral, unless
+/// m is 0. m is told because lists of different m can have both tables in common. After a refusal `elements` is as it
+/// was. After 1 and 2 `work` is as it was; after everything else it is all zero.
 ///
 /// # Errors
 ///
-/// Refusals 1, 2 and 10. Nothing is repaired: 10 means that no list has these tables.
-pub fn recover(n: u32, v2e: &[u32], e2e: &[u32], elements: &mut [u32], work: &mut [u32]) -> Result<(), Refusal> {
+/// Refusals 1, 2 and 10. Nothing is repaired: 10 means that no list of m rows has these tables.
+pub fn recover(
+    n: u32,
+    m: u32,
+    v2e: &[u32],
+    e2e: &[u32],
+    elements: &mut [u32],
+    work: &mut [u32],
+) -> Result<(), Refusal> {
     // SAFETY: each pointer has its slice's own length, and the kernel stays within these.
     let returned = unsafe {
         exports::borzhanu_recover(
             n,
+            m,
             v2e.as_ptr(),
             v2e.len(),
             e2e.as_ptr(),

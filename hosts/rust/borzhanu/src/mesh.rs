@@ -1,23 +1,21 @@
 //! The queries on lent tables.
 
 use crate::exports;
-use crate::{first_number, taken_apart, Refusal};
+use crate::{columns, first_number, taken_apart, Refusal};
 
-/// A mesh to ask about: its element list and its tables, lent. Half-edges go in and out as codes. Tables that
-/// [`build`](crate::build) wrote never give refusal 12; any others may be asked about too. A V2e entry of 0 says that
-/// no element uses the vertex, and what begins there believes it, also where the element list says otherwise.
+/// A mesh to ask about: its element list and its tables, lent, of fit lengths. Half-edges go in and out as codes. Tables
+/// that [`build`](crate::build) wrote never give refusal 12; any others may be asked about too. A V2e entry of 0 says
+/// that no element uses the vertex, and what begins there believes it, also where the element list says otherwise.
+///
+/// The columns of E2e are looked up once, by [`Mesh::new`]; no query looks at the whole list again.
 #[derive(Clone, Copy, Debug)]
 pub struct Mesh<'a> {
-    /// The number of vertices.
-    pub n: u32,
-    /// The element list, 4 × m entries.
-    pub elements: &'a [u32],
-    /// V2e, n entries; 0 for a vertex that no element uses.
-    pub v2e: &'a [u32],
-    /// E2e, 4 × m entries.
-    pub e2e: &'a [u32],
-    /// B2e, exactly k entries: what [`build`](crate::build) wrote, cut to k.
-    pub b2e: &'a [u32],
+    n: u32,
+    columns: u32,
+    elements: &'a [u32],
+    v2e: &'a [u32],
+    e2e: &'a [u32],
+    b2e: &'a [u32],
 }
 
 /// Calls a query's exported function on a mesh and further arguments.
@@ -27,6 +25,7 @@ macro_rules! ask {
         unsafe {
             exports::$name(
                 $mesh.n,
+                $mesh.columns,
                 $mesh.elements.as_ptr(),
                 $mesh.elements.len(),
                 $mesh.v2e.as_ptr(),
@@ -42,11 +41,74 @@ macro_rules! ask {
 }
 
 impl<'a> Mesh<'a> {
+    /// A mesh on n vertices: the element list (4 × m entries), V2e (n), E2e ([`columns`](crate::columns) × m) and B2e
+    /// (exactly k: what [`build`](crate::build) wrote, cut to k; never more than 4 × m).
+    ///
+    /// # Errors
+    ///
+    /// Refusals 1 and 2 for unfit slices. What they hold isn't judged, and no query of the mesh gives 1 or 2.
+    pub fn new(
+        n: u32,
+        elements: &'a [u32],
+        v2e: &'a [u32],
+        e2e: &'a [u32],
+        b2e: &'a [u32],
+    ) -> Result<Mesh<'a>, Refusal> {
+        let mesh = Mesh::fit(n, columns(n, elements)?, elements, v2e, e2e, b2e);
+        // Code 0 names nothing, so that fit lengths give 11.
+        match mesh.element(0) {
+            Err(unfit @ (Refusal::Sizes | Refusal::Lengths)) => Err(unfit),
+            _ => Ok(mesh),
+        }
+    }
+
+    /// A mesh whose lengths are known to be fit, and its columns those of the list.
+    pub(crate) fn fit(
+        n: u32,
+        columns: u32,
+        elements: &'a [u32],
+        v2e: &'a [u32],
+        e2e: &'a [u32],
+        b2e: &'a [u32],
+    ) -> Mesh<'a> {
+        Mesh { n, columns, elements, v2e, e2e, b2e }
+    }
+
+    /// The number of vertices.
+    pub fn n(&self) -> u32 {
+        self.n
+    }
+
+    /// The columns of E2e: 3 where no element is a quadrilateral, else 4.
+    pub fn columns(&self) -> u32 {
+        self.columns
+    }
+
+    /// The element list, 4 × m entries.
+    pub fn elements(&self) -> &'a [u32] {
+        self.elements
+    }
+
+    /// V2e, n entries; 0 for a vertex that no element uses.
+    pub fn v2e(&self) -> &'a [u32] {
+        self.v2e
+    }
+
+    /// E2e, columns × m entries: side i of element f has entry columns × (f − 1) + (i − 1), counted from 0.
+    pub fn e2e(&self) -> &'a [u32] {
+        self.e2e
+    }
+
+    /// B2e, k entries.
+    pub fn b2e(&self) -> &'a [u32] {
+        self.b2e
+    }
+
     /// The half-edge that runs along the same edge the other way.
     ///
     /// # Errors
     ///
-    /// Refusals 1 and 2 for unfit slices, 11 for a code that names nothing, 12 for a broken table entry.
+    /// Refusal 11 for a code that names nothing, 12 for a broken table entry.
     pub fn opposite(&self, code: u32) -> Result<u32, Refusal> {
         first_number(ask!(borzhanu_opposite, self, code))
     }
@@ -55,7 +117,7 @@ impl<'a> Mesh<'a> {
     ///
     /// # Errors
     ///
-    /// Refusals 1 and 2 for unfit slices, 11 for a code that names nothing, 12 for a broken table entry.
+    /// Refusal 11 for a code that names nothing, 12 for a broken table entry.
     pub fn next(&self, code: u32) -> Result<u32, Refusal> {
         first_number(ask!(borzhanu_next, self, code))
     }
@@ -64,7 +126,7 @@ impl<'a> Mesh<'a> {
     ///
     /// # Errors
     ///
-    /// Refusals 1 and 2 for unfit slices, 11 for a code that names no side.
+    /// Refusal 11 for a code that names no side.
     pub fn previous(&self, code: u32) -> Result<u32, Refusal> {
         first_number(ask!(borzhanu_previous, self, code))
     }
@@ -73,7 +135,7 @@ impl<'a> Mesh<'a> {
     ///
     /// # Errors
     ///
-    /// Refusals 1 and 2 for unfit slices, 11 for a code that names no side.
+    /// Refusal 11 for a code that names no side.
     pub fn element(&self, code: u32) -> Result<u32, Refusal> {
         first_number(ask!(borzhanu_element, self, code))
     }
@@ -82,7 +144,7 @@ impl<'a> Mesh<'a> {
     ///
     /// # Errors
     ///
-    /// Refusals 1 and 2 for unfit slices, 11 for a code that names nothing, 12 for a broken table entry.
+    /// Refusal 11 for a code that names nothing, 12 for a broken table entry.
     pub fn origin(&self, code: u32) -> Result<u32, Refusal> {
         first_number(ask!(borzhanu_origin, self, code))
     }
@@ -91,7 +153,7 @@ impl<'a> Mesh<'a> {
     ///
     /// # Errors
     ///
-    /// Refusals 1 and 2 for unfit slices, 11 for a code that names nothing, 12 for a broken table entry.
+    /// Refusal 11 for a code that names nothing, 12 for a broken table entry.
     pub fn destination(&self, code: u32) -> Result<u32, Refusal> {
         first_number(ask!(borzhanu_destination, self, code))
     }
@@ -100,7 +162,7 @@ impl<'a> Mesh<'a> {
     ///
     /// # Errors
     ///
-    /// Refusals 1 and 2 for unfit slices, 11 for a code that names no side, 12 for a broken table entry.
+    /// Refusal 11 for a code that names no side, 12 for a broken table entry.
     pub fn across(&self, code: u32) -> Result<u32, Refusal> {
         first_number(ask!(borzhanu_across, self, code))
     }
@@ -109,7 +171,7 @@ impl<'a> Mesh<'a> {
     ///
     /// # Errors
     ///
-    /// Refusals 1 and 2 for unfit slices, 11 for a code that names nothing.
+    /// Refusal 11 for a code that names nothing.
     pub fn halfedge_is_border(&self, code: u32) -> Result<bool, Refusal> {
         first_number(ask!(borzhanu_halfedge_is_border, self, code)).map(|test| test == 1)
     }
@@ -118,7 +180,7 @@ impl<'a> Mesh<'a> {
     ///
     /// # Errors
     ///
-    /// Refusals 1 and 2 for unfit slices, 11 for a vertex that isn't there, 12 for a broken table entry, which 0 isn't.
+    /// Refusal 11 for a vertex that isn't there, 12 for a broken table entry, which 0 isn't.
     pub fn vertex_kind(&self, v: u32) -> Result<VertexKind, Refusal> {
         first_number(ask!(borzhanu_vertex_is_border, self, v)).map(VertexKind::of)
     }
@@ -128,8 +190,8 @@ impl<'a> Mesh<'a> {
     ///
     /// # Errors
     ///
-    /// Refusals 1 and 2 for unfit slices, 11 for a vertex that isn't there, 12 for a broken table entry or an overlong
-    /// walk, 13 for an output that is too short.
+    /// Refusal 11 for a vertex that isn't there, 12 for a broken table entry or an overlong walk, 13 for an output that is
+    /// too short.
     pub fn ring(&self, v: u32, out: &mut [u32]) -> Result<usize, Refusal> {
         first_number(ask!(borzhanu_ring, self, v, out.as_mut_ptr(), out.len())).map(|count| count as usize)
     }
@@ -139,8 +201,8 @@ impl<'a> Mesh<'a> {
     ///
     /// # Errors
     ///
-    /// Refusals 1 and 2 for unfit slices, 11 for a vertex that isn't there, 12 for a broken table entry or an overlong
-    /// walk, 13 for an output that is too short.
+    /// Refusal 11 for a vertex that isn't there, 12 for a broken table entry or an overlong walk, 13 for an output that is
+    /// too short.
     pub fn neighbours(&self, v: u32, out: &mut [u32]) -> Result<usize, Refusal> {
         first_number(ask!(borzhanu_neighbours, self, v, out.as_mut_ptr(), out.len())).map(|count| count as usize)
     }
@@ -149,8 +211,8 @@ impl<'a> Mesh<'a> {
     ///
     /// # Errors
     ///
-    /// Refusals 1 and 2 for unfit slices, 11 for a border that isn't there, 12 for a broken table entry or an overlong
-    /// walk, 13 for an output that is too short.
+    /// Refusal 11 for a border that isn't there, 12 for a broken table entry or an overlong walk, 13 for an output that is
+    /// too short.
     pub fn border_loop(&self, b: u32, out: &mut [u32]) -> Result<usize, Refusal> {
         first_number(ask!(borzhanu_border_loop, self, b, out.as_mut_ptr(), out.len())).map(|count| count as usize)
     }
@@ -186,7 +248,7 @@ impl<'a> Mesh<'a> {
     ///
     /// # Errors
     ///
-    /// Refusals 1 and 2 for unfit slices, 11 for a vertex that isn't there, 12 for a broken table entry.
+    /// Refusal 11 for a vertex that isn't there, 12 for a broken table entry.
     pub fn walk(&self, v: u32) -> Result<Walker<'a>, Refusal> {
         let mut record = WalkerRecord::default();
         self.start(v, &mut record)?;
@@ -198,17 +260,17 @@ impl<'a> Mesh<'a> {
     ///
     /// # Errors
     ///
-    /// Refusals 1 and 2 for unfit slices, 11 for a vertex that isn't there, 12 for a broken table entry.
+    /// Refusal 11 for a vertex that isn't there, 12 for a broken table entry.
     pub fn start(&self, v: u32, walker: &mut WalkerRecord) -> Result<(), Refusal> {
         taken_apart(ask!(borzhanu_walker_start, self, v, walker)).map(|_| ())
     }
 
-    /// The next element of the ring, or 0 when the ring is over; the record moves on by one. After 0 and
-    /// after a refusal, 1, 2 or 12, it is as it was.
+    /// The next element of the ring, or 0 when the ring is over; the record moves on by one. After 0 and after a
+    /// refusal it is as it was.
     ///
     /// # Errors
     ///
-    /// Refusals 1 and 2 for unfit slices, 12 for a broken table entry, an overlong walk or a record that no call made.
+    /// Refusal 12 for a broken table entry, an overlong walk or a record that no call made.
     pub fn step(&self, walker: &mut WalkerRecord) -> Result<u32, Refusal> {
         first_number(ask!(borzhanu_walker_step, self, walker))
     }

@@ -8,9 +8,10 @@ use std::fmt;
 #[non_exhaustive]
 #[derive(Clone, Copy, Debug, PartialEq, Eq, Hash)]
 pub enum Refusal {
-    /// 1: more than 1,000,000 vertices or elements, or an element list or E2e that isn't in fours.
+    /// 1: more than 1,000,000 vertices or elements, or an element list that isn't in fours.
     Sizes,
-    /// 2: a buffer is too short or too long for this n and m.
+    /// 2: a buffer is too short or too long for this n, this m and the columns of E2e. The columns themselves are
+    /// looked up here, never told wrongly.
     Lengths,
     /// 3: corner 1 to 3 is 0, or a corner is above n.
     CornerUnfit {
@@ -128,8 +129,10 @@ impl Refusal {
     /// What the refusal means, in the words of include/borzhanu.h; its place isn't in them.
     pub fn text(self) -> &'static str {
         match self {
-            Refusal::Sizes => "more than 1,000,000 vertices or elements, or an element list or E2e not in fours",
-            Refusal::Lengths => "a buffer's length doesn't fit n and m",
+            Refusal::Sizes => "more than 1,000,000 vertices or elements, or an element list not in fours",
+            Refusal::Lengths => {
+                "a buffer's length doesn't fit n, m and the columns, or the columns told aren't 0, 3 or 4"
+            }
             Refusal::CornerUnfit { .. } => "a corner is 0 (not the fourth) or above n",
             Refusal::CornerRepeated { .. } => "a corner comes twice in an element",
             Refusal::VertexUnused { .. } => "reserved: vertices that belong to no element are accepted",

@@ -1,6 +1,6 @@
 //! An element list with its tables, owned.
 
-use crate::{build, work_length, Counts, HalfEdge, Mesh, Refusal, VertexKind, Walker, MAX_ELEMENTS, MAX_VERTICES};
+use crate::{build, columns, work_length, Counts, HalfEdge, Mesh, Refusal, VertexKind, Walker};
 
 /// An element list and the tables that were built of it. Whatever is asked of them, the only refusal is
 /// [`Refusal::NotThere`].
@@ -10,7 +10,7 @@ use crate::{build, work_length, Counts, HalfEdge, Mesh, Refusal, VertexKind, Wal
 ///
 /// let tables = Tables::build(4, &[[1, 2, 3, 0], [1, 3, 4, 0]])?;
 /// assert_eq!((tables.counts().borders, tables.counts().edges), (4, 5));
-/// assert_eq!(tables.mesh().v2e, [32, 8, 16, 24]);
+/// assert_eq!(tables.mesh().v2e(), [32, 8, 16, 24]);
 /// assert_eq!(tables.opposite(HalfEdge::side(1, 3))?, HalfEdge::side(2, 1));
 /// assert_eq!(tables.ring(1)?, [2, 1]);
 /// assert_eq!(tables.neighbours(1)?, [4, 3, 2]);
@@ -19,6 +19,7 @@ use crate::{build, work_length, Counts, HalfEdge, Mesh, Refusal, VertexKind, Wal
 #[derive(Clone, Debug, PartialEq, Eq)]
 pub struct Tables {
     n: u32,
+    columns: u32,
     rows: Vec<[u32; 4]>,
     v2e: Vec<u32>,
     e2e: Vec<u32>,
@@ -34,24 +35,22 @@ impl Tables {
     ///
     /// Refusals 1, 3, 4 and 6 to 8, where these rows are no mesh.
     pub fn build(n: u32, rows: &[[u32; 4]]) -> Result<Tables, Refusal> {
+        // Numbers over their maximum are refused here, before memory is taken for them.
+        let columns = columns(n, rows.as_flattened())?;
         let m = rows.len();
-        // Refused here, before memory is taken for them.
-        if n > MAX_VERTICES || m > MAX_ELEMENTS as usize {
-            return Err(Refusal::Sizes);
-        }
         let mut v2e = vec![0; n as usize];
-        let mut e2e = vec![0; 4 * m];
+        let mut e2e = vec![0; columns as usize * m];
         // Each border half-edge leaves a vertex of its own and lies opposite a side of its own.
         let mut b2e = vec![0; (n as usize).min(4 * m)];
         let mut work = vec![0; work_length(n, m)];
         let counts = build(n, rows.as_flattened(), &mut v2e, &mut e2e, &mut b2e, &mut work)?;
         b2e.truncate(counts.borders as usize);
-        Ok(Tables { n, rows: rows.to_vec(), v2e, e2e, b2e, counts })
+        Ok(Tables { n, columns, rows: rows.to_vec(), v2e, e2e, b2e, counts })
     }
 
     /// The list and its tables, lent.
     pub fn mesh(&self) -> Mesh<'_> {
-        Mesh { n: self.n, elements: self.rows.as_flattened(), v2e: &self.v2e, e2e: &self.e2e, b2e: &self.b2e }
+        Mesh::fit(self.n, self.columns, self.rows.as_flattened(), &self.v2e, &self.e2e, &self.b2e)
     }
 
     /// k and the number of edges.

@@ -1,20 +1,28 @@
-//! What the wrapper adds to the archive: refusals by name, a walk that ends after a refusal, tables that are owned,
-//! lists as vectors, kinds of vertices, and half-edges. The values are those of the worked cases that docs/TRACE.md
+//! What the wrapper adds to the archive: refusals by name, a mesh whose columns are looked up once, a walk that ends
+//! after a refusal, tables that are owned, lists as vectors, kinds of vertices, and half-edges. The values are those of the worked cases that docs/TRACE.md
 //! quotes, or worked out by hand.
 
 use borzhanu::{
-    build, recover, work_length, Counts, HalfEdge, Mesh, Refusal, Tables, VertexKind, WalkerRecord, MAX_BORDERS,
-    MAX_ELEMENTS, MAX_VERTICES,
+    build, columns, recover, work_length, Counts, HalfEdge, Mesh, Refusal, Tables, VertexKind, WalkerRecord,
+    MAX_BORDERS, MAX_ELEMENTS, MAX_VERTICES,
 };
 
 const LISTING: [[u32; 4]; 2] = [[1, 2, 3, 0], [1, 3, 4, 0]];
-const LISTING_E2E: [u32; 8] = [8, 16, 17, 0, 11, 24, 32, 0];
+const LISTING_V2E: [u32; 4] = [32, 8, 16, 24];
+const LISTING_E2E: [u32; 6] = [8, 16, 17, 11, 24, 32];
 const LISTING_B2E: [u32; 4] = [9, 10, 18, 19];
 const TETRAHEDRON: [[u32; 4]; 4] = [[1, 2, 3, 0], [1, 4, 2, 0], [2, 4, 3, 0], [3, 4, 1, 0]];
+/// A quadrilateral and a triangle on its third side.
+const MIXED: [[u32; 4]; 2] = [[1, 2, 3, 4], [4, 3, 5, 0]];
+const MIXED_V2E: [u32; 5] = [24, 8, 16, 40, 32];
+const MIXED_E2E: [u32; 8] = [8, 16, 17, 24, 11, 32, 40, 0];
+const MIXED_B2E: [u32; 5] = [9, 10, 12, 18, 19];
 
 fn built(n: u32, elements: &[u32], b2e_len: usize) -> Result<Counts, Refusal> {
-    let (mut v2e, mut e2e, mut b2e) = (vec![0; n as usize], vec![0; elements.len()], vec![0; b2e_len]);
-    let mut work = vec![0; work_length(n, elements.len() / 4)];
+    let m = elements.len() / 4;
+    let e2e_len = if elements.chunks(4).any(|row| row.get(3).is_some_and(|&v| v != 0)) { 4 * m } else { 3 * m };
+    let (mut v2e, mut e2e, mut b2e) = (vec![0; n as usize], vec![0; e2e_len], vec![0; b2e_len]);
+    let mut work = vec![0; work_length(n, m)];
     build(n, elements, &mut v2e, &mut e2e, &mut b2e, &mut work)
 }
 
@@ -44,11 +52,12 @@ fn each_refusal_of_build_has_its_name_and_place() {
 fn recovery_and_lists_refuse_by_name() {
     let v2e = [32, 8, 16, 16];
     let (mut elements, mut work) = ([7; 8], vec![0; work_length(4, 2)]);
-    assert_eq!(recover(4, &v2e, &LISTING_E2E, &mut elements, &mut work), Err(Refusal::NoList));
-    assert_eq!(recover(4, &v2e, &LISTING_E2E, &mut elements, &mut work[1..]), Err(Refusal::Lengths));
+    assert_eq!(recover(4, 2, &v2e, &LISTING_E2E, &mut elements, &mut work), Err(Refusal::NoList));
+    assert_eq!(recover(4, 2, &v2e, &LISTING_E2E, &mut elements, &mut work[1..]), Err(Refusal::Lengths));
+    assert_eq!(recover(4, MAX_ELEMENTS + 1, &v2e, &LISTING_E2E, &mut elements, &mut work), Err(Refusal::Sizes));
     assert_eq!(elements, [7; 8]);
 
-    let mesh = Mesh { n: 3, elements: &[1, 2, 3, 0], v2e: &[24, 8, 16], e2e: &[8, 16, 24, 0], b2e: &[9, 10, 11] };
+    let mesh = Mesh::new(3, &[1, 2, 3, 0], &[24, 8, 16], &[8, 16, 24], &[9, 10, 11]).expect("the lengths are fit");
     assert_eq!(mesh.border_loop(1, &mut []), Err(Refusal::OutputShort { needed: 3 }));
     assert_eq!(mesh.ring(4, &mut []), Err(Refusal::NotThere));
     assert_eq!(mesh.element(8).map_err(|refusal| refusal.to_string()), Err(Refusal::NotThere.to_string()));
@@ -58,10 +67,78 @@ fn recovery_and_lists_refuse_by_name() {
 }
 
 #[test]
+fn columns_are_those_of_the_widest_element() {
+    let of = |rows: &[[u32; 4]]| columns(9, rows.as_flattened());
+    assert_eq!((of(&[]), of(&LISTING), of(&TETRAHEDRON)), (Ok(3), Ok(3), Ok(3)));
+    assert_eq!((of(&MIXED), of(&[[1, 2, 3, 0], [3, 4, 5, 6]])), (Ok(4), Ok(4)));
+    // Whether build accepts the rows isn't asked.
+    assert_eq!((of(&[[0, 0, 0, 0]]), of(&[[0, 0, 0, u32::MAX]])), (Ok(3), Ok(4)));
+    assert_eq!(columns(MAX_VERTICES, &[]), Ok(3));
+    assert_eq!(columns(MAX_VERTICES + 1, &[]), Err(Refusal::Sizes));
+    assert_eq!(columns(4, &[1, 2, 3, 0, 1]), Err(Refusal::Sizes));
+    assert_eq!(columns(4, &vec![1; 4 * MAX_ELEMENTS as usize + 4]), Err(Refusal::Sizes));
+}
+
+#[test]
+fn a_mesh_of_unfit_lengths_is_refused() {
+    let (triangles, mixed) = (LISTING.as_flattened(), MIXED.as_flattened());
+    let listing = |n, v2e: &[u32], e2e: &[u32], b2e: &[u32]| Mesh::new(n, triangles, v2e, e2e, b2e).map(|_| ()).err();
+    assert_eq!(listing(4, &LISTING_V2E, &LISTING_E2E, &LISTING_B2E), None);
+    // Any content will do.
+    assert_eq!(listing(4, &[7; 4], &[7; 6], &[7; 8]), None);
+    for e2e_len in [0, 5, 7, 8] {
+        assert_eq!(listing(4, &LISTING_V2E, &vec![0; e2e_len], &LISTING_B2E), Some(Refusal::Lengths));
+    }
+    assert_eq!(listing(4, &[7; 3], &[7; 6], &[]), Some(Refusal::Lengths));
+    assert_eq!(listing(5, &[7; 4], &[7; 6], &[]), Some(Refusal::Lengths));
+    assert_eq!(listing(4, &[7; 4], &[7; 6], &[7; 9]), Some(Refusal::Lengths));
+    assert_eq!(listing(MAX_VERTICES + 1, &[], &[], &[]), Some(Refusal::Sizes));
+
+    assert_eq!(Mesh::new(5, mixed, &MIXED_V2E, &MIXED_E2E, &MIXED_B2E).map(|mesh| mesh.columns()), Ok(4));
+    assert_eq!(Mesh::new(5, mixed, &MIXED_V2E, &MIXED_E2E[..6], &MIXED_B2E).map(|_| ()), Err(Refusal::Lengths));
+    assert_eq!(Mesh::new(5, &mixed[..7], &MIXED_V2E, &[], &[]).map(|_| ()), Err(Refusal::Sizes));
+    assert_eq!(Mesh::new(0, &[], &[], &[], &[]).map(|mesh| mesh.columns()), Ok(3));
+}
+
+#[test]
+fn a_quadrilateral_makes_four_columns() {
+    let tables = Tables::build(5, &MIXED).expect("a quadrilateral and a triangle are accepted");
+    let mesh = tables.mesh();
+    assert_eq!((mesh.columns(), mesh.v2e(), mesh.e2e()), (4, &MIXED_V2E[..], &MIXED_E2E[..]));
+    assert_eq!(mesh.b2e(), MIXED_B2E);
+    assert_eq!((tables.ring(3), tables.ring(4)), (Ok(vec![1, 2]), Ok(vec![2, 1])));
+    assert_eq!(tables.opposite(HalfEdge::side(2, 1)), Ok(HalfEdge::side(1, 3)));
+    assert_eq!(tables.opposite(HalfEdge::side(2, 3)), Ok(HalfEdge::border(5)));
+}
+
+#[test]
+fn recovery_by_either_length_of_e2e() {
+    let recovered = |n: u32, m: u32, v2e: &[u32], e2e: &[u32]| {
+        let (mut rows, mut work) = (vec![[7; 4]; m as usize], vec![7; work_length(n, m as usize)]);
+        let answer = recover(n, m, v2e, e2e, rows.as_flattened_mut(), &mut work);
+        answer.map(|()| rows)
+    };
+    assert_eq!(recovered(4, 2, &LISTING_V2E, &LISTING_E2E), Ok(LISTING.to_vec()));
+    assert_eq!(recovered(5, 2, &MIXED_V2E, &MIXED_E2E), Ok(MIXED.to_vec()));
+    // Triangles in four columns, and four columns cut to three.
+    assert_eq!(recovered(4, 2, &LISTING_V2E, &[8, 16, 17, 0, 11, 24, 32, 0]), Err(Refusal::NoList));
+    assert_eq!(recovered(5, 2, &MIXED_V2E, &[8, 16, 17, 11, 32, 40]), Err(Refusal::NoList));
+    assert_eq!(recovered(4, 2, &LISTING_V2E, &[8; 7]), Err(Refusal::Lengths));
+
+    // Four triangles apart and three quadrilaterals apart have both tables in common.
+    let borders: Vec<u32> = (1..=12).map(borzhanu::border).collect();
+    let triangles = [[3, 1, 2, 0], [6, 4, 5, 0], [9, 7, 8, 0], [12, 10, 11, 0]];
+    let quadrilaterals = [[4, 1, 2, 3], [8, 5, 6, 7], [12, 9, 10, 11]];
+    assert_eq!(recovered(12, 4, &borders, &borders), Ok(triangles.to_vec()));
+    assert_eq!(recovered(12, 3, &borders, &borders), Ok(quadrilaterals.to_vec()));
+    assert_eq!(recovered(12, 2, &borders, &borders), Err(Refusal::Lengths));
+}
+
+#[test]
 fn a_walk_ends_after_a_refusal() {
     // The second triangle's entry for the first names no half-edge.
-    let e2e = [8, 16, 17, 0, 99, 24, 32, 0];
-    let mesh = Mesh { n: 4, elements: LISTING.as_flattened(), v2e: &[32, 8, 16, 24], e2e: &e2e, b2e: &LISTING_B2E };
+    let e2e = [8, 16, 17, 99, 24, 32];
+    let mesh = Mesh::new(4, LISTING.as_flattened(), &LISTING_V2E, &e2e, &LISTING_B2E).expect("the lengths are fit");
     let mut walk = mesh.walk(1).expect("the start is sound");
     assert_eq!(walk.next(), Some(Err(Refusal::TableBroken)));
     assert_eq!(walk.next(), None);
@@ -73,10 +150,10 @@ fn tables_of_the_listing() {
     let tables = Tables::build(4, &LISTING).expect("the listing is accepted");
     let mesh = tables.mesh();
     assert_eq!(tables.counts(), Counts { borders: 4, edges: 5 });
-    assert_eq!((mesh.n, mesh.elements), (4, LISTING.as_flattened()));
-    assert_eq!(mesh.v2e, [32, 8, 16, 24]);
-    assert_eq!(mesh.e2e, LISTING_E2E);
-    assert_eq!(mesh.b2e, LISTING_B2E);
+    assert_eq!((mesh.n(), mesh.columns(), mesh.elements()), (4, 3, LISTING.as_flattened()));
+    assert_eq!(mesh.v2e(), LISTING_V2E);
+    assert_eq!(mesh.e2e(), LISTING_E2E);
+    assert_eq!(mesh.b2e(), LISTING_B2E);
     assert_eq!(tables.ring(1), Ok(vec![2, 1]));
     assert_eq!(tables.neighbours(1), Ok(vec![4, 3, 2]));
     assert_eq!(tables.border_loop(1), Ok(vec![1, 4, 3, 2]));
@@ -110,9 +187,9 @@ fn tables_without_a_border() {
     let tables = Tables::build(4, &TETRAHEDRON).expect("the tetrahedron is accepted");
     let mesh = tables.mesh();
     assert_eq!(tables.counts(), Counts { borders: 0, edges: 6 });
-    assert_eq!(mesh.v2e, [9, 10, 11, 18]);
-    assert_eq!(mesh.e2e[..4], [19, 27, 35, 0]);
-    assert!(mesh.b2e.is_empty());
+    assert_eq!(mesh.v2e(), [9, 10, 11, 18]);
+    assert_eq!(mesh.e2e()[..3], [19, 27, 35]);
+    assert!(mesh.b2e().is_empty());
     assert_eq!(tables.ring(1), Ok(vec![1, 2, 4]));
     assert_eq!(tables.vertex_kind(1), Ok(VertexKind::Inner));
 }
@@ -129,11 +206,11 @@ fn a_vertex_without_an_element() {
     let tables = Tables::build(1, &[]).expect("a vertex without an element is accepted");
     let mesh = tables.mesh();
     assert_eq!(tables.counts(), Counts { borders: 0, edges: 0 });
-    assert_eq!(mesh.v2e, [0]);
-    assert!(mesh.e2e.is_empty() && mesh.b2e.is_empty());
+    assert_eq!((mesh.v2e(), mesh.columns()), (&[0][..], 3));
+    assert!(mesh.e2e().is_empty() && mesh.b2e().is_empty());
     assert_unused(&tables, 1);
     assert_eq!(tables.vertex_kind(2), Err(Refusal::NotThere));
-    assert_eq!(recover(1, mesh.v2e, mesh.e2e, &mut [], &mut [7]), Ok(()));
+    assert_eq!(recover(1, 0, mesh.v2e(), mesh.e2e(), &mut [], &mut [7]), Ok(()));
 }
 
 #[test]
@@ -141,9 +218,9 @@ fn the_listing_with_unused_vertices() {
     let tables = Tables::build(5, &LISTING).expect("an unused vertex is accepted");
     let mesh = tables.mesh();
     assert_eq!(tables.counts(), Counts { borders: 4, edges: 5 });
-    assert_eq!(mesh.v2e, [32, 8, 16, 24, 0]);
-    assert_eq!(mesh.e2e, LISTING_E2E);
-    assert_eq!(mesh.b2e, LISTING_B2E);
+    assert_eq!(mesh.v2e(), [32, 8, 16, 24, 0]);
+    assert_eq!(mesh.e2e(), LISTING_E2E);
+    assert_eq!(mesh.b2e(), LISTING_B2E);
     for v in 1..=4 {
         assert_eq!(tables.vertex_kind(v), Ok(VertexKind::Rim));
     }
@@ -152,7 +229,7 @@ fn the_listing_with_unused_vertices() {
 
     // In front and in the middle: vertex 2 of the listing is now 3, 3 is 5 and 4 is 6.
     let tables = Tables::build(6, &[[2, 3, 5, 0], [2, 5, 6, 0]]).expect("unused vertices are accepted");
-    assert_eq!(tables.mesh().v2e, [0, 32, 8, 0, 16, 24]);
+    assert_eq!(tables.mesh().v2e(), [0, 32, 8, 0, 16, 24]);
     assert_eq!((tables.ring(2), tables.neighbours(2)), (Ok(vec![2, 1]), Ok(vec![6, 5, 3])));
     assert_unused(&tables, 1);
     assert_unused(&tables, 4);
@@ -162,7 +239,7 @@ fn the_listing_with_unused_vertices() {
 fn recovery_with_unused_vertices() {
     let recovered = |v2e: &[u32]| {
         let (mut elements, mut work) = ([[7; 4]; 2], vec![7; work_length(v2e.len() as u32, 2)]);
-        let answer = recover(v2e.len() as u32, v2e, &LISTING_E2E, elements.as_flattened_mut(), &mut work);
+        let answer = recover(v2e.len() as u32, 2, v2e, &LISTING_E2E, elements.as_flattened_mut(), &mut work);
         assert!(work.iter().all(|&entry| entry == 0));
         (answer, elements)
     };
@@ -176,10 +253,14 @@ fn recovery_with_unused_vertices() {
     }
 }
 
+/// The listing with another V2e.
+fn listing_entered(v2e: &[u32]) -> Mesh<'_> {
+    Mesh::new(4, LISTING.as_flattened(), v2e, &LISTING_E2E, &LISTING_B2E).expect("the lengths are fit")
+}
+
 #[test]
 fn entry_0_is_believed_where_a_query_begins() {
-    let elements = LISTING.as_flattened();
-    let mesh = Mesh { n: 4, elements, v2e: &[0, 8, 16, 24], e2e: &LISTING_E2E, b2e: &LISTING_B2E };
+    let mesh = listing_entered(&[0, 8, 16, 24]);
     assert_eq!(mesh.vertex_kind(1), Ok(VertexKind::Unused));
     let mut out = [7; 3];
     assert_eq!((mesh.ring(1, &mut out), mesh.neighbours(1, &mut out), out), (Ok(0), Ok(0), [7; 3]));
@@ -199,7 +280,8 @@ fn entry_0_is_believed_where_a_query_begins() {
 
     // Other entries that name nothing: a fourth side of a triangle, a third element, a fifth border.
     for entry in [12, 25, 40] {
-        let broken = Mesh { v2e: &[entry, 8, 16, 24], ..mesh };
+        let v2e = [entry, 8, 16, 24];
+        let broken = listing_entered(&v2e);
         assert_eq!(broken.vertex_kind(1), Err(Refusal::TableBroken));
         assert_eq!(broken.ring(1, &mut out), Err(Refusal::TableBroken));
         assert_eq!(broken.neighbours(1, &mut out), Err(Refusal::TableBroken));
@@ -212,20 +294,20 @@ fn a_million_vertices_and_hardly_an_element() {
     let most = MAX_VERTICES;
     let nothing = Tables::build(most, &[]).expect("vertices without an element are accepted");
     assert_eq!(nothing.counts(), Counts { borders: 0, edges: 0 });
-    assert!(nothing.mesh().v2e.iter().all(|&entry| entry == 0));
+    assert!(nothing.mesh().v2e().iter().all(|&entry| entry == 0));
     assert_unused(&nothing, most);
 
     let one = Tables::build(most, &[[most, 1, most / 2, 0]]).expect("one triangle is accepted");
     let mesh = one.mesh();
     assert_eq!(one.counts(), Counts { borders: 3, edges: 3 });
-    assert_eq!((mesh.e2e, mesh.b2e), (&[8, 16, 24, 0][..], &[9, 10, 11][..]));
-    let used: Vec<(u32, u32)> = (1..).zip(mesh.v2e.iter().copied()).filter(|&(_, entry)| entry != 0).collect();
+    assert_eq!((mesh.e2e(), mesh.b2e()), (&[8, 16, 24][..], &[9, 10, 11][..]));
+    let used: Vec<(u32, u32)> = (1..).zip(mesh.v2e().iter().copied()).filter(|&(_, entry)| entry != 0).collect();
     assert_eq!(used, [(1, 8), (most / 2, 16), (most, 24)]);
     assert_eq!((one.ring(most), one.neighbours(most)), (Ok(vec![1]), Ok(vec![most / 2, 1])));
     assert_unused(&one, most - 1);
 
     let (mut elements, mut work) = ([7; 4], vec![7; work_length(most, 1)]);
-    assert_eq!(recover(most, mesh.v2e, mesh.e2e, &mut elements, &mut work), Ok(()));
+    assert_eq!(recover(most, 1, mesh.v2e(), mesh.e2e(), &mut elements, &mut work), Ok(()));
     assert_eq!(elements, [most, 1, most / 2, 0]);
     assert_eq!(Tables::build(most + 1, &[]), Err(Refusal::Sizes));
 }
@@ -235,8 +317,8 @@ fn tables_of_other_lists() {
     let nothing = Tables::build(0, &[]).expect("no vertices and no elements are accepted");
     assert_eq!(nothing.counts(), Counts { borders: 0, edges: 0 });
     let quadrilateral = Tables::build(4, &[[1, 2, 3, 4]]).expect("a quadrilateral is accepted");
-    assert_eq!(quadrilateral.mesh().e2e, [8, 16, 24, 32]);
-    assert_eq!(quadrilateral.mesh().b2e, [9, 10, 11, 12]);
+    assert_eq!(quadrilateral.mesh().e2e(), [8, 16, 24, 32]);
+    assert_eq!(quadrilateral.mesh().b2e(), [9, 10, 11, 12]);
 
     assert_eq!(Tables::build(2, &[[1, 2, 3, 0]]), Err(Refusal::CornerUnfit { element: 1, corner: 3 }));
     // A quadrilateral whose corners count from 0: refused, or read as a triangle.
