@@ -1,6 +1,7 @@
-//! What the two programs share: the kernel's rules once more, lists to try them on, and memory between pages that fault
-//! when touched.
+//! What the two programs share: the kernel's rules once more, lists to try them on, memory between pages that fault when
+//! touched, and the archive's queries without the wrapper.
 
 pub mod guarded;
 pub mod meshes;
+pub mod raw;
 pub mod reference;

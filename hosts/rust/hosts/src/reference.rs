@@ -19,18 +19,17 @@ pub struct Built {
     pub edges: u32,
 }
 
-/// The lengths of the buffers of a call, beside the one that says m.
+/// The lengths of the buffers of building and recovery.
 #[derive(Clone, Copy, Debug)]
 pub struct Lengths {
+    pub elements: usize,
     pub v2e: usize,
-    /// E2e in building, the element list in recovery.
-    pub rows: usize,
+    pub e2e: usize,
     pub b2e: usize,
     pub work: usize,
 }
 
-/// Rows of four, each of three or four sides: an element list, or an E2e, whose triangles also have 0 at the
-/// end.
+/// An element list: rows of four, the fourth entry 0 in a row of three sides.
 #[derive(Clone, Copy)]
 struct Rows<'a>(&'a [u32]);
 
@@ -46,8 +45,27 @@ impl Side {
         8 * self.f + self.i
     }
 
+    /// Where it stands in rows of so many columns.
+    fn place(self, columns: u32) -> usize {
+        (columns * (self.f - 1) + self.i - 1) as usize
+    }
+
     fn slot(self) -> usize {
-        (4 * self.f + self.i) as usize - 5
+        self.place(4)
+    }
+}
+
+/// E2e in so many columns.
+#[derive(Clone, Copy)]
+struct Opposites<'a> {
+    columns: u32,
+    entries: &'a [u32],
+}
+
+impl Opposites<'_> {
+    /// The entry of a side; none for a fourth side in three columns.
+    fn entry(self, s: Side) -> Option<u32> {
+        (s.i <= self.columns).then(|| self.entries[s.place(self.columns)])
     }
 }
 
@@ -93,19 +111,45 @@ impl<'a> Rows<'a> {
     }
 }
 
-fn check_sizes(n: u32, tells: usize, other: usize) -> Result<(), Refused> {
-    if n > MAX_VERTICES || tells / 4 > MAX_ELEMENTS || tells % 4 != 0 || other % 4 != 0 {
+/// The columns of E2e for an element list: only whole rows count.
+pub fn columns_of(elements: &[u32]) -> u32 {
+    let is_quadrilateral = |row: &[u32]| row[3] != 0;
+    if elements.chunks_exact(4).any(is_quadrilateral) {
+        4
+    } else {
+        3
+    }
+}
+
+fn check_sizes(n: u32, m: usize, elements: usize) -> Result<(), Refused> {
+    if n > MAX_VERTICES || m > MAX_ELEMENTS || elements % 4 != 0 {
         return Err((1, 0, 0));
     }
     Ok(())
 }
 
-fn check_lengths(n: u32, tells: usize, lengths: Lengths) -> Result<(), Refused> {
-    check_sizes(n, tells, lengths.rows)?;
-    if lengths.v2e != n as usize || lengths.rows != tells || lengths.work < n as usize + 4 * tells {
-        return Err((2, 0, 0));
-    }
-    Ok(())
+pub fn columns(n: u32, elements: &[u32]) -> Result<u32, Refused> {
+    check_sizes(n, elements.len() / 4, elements.len())?;
+    Ok(columns_of(elements))
+}
+
+/// Checks 1 and 2 of building.
+pub fn check_build(n: u32, elements: &[u32], lengths: Lengths) -> Result<(), Refused> {
+    let columns = columns(n, elements)? as usize;
+    let (n, m) = (n as usize, elements.len() / 4);
+    let fit = lengths.v2e == n && lengths.e2e == columns * m && lengths.work >= n + 16 * m;
+    fit.then_some(()).ok_or(UNFIT)
+}
+
+/// Checks 1 and 2 of recovery.
+pub fn check_recovery(n: u32, m: u32, lengths: Lengths) -> Result<(), Refused> {
+    let (vertices, m) = (n as usize, m as usize);
+    check_sizes(n, m, lengths.elements)?;
+    let fit = lengths.v2e == vertices
+        && (lengths.e2e == 3 * m || lengths.e2e == 4 * m)
+        && lengths.elements == 4 * m
+        && lengths.work >= vertices + 16 * m;
+    fit.then_some(()).ok_or(UNFIT)
 }
 
 fn check_corners(n: u32, elements: &[u32]) -> Result<(), Refused> {
@@ -191,10 +235,12 @@ fn has_turn_order(rows: Rows, partners: &[Option<Side>], sides: &[Side]) -> bool
 }
 
 fn tables_of(rows: Rows, partners: &[Option<Side>], by_origin: &[Vec<Side>]) -> Built {
-    let mut built = Built { v2e: Vec::new(), e2e: vec![0; rows.0.len()], b2e: Vec::new(), edges: 0 };
+    let columns = columns_of(rows.0);
+    let e2e = vec![0; (columns * rows.elements()) as usize];
+    let mut built = Built { v2e: Vec::new(), e2e, b2e: Vec::new(), edges: 0 };
     built.v2e.extend(by_origin.iter().map(|sides| sides.first().map_or(0, |s| s.code())));
     for s in rows.sides() {
-        built.e2e[s.slot()] = match partners[s.slot()] {
+        built.e2e[s.place(columns)] = match partners[s.slot()] {
             Some(partner) => partner.code(),
             None => {
                 built.b2e.push(s.code());
@@ -221,17 +267,12 @@ fn tables(n: u32, elements: &[u32]) -> Result<Built, Refused> {
 }
 
 pub fn build(n: u32, elements: &[u32], lengths: Lengths) -> Result<Built, Refused> {
-    check_lengths(n, elements.len(), lengths)?;
+    check_build(n, elements, lengths)?;
     let built = tables(n, elements)?;
     if built.b2e.len() > lengths.b2e {
         return Err((9, built.b2e.len() as u32, 0));
     }
     Ok(built)
-}
-
-/// Whether a call with these lengths leaves its work buffer all zero.
-pub fn clears_work(n: u32, tells: usize, lengths: Lengths) -> bool {
-    check_lengths(n, tells, lengths).is_ok()
 }
 
 /// A side that begins at the vertex with this V2e entry; none for 0.
@@ -243,12 +284,15 @@ fn side_from(entry: u32, rows: Rows, borders: &[Side]) -> Option<Side> {
     borders.get(b as usize).map(|&s| rows.next(s))
 }
 
-/// The only list that can have these tables: each vertex spreads from its V2e entry over the sides that E2e
+/// The only list of m rows that can have these tables: each vertex spreads from its V2e entry over the sides that E2e
 /// ties to it, either way round.
-fn candidate(v2e: &[u32], e2e: &[u32]) -> Vec<u32> {
-    let rows = Rows(e2e);
-    let borders: Vec<Side> = rows.sides().filter(|s| e2e[s.slot()] % 8 == 0).collect();
-    let mut list = vec![0; e2e.len()];
+fn candidate(m: u32, v2e: &[u32], e2e: Opposites) -> Vec<u32> {
+    // Triangles and quadrilaterals as E2e has them; their corners aren't known yet.
+    let kinds: Vec<u32> = (1..=m).flat_map(|f| [1, 1, 1, e2e.entry(Side { f, i: 4 }).unwrap_or(0)]).collect();
+    let rows = Rows(&kinds);
+    let partner = |s: Side| e2e.entry(s).and_then(|code| rows.side(code));
+    let borders: Vec<Side> = rows.sides().filter(|&s| e2e.entry(s).is_some_and(|code| code % 8 == 0)).collect();
+    let mut list = vec![0; kinds.len()];
     for (v, &entry) in (1..).zip(v2e) {
         let mut open: Vec<Side> = side_from(entry, rows, &borders).into_iter().collect();
         while let Some(s) = open.pop() {
@@ -256,22 +300,24 @@ fn candidate(v2e: &[u32], e2e: &[u32]) -> Vec<u32> {
                 continue;
             }
             list[s.slot()] = v;
-            open.extend(rows.side(e2e[s.slot()]).map(|partner| rows.next(partner)));
-            open.extend(rows.side(e2e[rows.previous(s).slot()]));
+            open.extend(partner(s).map(|partner| rows.next(partner)));
+            open.extend(partner(rows.previous(s)));
         }
     }
     list
 }
 
-pub fn recover(n: u32, v2e: &[u32], e2e: &[u32], lengths: Lengths) -> Result<Vec<u32>, Refused> {
-    check_lengths(n, e2e.len(), lengths)?;
-    let list = candidate(v2e, e2e);
+pub fn recover(n: u32, m: u32, v2e: &[u32], e2e: &[u32], lengths: Lengths) -> Result<Vec<u32>, Refused> {
+    check_recovery(n, m, lengths)?;
+    let columns = if e2e.len() == 4 * m as usize { 4 } else { 3 };
+    let list = candidate(m, v2e, Opposites { columns, entries: e2e });
     match tables(n, &list) {
         Ok(built) if built.v2e == v2e && built.e2e == e2e => Ok(list),
         _ => Err((10, 0, 0)),
     }
 }
 
+const UNFIT: Refused = (2, 0, 0);
 const NOT_THERE: Refused = (11, 0, 0);
 const BROKEN: Refused = (12, 0, 0);
 
@@ -282,51 +328,75 @@ enum HalfEdge {
     Border(u32),
 }
 
-/// The tables that a query is asked on, of any content.
+impl HalfEdge {
+    fn code(self) -> u32 {
+        match self {
+            HalfEdge::Side(s) => s.code(),
+            HalfEdge::Border(b) => 8 * b,
+        }
+    }
+}
+
+/// What a query is given, of any length and content.
 #[derive(Clone, Copy, Debug)]
 pub struct View<'a> {
     pub n: u32,
+    /// The columns that the query is told.
+    pub told: u32,
     pub elements: &'a [u32],
     pub v2e: &'a [u32],
     pub e2e: &'a [u32],
     pub b2e: &'a [u32],
 }
 
+impl<'a> View<'a> {
+    /// Checks 1 and 2, and the tables as the query then reads them.
+    pub fn fit(&self) -> Result<Mesh<'a>, Refused> {
+        let (n, m) = (self.n as usize, self.elements.len() / 4);
+        check_sizes(self.n, m, self.elements.len())?;
+        let columns = match self.told {
+            0 => columns_of(self.elements),
+            3 | 4 => self.told,
+            _ => return Err(UNFIT),
+        };
+        if self.v2e.len() != n || self.e2e.len() != columns as usize * m || self.b2e.len() > 4 * m {
+            return Err(UNFIT);
+        }
+        let e2e = Opposites { columns, entries: self.e2e };
+        Ok(Mesh { n: self.n, rows: Rows(self.elements), v2e: self.v2e, e2e, b2e: self.b2e })
+    }
+}
+
+/// Tables of fit lengths and any content.
+#[derive(Clone, Copy)]
+pub struct Mesh<'a> {
+    n: u32,
+    rows: Rows<'a>,
+    v2e: &'a [u32],
+    e2e: Opposites<'a>,
+    b2e: &'a [u32],
+}
+
 /// start side, next side, count
 pub type Record = (u32, u32, u32);
 
-impl<'a> View<'a> {
-    fn rows(&self) -> Rows<'a> {
-        Rows(self.elements)
-    }
-
-    fn check(&self) -> Result<(), Refused> {
-        check_sizes(self.n, self.elements.len(), self.e2e.len())?;
-        let fit = self.v2e.len() == self.n as usize
-            && self.e2e.len() == self.elements.len()
-            && self.b2e.len() <= self.elements.len();
-        fit.then_some(()).ok_or((2, 0, 0))
-    }
-
+impl Mesh<'_> {
     fn half_edge(&self, code: u32) -> Option<HalfEdge> {
         if code % 8 != 0 {
-            return self.rows().side(code).map(HalfEdge::Side);
+            return self.rows.side(code).map(HalfEdge::Side);
         }
         (1..=self.b2e.len()).contains(&(code as usize / 8)).then_some(HalfEdge::Border(code / 8))
     }
 
     fn asked_half_edge(&self, code: u32) -> Result<HalfEdge, Refused> {
-        self.check()?;
         self.half_edge(code).ok_or(NOT_THERE)
     }
 
     fn asked_side(&self, code: u32) -> Result<Side, Refused> {
-        self.check()?;
-        self.rows().side(code).ok_or(NOT_THERE)
+        self.rows.side(code).ok_or(NOT_THERE)
     }
 
     fn asked_vertex(&self, v: u32) -> Result<u32, Refused> {
-        self.check()?;
         self.vertex(v).ok_or(NOT_THERE)
     }
 
@@ -335,11 +405,11 @@ impl<'a> View<'a> {
     }
 
     fn read_e2e(&self, s: Side) -> Result<HalfEdge, Refused> {
-        self.half_edge(self.e2e[s.slot()]).ok_or(BROKEN)
+        self.e2e.entry(s).and_then(|code| self.half_edge(code)).ok_or(BROKEN)
     }
 
     fn read_b2e(&self, b: u32) -> Result<Side, Refused> {
-        self.rows().side(self.b2e[b as usize - 1]).ok_or(BROKEN)
+        self.rows.side(self.b2e[b as usize - 1]).ok_or(BROKEN)
     }
 
     /// None for an unused vertex.
@@ -351,11 +421,11 @@ impl<'a> View<'a> {
     }
 
     fn read_origin(&self, s: Side) -> Result<u32, Refused> {
-        self.vertex(self.rows().origin(s)).ok_or(BROKEN)
+        self.vertex(self.rows.origin(s)).ok_or(BROKEN)
     }
 
     fn read_destination(&self, s: Side) -> Result<u32, Refused> {
-        self.vertex(self.rows().destination(s)).ok_or(BROKEN)
+        self.vertex(self.rows.destination(s)).ok_or(BROKEN)
     }
 
     /// The border half-edge after b, by number.
@@ -370,19 +440,19 @@ impl<'a> View<'a> {
     pub fn opposite(&self, code: u32) -> Result<u32, Refused> {
         match self.asked_half_edge(code)? {
             HalfEdge::Border(b) => self.read_b2e(b).map(Side::code),
-            HalfEdge::Side(s) => self.read_e2e(s).map(|_| self.e2e[s.slot()]),
+            HalfEdge::Side(s) => self.read_e2e(s).map(HalfEdge::code),
         }
     }
 
     pub fn next(&self, code: u32) -> Result<u32, Refused> {
         match self.asked_half_edge(code)? {
             HalfEdge::Border(b) => self.next_border(b).map(|next| 8 * next),
-            HalfEdge::Side(s) => Ok(self.rows().next(s).code()),
+            HalfEdge::Side(s) => Ok(self.rows.next(s).code()),
         }
     }
 
     pub fn previous(&self, code: u32) -> Result<u32, Refused> {
-        self.asked_side(code).map(|s| self.rows().previous(s).code())
+        self.asked_side(code).map(|s| self.rows.previous(s).code())
     }
 
     pub fn element(&self, code: u32) -> Result<u32, Refused> {
@@ -427,7 +497,7 @@ impl<'a> View<'a> {
     /// None about an unused vertex.
     fn start_side(&self, v: u32) -> Result<Option<Side>, Refused> {
         match self.read_v2e(v)? {
-            Some(HalfEdge::Border(b)) => self.read_b2e(b).map(|s| Some(self.rows().next(s))),
+            Some(HalfEdge::Border(b)) => self.read_b2e(b).map(|s| Some(self.rows.next(s))),
             Some(HalfEdge::Side(s)) => Ok(Some(s)),
             None => Ok(None),
         }
@@ -437,7 +507,7 @@ impl<'a> View<'a> {
     fn onward(&self, start: Side, s: Side) -> Result<Option<Side>, Refused> {
         match self.read_e2e(s)? {
             HalfEdge::Border(_) => Ok(None),
-            HalfEdge::Side(partner) => Ok(Some(self.rows().next(partner)).filter(|&turn| turn != start)),
+            HalfEdge::Side(partner) => Ok(Some(self.rows.next(partner)).filter(|&turn| turn != start)),
         }
     }
 
@@ -446,7 +516,7 @@ impl<'a> View<'a> {
         let mut sides = vec![start];
         let mut last = start;
         while let Some(s) = self.onward(start, last)? {
-            if sides.len() == self.elements.len() / 4 {
+            if sides.len() == self.rows.elements() as usize {
                 return Err(BROKEN);
             }
             sides.push(s);
@@ -473,7 +543,6 @@ impl<'a> View<'a> {
     }
 
     pub fn border_loop(&self, b: u32) -> Result<Vec<u32>, Refused> {
-        self.check()?;
         if !(1..=self.b2e.len()).contains(&(b as usize)) {
             return Err(NOT_THERE);
         }
@@ -498,14 +567,13 @@ impl<'a> View<'a> {
 
     /// The element handed out, and the record afterwards.
     pub fn walker_step(&self, record: Record) -> Result<(u32, Record), Refused> {
-        self.check()?;
         let (start, next, count) = record;
         if next == 0 {
             return Ok((0, record));
         }
-        let start_side = self.rows().side(start).ok_or(BROKEN)?;
-        let s = self.rows().side(next).ok_or(BROKEN)?;
-        let m = self.rows().elements();
+        let start_side = self.rows.side(start).ok_or(BROKEN)?;
+        let s = self.rows.side(next).ok_or(BROKEN)?;
+        let m = self.rows.elements();
         if count >= m {
             return Err(BROKEN);
         }

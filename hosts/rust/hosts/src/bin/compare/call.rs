@@ -2,7 +2,9 @@
 
 use borzhanu::{Mesh, Refusal, VertexKind, WalkerRecord, MAX_ELEMENTS, MAX_VERTICES};
 use hosts::guarded::{Guarded, Placement};
+use hosts::raw::taken_apart;
 use hosts::reference::{self, Built, Lengths, Refused, View};
+use hosts::told;
 use std::process;
 use std::ptr;
 use std::sync::atomic::{AtomicPtr, Ordering};
@@ -16,7 +18,7 @@ const SIGSEGV: i32 = 11;
 const SIGALRM: i32 = 14;
 
 /// What a call is given: the contents of each buffer, and what it is asked.
-#[derive(Debug)]
+#[derive(Clone, Copy, Debug)]
 pub struct Call<'a> {
     pub what: Question,
     pub n: u32,
@@ -32,7 +34,22 @@ pub struct Call<'a> {
 #[derive(Clone, Copy, Debug)]
 pub enum Question {
     Build,
-    Recover,
+    /// told so many elements
+    Recover(u32),
+    Columns,
+    Query(Way, Query),
+}
+
+/// A query goes through the wrapper, or straight to the archive, told so many columns.
+#[derive(Clone, Copy, Debug)]
+pub enum Way {
+    Wrapper,
+    Told(u32),
+}
+
+/// A query and its own numbers.
+#[derive(Clone, Copy, Debug)]
+pub enum Query {
     Opposite(u32),
     Next(u32),
     Previous(u32),
@@ -120,17 +137,22 @@ extern "C" fn on_fault(number: i32) {
 }
 
 impl Call<'_> {
-    fn view(&self) -> View<'_> {
-        View { n: self.n, elements: self.elements, v2e: self.v2e, e2e: self.e2e, b2e: self.b2e }
+    fn view(&self, told: u32) -> View<'_> {
+        View { n: self.n, told, elements: self.elements, v2e: self.v2e, e2e: self.e2e, b2e: self.b2e }
     }
 
     fn lengths(&self) -> Lengths {
-        let rows = if matches!(self.what, Question::Recover) { self.elements.len() } else { self.e2e.len() };
-        Lengths { v2e: self.v2e.len(), rows, b2e: self.b2e.len(), work: self.work.len() }
+        Lengths {
+            elements: self.elements.len(),
+            v2e: self.v2e.len(),
+            e2e: self.e2e.len(),
+            b2e: self.b2e.len(),
+            work: self.work.len(),
+        }
     }
 
     fn expected_build(&self) -> Outcome {
-        let work_cleared = reference::clears_work(self.n, self.elements.len(), self.lengths());
+        let work_cleared = reference::check_build(self.n, self.elements, self.lengths()).is_ok();
         match reference::build(self.n, self.elements, self.lengths()) {
             Ok(Built { v2e, e2e, b2e, edges }) => Outcome {
                 answer: Ok((b2e.len() as u32, edges)),
@@ -140,9 +162,9 @@ impl Call<'_> {
         }
     }
 
-    fn expected_recovery(&self) -> Outcome {
-        let work_cleared = reference::clears_work(self.n, self.e2e.len(), self.lengths());
-        let recovered = reference::recover(self.n, self.v2e, self.e2e, self.lengths());
+    fn expected_recovery(&self, m: u32) -> Outcome {
+        let work_cleared = reference::check_recovery(self.n, m, self.lengths()).is_ok();
+        let recovered = reference::recover(self.n, m, self.v2e, self.e2e, self.lengths());
         Outcome {
             answer: recovered.as_ref().map(|_| (0, 0)).map_err(|refused| *refused),
             left: Left { elements: recovered.ok(), work_cleared, ..Left::default() },
@@ -159,25 +181,37 @@ impl Call<'_> {
         }
     }
 
+    fn expected_query(&self, told: u32, query: Query) -> Outcome {
+        let mesh = match self.view(told).fit() {
+            Ok(mesh) => mesh,
+            Err(refused) => return refuses(refused),
+        };
+        match query {
+            Query::Opposite(code) => one_number(mesh.opposite(code)),
+            Query::Next(code) => one_number(mesh.next(code)),
+            Query::Previous(code) => one_number(mesh.previous(code)),
+            Query::Element(code) => one_number(mesh.element(code)),
+            Query::Origin(code) => one_number(mesh.origin(code)),
+            Query::Destination(code) => one_number(mesh.destination(code)),
+            Query::Across(code) => one_number(mesh.across(code)),
+            Query::HalfedgeIsBorder(code) => one_number(mesh.halfedge_is_border(code)),
+            Query::VertexKind(v) => one_number(mesh.vertex_kind(v)),
+            Query::Ring(v) => self.expected_list(mesh.ring(v)),
+            Query::Neighbours(v) => self.expected_list(mesh.neighbours(v)),
+            Query::BorderLoop(b) => self.expected_list(mesh.border_loop(b)),
+            Query::Start(v, _) => moved(mesh.walker_start(v).map(|record| (0, record))),
+            Query::Step(record) => moved(mesh.walker_step((record.start, record.next, record.count))),
+        }
+    }
+
     pub fn expected(&self) -> Outcome {
-        let view = self.view();
         match self.what {
             Question::Build => self.expected_build(),
-            Question::Recover => self.expected_recovery(),
-            Question::Opposite(code) => one_number(view.opposite(code)),
-            Question::Next(code) => one_number(view.next(code)),
-            Question::Previous(code) => one_number(view.previous(code)),
-            Question::Element(code) => one_number(view.element(code)),
-            Question::Origin(code) => one_number(view.origin(code)),
-            Question::Destination(code) => one_number(view.destination(code)),
-            Question::Across(code) => one_number(view.across(code)),
-            Question::HalfedgeIsBorder(code) => one_number(view.halfedge_is_border(code)),
-            Question::VertexKind(v) => one_number(view.vertex_kind(v)),
-            Question::Ring(v) => self.expected_list(view.ring(v)),
-            Question::Neighbours(v) => self.expected_list(view.neighbours(v)),
-            Question::BorderLoop(b) => self.expected_list(view.border_loop(b)),
-            Question::Start(v, _) => moved(view.walker_start(v).map(|record| (0, record))),
-            Question::Step(record) => moved(view.walker_step((record.start, record.next, record.count))),
+            Question::Recover(m) => self.expected_recovery(m),
+            Question::Columns => one_number(reference::columns(self.n, self.elements)),
+            // The wrapper's answer is that of the rule, which looks at the list.
+            Question::Query(Way::Wrapper, query) => self.expected_query(0, query),
+            Question::Query(Way::Told(columns), query) => self.expected_query(columns, query),
         }
     }
 }
@@ -246,7 +280,7 @@ impl Memory {
 
     pub fn hold(&mut self, call: &Call, placement: Placement) -> Held<'_> {
         let record = match call.what {
-            Question::Start(_, record) | Question::Step(record) => record,
+            Question::Query(_, Query::Start(_, record) | Query::Step(record)) => record,
             _ => WalkerRecord::default(),
         };
         Held {
@@ -261,36 +295,57 @@ impl Memory {
     }
 }
 
+fn refused(refusal: Refusal) -> Refused {
+    (refusal.number(), refusal.place().0, refusal.place().1)
+}
+
 impl Held<'_> {
-    /// Asks the kernel, through the wrapper.
-    pub fn ask(&mut self, call: &Call) -> Result<(u32, u32), Refusal> {
-        let record = self.record.as_mut_ptr() as *mut WalkerRecord;
-        // SAFETY: the record's memory holds its three numbers, and nothing else refers to it meanwhile.
-        let record = unsafe { &mut *record };
-        let mesh = Mesh { n: call.n, elements: self.elements, v2e: self.v2e, e2e: self.e2e, b2e: self.b2e };
-        let number = |answer: Result<u32, Refusal>| answer.map(|number| (number, 0));
-        let test = |answer: Result<bool, Refusal>| answer.map(|test| (test as u32, 0));
-        let count = |answer: Result<usize, Refusal>| answer.map(|count| (count as u32, 0));
+    /// Asks the kernel.
+    pub fn ask(&mut self, call: &Call) -> Result<(u32, u32), Refused> {
         match call.what {
             Question::Build => borzhanu::build(call.n, self.elements, self.v2e, self.e2e, self.b2e, self.work)
-                .map(|counts| (counts.borders, counts.edges)),
-            Question::Recover => {
-                borzhanu::recover(call.n, self.v2e, self.e2e, self.elements, self.work).map(|()| (0, 0))
-            }
-            Question::Opposite(code) => number(mesh.opposite(code)),
-            Question::Next(code) => number(mesh.next(code)),
-            Question::Previous(code) => number(mesh.previous(code)),
-            Question::Element(code) => number(mesh.element(code)),
-            Question::Origin(code) => number(mesh.origin(code)),
-            Question::Destination(code) => number(mesh.destination(code)),
-            Question::Across(code) => number(mesh.across(code)),
-            Question::HalfedgeIsBorder(code) => test(mesh.halfedge_is_border(code)),
-            Question::VertexKind(v) => number(mesh.vertex_kind(v).map(kind_number)),
-            Question::Ring(v) => count(mesh.ring(v, self.out)),
-            Question::Neighbours(v) => count(mesh.neighbours(v, self.out)),
-            Question::BorderLoop(b) => count(mesh.border_loop(b, self.out)),
-            Question::Start(v, _) => mesh.start(v, record).map(|()| (0, 0)),
-            Question::Step(_) => number(mesh.step(record)),
+                .map(|counts| (counts.borders, counts.edges))
+                .map_err(refused),
+            Question::Recover(m) => borzhanu::recover(call.n, m, self.v2e, self.e2e, self.elements, self.work)
+                .map(|()| (0, 0))
+                .map_err(refused),
+            Question::Columns => borzhanu::columns(call.n, self.elements).map(|columns| (columns, 0)).map_err(refused),
+            Question::Query(Way::Wrapper, query) => self.ask_wrapper(call, query).map_err(refused),
+            Question::Query(Way::Told(columns), query) => taken_apart(self.ask_told(call, columns, query)),
+        }
+    }
+
+    /// A query of a mesh that is put together for it.
+    fn ask_wrapper(&mut self, call: &Call, query: Query) -> Result<(u32, u32), Refusal> {
+        let mesh = Mesh::new(call.n, self.elements, self.v2e, self.e2e, self.b2e)?;
+        if mesh.columns() != reference::columns_of(call.elements) {
+            fail(&format!("the mesh has {} columns", mesh.columns()));
+        }
+        let answer = ask_mesh(&mesh, query, self.out, self.record);
+        if let Err(Refusal::Sizes | Refusal::Lengths) = answer {
+            fail("the mesh was made, and then a query refused its lengths");
+        }
+        answer
+    }
+
+    fn ask_told(&mut self, call: &Call, told: u32, query: Query) -> u64 {
+        let view = View { n: call.n, told, elements: self.elements, v2e: self.v2e, e2e: self.e2e, b2e: self.b2e };
+        let (out, len, record) = (self.out.as_mut_ptr(), self.out.len(), self.record.as_mut_ptr());
+        match query {
+            Query::Opposite(code) => told!(borzhanu_opposite, view, code),
+            Query::Next(code) => told!(borzhanu_next, view, code),
+            Query::Previous(code) => told!(borzhanu_previous, view, code),
+            Query::Element(code) => told!(borzhanu_element, view, code),
+            Query::Origin(code) => told!(borzhanu_origin, view, code),
+            Query::Destination(code) => told!(borzhanu_destination, view, code),
+            Query::Across(code) => told!(borzhanu_across, view, code),
+            Query::HalfedgeIsBorder(code) => told!(borzhanu_halfedge_is_border, view, code),
+            Query::VertexKind(v) => told!(borzhanu_vertex_is_border, view, v),
+            Query::Ring(v) => told!(borzhanu_ring, view, v, out, len),
+            Query::Neighbours(v) => told!(borzhanu_neighbours, view, v, out, len),
+            Query::BorderLoop(b) => told!(borzhanu_border_loop, view, b, out, len),
+            Query::Start(v, _) => told!(borzhanu_walker_start, view, v, record),
+            Query::Step(_) => told!(borzhanu_walker_step, view, record),
         }
     }
 
@@ -305,9 +360,34 @@ impl Held<'_> {
         } else if self.work.iter().any(|&entry| entry != 0) {
             fail("the work buffer isn't clean");
         }
-        let (Question::Start(_, before) | Question::Step(before)) = call.what else { return };
+        let Question::Query(_, Query::Start(_, before) | Query::Step(before)) = call.what else { return };
         let record = want.record.unwrap_or(before);
         check_buffer("record", self.record, &[record.start, record.next, record.count], &None);
+    }
+}
+
+fn ask_mesh(mesh: &Mesh, query: Query, out: &mut [u32], record: &mut [u32]) -> Result<(u32, u32), Refusal> {
+    let record = record.as_mut_ptr() as *mut WalkerRecord;
+    // SAFETY: the record's memory holds its three numbers, and nothing else refers to it meanwhile.
+    let record = unsafe { &mut *record };
+    let number = |answer: Result<u32, Refusal>| answer.map(|number| (number, 0));
+    let test = |answer: Result<bool, Refusal>| answer.map(|test| (test as u32, 0));
+    let count = |answer: Result<usize, Refusal>| answer.map(|count| (count as u32, 0));
+    match query {
+        Query::Opposite(code) => number(mesh.opposite(code)),
+        Query::Next(code) => number(mesh.next(code)),
+        Query::Previous(code) => number(mesh.previous(code)),
+        Query::Element(code) => number(mesh.element(code)),
+        Query::Origin(code) => number(mesh.origin(code)),
+        Query::Destination(code) => number(mesh.destination(code)),
+        Query::Across(code) => number(mesh.across(code)),
+        Query::HalfedgeIsBorder(code) => test(mesh.halfedge_is_border(code)),
+        Query::VertexKind(v) => number(mesh.vertex_kind(v).map(kind_number)),
+        Query::Ring(v) => count(mesh.ring(v, out)),
+        Query::Neighbours(v) => count(mesh.neighbours(v, out)),
+        Query::BorderLoop(b) => count(mesh.border_loop(b, out)),
+        Query::Start(v, _) => mesh.start(v, record).map(|()| (0, 0)),
+        Query::Step(_) => number(mesh.step(record)),
     }
 }
 

@@ -1,13 +1,15 @@
 //! Tables to ask about, and what is asked of them and of lists.
 
-use crate::call::{fail, watch, Call, Memory, Outcome, Question, Situation};
-use borzhanu::WalkerRecord;
+use crate::call::{fail, watch, Call, Memory, Outcome, Query, Question, Situation, Way};
+use borzhanu::{work_length, WalkerRecord};
 use hosts::guarded::{Placement, PLACEMENTS};
 use hosts::meshes::{damage, Dice, List};
+use hosts::reference::columns_of;
 use std::mem;
 use std::ptr;
 
-const SECONDS_PER_CALL: u32 = 120;
+const SECONDS_PER_COMPARISON: u32 = 120;
+const LARGE: usize = 10_000;
 
 extern "C" {
     fn alarm(seconds: u32) -> u32;
@@ -21,11 +23,31 @@ pub struct Tables {
     pub v2e: Vec<u32>,
     pub e2e: Vec<u32>,
     pub b2e: Vec<u32>,
+    /// The columns that queries are told. None: a query goes through the wrapper, or is told 0 or the list's own columns,
+    /// and each way has the same answer.
+    pub told: Option<u32>,
 }
 
 impl Tables {
     pub fn elements_count(&self) -> u32 {
         (self.elements.len() / 4) as u32
+    }
+
+    /// The columns that E2e has by its length.
+    fn columns(&self) -> u32 {
+        if self.e2e.len() == self.elements.len() {
+            4
+        } else {
+            3
+        }
+    }
+
+    /// E2e in the other number of columns, and queries told that: the fourth entries go, or come and are 0.
+    pub fn relaid(&self) -> Tables {
+        let columns = 7 - self.columns();
+        let rows = self.e2e.chunks_exact(self.columns() as usize);
+        let relaid = rows.flat_map(|row| row[..3].iter().copied().chain((columns == 4).then_some(0)));
+        Tables { e2e: relaid.collect(), told: Some(columns), ..self.clone() }
     }
 
     /// One past the codes that a damaged entry or a question may name.
@@ -39,16 +61,16 @@ impl Tables {
         (1..).zip(&self.b2e).find(|&(_, &side)| origin(side) == v).map(|(b, _)| b)
     }
 
-    pub fn question(&self, what: Question) -> Call<'_> {
+    pub fn query<'a>(&'a self, way: Way, query: Query, out: &'a [u32]) -> Call<'a> {
         Call {
-            what,
+            what: Question::Query(way, query),
             n: self.n,
             elements: &self.elements,
             v2e: &self.v2e,
             e2e: &self.e2e,
             b2e: &self.b2e,
             work: &[],
-            out: &[],
+            out,
         }
     }
 }
@@ -71,68 +93,100 @@ impl Host {
         Host { memory: Memory::new(), noise, dice, situation }
     }
 
-    /// Compares a call, both placements, and hands over what was expected.
+    /// Compares a call, and hands over what was expected.
     pub fn compare(&mut self, call: &Call) -> Outcome {
         let want = call.expected();
+        self.check(call, &want);
+        want
+    }
+
+    /// Makes a call, both placements, to an outcome that is known.
+    fn check(&mut self, call: &Call, want: &Outcome) {
         self.situation.call = (call as *const Call).cast();
+        // SAFETY: alarm only sets a timer.
+        unsafe { alarm(SECONDS_PER_COMPARISON) };
         for placement in PLACEMENTS {
             self.situation.placement = placement;
             let mut held = self.memory.hold(call, placement);
-            // SAFETY: alarm only sets a timer.
-            unsafe { alarm(SECONDS_PER_CALL) };
             let got = held.ask(call);
-            unsafe { alarm(0) };
             self.situation.calls += 1;
-            let got = got.map_err(|refusal| (refusal.number(), refusal.place().0, refusal.place().1));
             if got != want.answer {
                 fail(&format!("expected {:?}, got {got:?}", want.answer));
             }
             held.check(call, &want.left);
         }
-        want
+        unsafe { alarm(0) };
+    }
+
+    fn compare_columns(&mut self, list: &List) {
+        let (n, elements) = (list.n, list.entries());
+        self.compare(&Call { what: Question::Columns, n, elements, v2e: &[], e2e: &[], b2e: &[], work: &[], out: &[] });
     }
 
     fn compare_build(&mut self, list: &List, b2e_len: usize, work_extra: usize) -> Outcome {
         let noise = mem::take(&mut self.noise);
-        let entries = list.entries();
+        let (entries, m) = (list.entries(), list.rows.len());
+        let e2e_len = columns_of(entries) as usize * m;
         let want = self.compare(&Call {
             what: Question::Build,
             n: list.n,
             elements: entries,
             v2e: &noise[..list.n as usize],
-            e2e: &noise[7..7 + entries.len()],
+            e2e: &noise[7..7 + e2e_len],
             b2e: &noise[..b2e_len],
-            work: &noise[..list.n as usize + 4 * entries.len() + work_extra],
+            work: &noise[..work_length(list.n, m) + work_extra],
             out: &[],
         });
         self.noise = noise;
         want
     }
 
-    pub fn compare_recovery(&mut self, n: u32, v2e: &[u32], e2e: &[u32], work_extra: usize) {
+    /// Recovery of m elements, the buffers for the list and the work as it asks for them.
+    pub fn compare_recovery(&mut self, n: u32, m: u32, v2e: &[u32], e2e: &[u32], work_extra: usize) -> Outcome {
         let noise = mem::take(&mut self.noise);
-        self.compare(&Call {
-            what: Question::Recover,
+        let want = self.compare(&Call {
+            what: Question::Recover(m),
             n,
-            elements: &noise[..e2e.len()],
+            elements: &noise[..4 * m as usize],
             v2e,
             e2e,
             b2e: &[],
-            work: &noise[..n as usize + 4 * e2e.len() + work_extra],
+            work: &noise[..work_length(n, m as usize) + work_extra],
             out: &[],
         });
         self.noise = noise;
+        want
     }
 
+    /// Recovery from these tables; and from E2e in the other columns, or told other numbers of elements.
     pub fn recover(&mut self, tables: &Tables) {
-        self.compare_recovery(tables.n, &tables.v2e, &tables.e2e, 0);
-        self.compare_recovery(tables.n, &tables.v2e, &tables.e2e, 5);
+        let (n, m) = (tables.n, tables.elements_count());
+        for work_extra in [0, 5] {
+            self.compare_recovery(n, m, &tables.v2e, &tables.e2e, work_extra);
+        }
+        if self.dice.once_in(2) {
+            self.compare_recovery(n, m, &tables.v2e, &tables.relaid().e2e, 0);
+            return;
+        }
+        for other in self.other_counts(tables) {
+            self.compare_recovery(n, other, &tables.v2e, &tables.e2e, 0);
+        }
+    }
+
+    /// Numbers of elements other than the list's: one near to it, and those that E2e's length fits as well.
+    fn other_counts(&mut self, tables: &Tables) -> Vec<u32> {
+        let (m, entries) = (tables.elements_count(), tables.e2e.len() as u32);
+        let fitting = [3, 4].into_iter().filter(|columns| entries % columns == 0).map(|columns| entries / columns);
+        let mut counts: Vec<u32> = fitting.filter(|&count| count != m).collect();
+        counts.push((m + self.dice.below(3)).saturating_sub(1));
+        counts
     }
 
     /// Builds with room in B2e; the tables where the list is accepted.
     pub fn build(&mut self, list: &List) -> Option<Tables> {
         let left = self.compare_build(list, list.n as usize + 3, 0).left;
-        Some(Tables { n: list.n, elements: list.entries().to_vec(), v2e: left.v2e?, e2e: left.e2e?, b2e: left.b2e? })
+        let (v2e, e2e, b2e) = (left.v2e?, left.e2e?, left.b2e?);
+        Some(Tables { n: list.n, elements: list.entries().to_vec(), v2e, e2e, b2e, told: None })
     }
 
     fn build_with_other_room(&mut self, list: &List, k: usize) {
@@ -141,37 +195,56 @@ impl Host {
         }
     }
 
-    pub fn ask(&mut self, tables: &Tables, what: Question) -> Outcome {
-        self.compare(&tables.question(what))
+    pub fn ask(&mut self, tables: &Tables, query: Query) -> Outcome {
+        self.ask_into(tables, query, &[])
+    }
+
+    fn ask_into(&mut self, tables: &Tables, query: Query, out: &[u32]) -> Outcome {
+        if let Some(columns) = tables.told {
+            return self.compare(&tables.query(Way::Told(columns), query, out));
+        }
+        let want = tables.query(Way::Told(0), query, out).expected();
+        for way in self.ways(tables) {
+            self.check(&tables.query(way, query, out), &want);
+        }
+        want
+    }
+
+    /// Ways to ask that have the answer of a query told 0; for large tables one way. The wrapper tells the list's own
+    /// columns, so that this is rarely done without it.
+    fn ways(&mut self, tables: &Tables) -> Vec<Way> {
+        let ways = [Way::Wrapper, Way::Told(0), Way::Told(columns_of(&tables.elements))];
+        if tables.n as usize + tables.elements.len() > LARGE {
+            return vec![ways[self.dice.below(3) as usize]];
+        }
+        ways[..if self.dice.once_in(4) { 3 } else { 2 }].to_vec()
     }
 
     fn ask_code(&mut self, tables: &Tables, code: u32) {
-        for what in [
-            Question::Opposite(code),
-            Question::Next(code),
-            Question::Previous(code),
-            Question::Element(code),
-            Question::Origin(code),
-            Question::Destination(code),
-            Question::Across(code),
-            Question::HalfedgeIsBorder(code),
+        for query in [
+            Query::Opposite(code),
+            Query::Next(code),
+            Query::Previous(code),
+            Query::Element(code),
+            Query::Origin(code),
+            Query::Destination(code),
+            Query::Across(code),
+            Query::HalfedgeIsBorder(code),
         ] {
-            self.ask(tables, what);
+            self.ask(tables, query);
         }
     }
 
     /// With no room, and then with one entry too few, just enough and more than enough.
-    pub fn ask_list(&mut self, tables: &Tables, what: Question) {
-        let needed = match self.ask(tables, what).answer {
+    pub fn ask_list(&mut self, tables: &Tables, query: Query) {
+        let needed = match self.ask(tables, query).answer {
             Ok((count, _)) => count as usize,
             Err((13, needed, _)) => needed as usize,
             Err(_) => return,
         };
         let noise = mem::take(&mut self.noise);
         for len in needed.max(2) - 1..=needed + 2 {
-            let mut call = tables.question(what);
-            call.out = &noise[..len];
-            self.compare(&call);
+            self.ask_into(tables, query, &noise[..len]);
         }
         self.noise = noise;
     }
@@ -179,19 +252,19 @@ impl Host {
     /// From the start until the walk is over or refused, and a little further.
     pub fn ask_walker(&mut self, tables: &Tables, v: u32) {
         let before = WalkerRecord { start: 5, next: 6, count: 7 };
-        let Some(mut record) = self.ask(tables, Question::Start(v, before)).left.record else { return };
+        let Some(mut record) = self.ask(tables, Query::Start(v, before)).left.record else { return };
         let mut further = 0;
         while further < 3 {
-            let want = self.ask(tables, Question::Step(record));
+            let want = self.ask(tables, Query::Step(record));
             record = want.left.record.unwrap_or(record);
             further += !matches!(want.answer, Ok((element, _)) if element != 0) as u32;
         }
     }
 
     pub fn ask_vertex(&mut self, tables: &Tables, v: u32) {
-        self.ask(tables, Question::VertexKind(v));
-        self.ask_list(tables, Question::Ring(v));
-        self.ask_list(tables, Question::Neighbours(v));
+        self.ask(tables, Query::VertexKind(v));
+        self.ask_list(tables, Query::Ring(v));
+        self.ask_list(tables, Query::Neighbours(v));
         self.ask_walker(tables, v);
     }
 
@@ -203,7 +276,7 @@ impl Host {
             self.ask_vertex(tables, v);
         }
         for b in 0..=tables.b2e.len() as u32 + 1 {
-            self.ask_list(tables, Question::BorderLoop(b));
+            self.ask_list(tables, Query::BorderLoop(b));
         }
     }
 
@@ -235,7 +308,7 @@ impl Host {
             1 | 2 => record.start = record.next,
             _ => {}
         }
-        self.ask(tables, Question::Step(record));
+        self.ask(tables, Query::Step(record));
     }
 
     pub fn ask_something(&mut self, tables: &Tables, times: u32) {
@@ -245,7 +318,7 @@ impl Host {
             let v = self.number_to(tables.n);
             self.ask_vertex(tables, v);
             let b = self.number_to(tables.b2e.len() as u32);
-            self.ask_list(tables, Question::BorderLoop(b));
+            self.ask_list(tables, Query::BorderLoop(b));
             self.ask_any_record(tables);
         }
     }
@@ -259,7 +332,43 @@ impl Host {
                 damage(part, if at == 3 { tables.n + 2 } else { codes }, &mut self.dice);
             }
         }
+        // A fourth corner that comes or goes can leave E2e with too few columns or too many.
+        if damaged.columns() != columns_of(&damaged.elements) && !self.dice.once_in(4) {
+            damaged = Tables { told: tables.told, ..damaged.relaid() };
+        }
         self.ask_something(&damaged, times);
+        self.ask_told(&damaged);
+    }
+
+    fn any_columns(&mut self) -> u32 {
+        let other = self.dice.number();
+        [0, 3, 4, 1, 2, 5, 7, u32::MAX, other][self.dice.below(9) as usize]
+    }
+
+    pub fn any_way(&mut self) -> Way {
+        match self.dice.below(6) {
+            0 => Way::Wrapper,
+            1 => Way::Told(0),
+            2 => Way::Told(3),
+            3 => Way::Told(4),
+            _ => Way::Told(self.any_columns()),
+        }
+    }
+
+    /// Queries on E2e as it is, in the other columns, or a little longer or shorter: told the columns that its length
+    /// fits, rightly or wrongly, or any columns, or as the wrapper has it.
+    pub fn ask_told(&mut self, tables: &Tables) {
+        let mut told = if self.dice.once_in(2) { tables.clone() } else { tables.relaid() };
+        told.told = match self.dice.below(8) {
+            0 => None,
+            1..=4 => Some(told.columns()),
+            _ => Some(self.any_columns()),
+        };
+        if self.dice.once_in(8) {
+            let len = told.e2e.len().saturating_add_signed([-4, -3, -1, 1, 3, 4][self.dice.below(6) as usize]);
+            told.e2e.resize(len, 9);
+        }
+        self.ask_something(&told, 1);
     }
 
     /// Recovery from tables that aren't quite these. Exchanged V2e entries can be those of another list.
@@ -291,10 +400,10 @@ impl Host {
         changed.v2e[v as usize - 1] = entry;
         self.ask_vertex(&changed, v);
         if let Some(b) = tables.border_to(v) {
-            self.ask(&changed, Question::Next(borzhanu::border(b)));
-            self.ask_list(&changed, Question::BorderLoop(b));
+            self.ask(&changed, Query::Next(borzhanu::border(b)));
+            self.ask_list(&changed, Query::BorderLoop(b));
         }
-        self.compare_recovery(changed.n, &changed.v2e, &changed.e2e, 0);
+        self.compare_recovery(changed.n, changed.elements_count(), &changed.v2e, &changed.e2e, 0);
     }
 
     /// A used vertex entered as unused, and an unused one as used.
@@ -309,6 +418,7 @@ impl Host {
     }
 
     pub fn try_small_list(&mut self, list: &List) {
+        self.compare_columns(list);
         // Refusals 3 to 8 come before 9, so a refused list is tried without room too.
         self.compare_build(list, 0, 0);
         let Some(tables) = self.build(list) else { return };
@@ -317,10 +427,15 @@ impl Host {
         self.recover_damaged(&tables);
         self.try_other_uses(&tables);
         self.ask_everything(&tables);
+        if self.dice.once_in(4) {
+            self.ask_everything(&tables.relaid());
+        }
+        self.ask_told(&tables);
         self.ask_damaged(&tables, 2);
     }
 
     pub fn try_list(&mut self, list: &List, times: u32) {
+        self.compare_columns(list);
         // Refusals 3 to 8 come before 9, so a refused list is tried without room too.
         self.compare_build(list, 0, 0);
         let Some(tables) = self.build(list) else { return };
@@ -328,6 +443,8 @@ impl Host {
         self.recover(&tables);
         self.try_other_uses(&tables);
         self.ask_something(&tables, times);
+        self.ask_something(&tables.relaid(), times / 4);
+        self.ask_told(&tables);
         for _ in 0..=times / 4 {
             self.recover_damaged(&tables);
             self.ask_damaged(&tables, 1 + times / 8);

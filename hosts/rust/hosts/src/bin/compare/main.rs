@@ -1,16 +1,19 @@
 //! Compares every call of the safe wrapper with the reference, on inputs of every kind: answers, refusals,
-//! places, and each entry of each buffer afterwards. Every call is made twice, once with the end of each
-//! buffer at a page that faults when touched and once with its start.
+//! places, and each entry of each buffer afterwards. Queries are also asked without the wrapper, told the columns of
+//! E2e rightly, wrongly and not at all. Every call is made twice, once with the end of each buffer at a page that
+//! faults when touched and once with its start.
 //!
 //!     compare [SEED]
 
 mod call;
 mod host;
+mod lengths;
 
-use borzhanu::{work_length, WalkerRecord, MAX_BORDERS, MAX_ELEMENTS, MAX_VERTICES};
-use call::{Call, Question};
+use borzhanu::{MAX_ELEMENTS, MAX_VERTICES};
+use call::Query;
 use host::{Host, Tables};
-use hosts::meshes::{any_housing, book, fan, sheet, Kinds, List};
+use hosts::meshes::{any_housing, book, damage, fan, sheet, Kinds, List};
+use lengths::{about_the_largest, lengths};
 use std::env;
 use std::mem;
 use std::time::Instant;
@@ -59,8 +62,9 @@ fn unused_vertices(host: &mut Host) {
     for n in 3..=5 {
         for number in 0..7u32.pow(n) {
             let v2e: Vec<u32> = (0..n).map(|place| codes[(number / 7u32.pow(place) % 7) as usize]).collect();
-            host.compare_recovery(n, &v2e, &[8, 16, 24, 0], 0);
-            host.compare_recovery(n, &v2e, &[8, 16, 24, 32], 0);
+            host.compare_recovery(n, 1, &v2e, &[8, 16, 24], 0);
+            host.compare_recovery(n, 1, &v2e, &[8, 16, 24, 0], 0);
+            host.compare_recovery(n, 1, &v2e, &[8, 16, 24, 32], 0);
         }
     }
 }
@@ -70,19 +74,46 @@ fn small_tables(host: &mut Host) {
     let codes = [0, 8, 16, 24, 32, 9, 10, 11, 12, 17, 18, 19, 20];
     for _ in 0..60_000 {
         let n = 3 + host.dice.below(3);
+        let columns = 3 + host.dice.below(2);
         let mut table = |len: u32| -> Vec<u32> { (0..len).map(|_| codes[host.dice.below(13) as usize]).collect() };
-        let (v2e, mut e2e) = (table(n), table(8));
-        if host.dice.once_in(2) {
-            (e2e[3], e2e[7]) = (0, 0);
+        let (v2e, mut e2e) = (table(n), table(2 * columns));
+        if columns == 4 && host.dice.once_in(2) {
+            e2e[[3, 7][host.dice.below(2) as usize]] = 0;
         }
-        host.compare_recovery(n, &v2e, &e2e, 0);
+        host.compare_recovery(n, 2, &v2e, &e2e, 0);
+    }
+}
+
+/// Entries that are V2e and E2e of triangles apart, four to a dozen, and of quadrilaterals apart, three to a dozen; then
+/// such entries with a slip.
+fn tables_in_common(host: &mut Host) {
+    for dozens in 1..=6 {
+        let entries: Vec<u32> = (1..=12 * dozens).map(borzhanu::border).collect();
+        let n = 12 * dozens;
+        let triangles = (0..4 * dozens).map(|f| 3 * f).map(|v| [v + 3, v + 1, v + 2, 0]).collect();
+        let quadrilaterals = (0..3 * dozens).map(|f| 4 * f).map(|v| [v + 4, v + 1, v + 2, v + 3]).collect();
+        for list in [List { n, rows: triangles }, List { n, rows: quadrilaterals }] {
+            let m = list.rows.len() as u32;
+            let recovered = host.compare_recovery(n, m, &entries, &entries, 0).left.elements;
+            assert_eq!(recovered.as_deref(), Some(list.entries()));
+            host.try_list(&list, 2);
+        }
+        for _ in 0..300 {
+            let (mut v2e, mut e2e) = (entries.clone(), entries.clone());
+            damage(&mut v2e, 8 * n, &mut host.dice);
+            if host.dice.once_in(2) {
+                damage(&mut e2e, 8 * n, &mut host.dice);
+            }
+            host.compare_recovery(n, 4 * dozens, &v2e, &e2e, 0);
+            host.compare_recovery(n, 3 * dozens, &v2e, &e2e, 0);
+        }
     }
 }
 
 /// Tables and lists of noise, near to codes.
 fn noise_tables(host: &mut Host) {
     for _ in 0..3000 {
-        let (n, m) = (1 + host.dice.below(6), host.dice.below(7));
+        let (n, m, columns) = (1 + host.dice.below(6), host.dice.below(7), 3 + host.dice.below(2));
         let k = host.dice.below(4 * m + 1);
         let mut code = |borders: u32| -> u32 {
             if host.dice.once_in(borders) {
@@ -92,52 +123,20 @@ fn noise_tables(host: &mut Host) {
             }
         };
         let mut v2e: Vec<u32> = (0..n).map(|_| code(2)).collect();
-        let e2e = (0..4 * m).map(|_| code(3)).collect();
+        let e2e = (0..columns * m).map(|_| code(3)).collect();
         let b2e = (0..k).map(|_| code(20)).collect();
-        let elements = (0..4 * m).map(|_| host.dice.below(n + 2)).collect();
+        let mut elements: Vec<u32> = (0..4 * m).map(|_| host.dice.below(n + 2)).collect();
+        if columns == 3 {
+            elements.chunks_mut(4).for_each(|row| row[3] = 0);
+        }
         if host.dice.once_in(2) {
             v2e[host.dice.below(n) as usize] = 0;
         }
-        let tables = Tables { n, elements, v2e, e2e, b2e };
-        host.ask_something(&tables, 6);
+        let tables = Tables { n, elements, v2e, e2e, b2e, told: None };
+        host.ask_something(&tables, 4);
+        host.ask_told(&tables);
+        host.ask_told(&tables);
         host.recover(&tables);
-    }
-}
-
-/// Each buffer longer and shorter than it should be, one at a time and two at a time, and n changed.
-fn lengths(host: &mut Host) {
-    let changes = [-4, -1, 0, 1, 4];
-    let noise = host.noise.clone();
-    for round in 0..12 {
-        let list = sheet(1 + host.dice.below(3), 1 + host.dice.below(3), (false, false), Kinds::Mixed, &mut host.dice);
-        let tables = host.build(&list).expect("a sheet is accepted");
-        let n = list.n as usize;
-        let rows = tables.elements.len();
-        let questions = [
-            Question::Build,
-            Question::Recover,
-            [Question::Opposite(9), Question::Next(9), Question::Previous(9), Question::Element(9)][round % 4],
-            [Question::Origin(9), Question::Destination(9), Question::Across(9), Question::HalfedgeIsBorder(9)]
-                [round % 4],
-            Question::VertexKind(1),
-            [Question::Ring(1), Question::Neighbours(1)][round % 2],
-            Question::BorderLoop(1),
-            Question::Start(1, WalkerRecord::default()),
-            Question::Step(WalkerRecord { start: 9, next: 9, count: 0 }),
-            Question::Step(WalkerRecord { start: 9, next: 0, count: 1 }),
-        ];
-        for what in questions {
-            for (a, b) in (0..5).flat_map(|a| (0..=a).map(move |b| (a, b))) {
-                for (first, second) in changes.iter().flat_map(|x| changes.iter().map(move |y| (*x, *y))) {
-                    let mut lens = [rows, n, rows, tables.b2e.len(), n + 4 * rows];
-                    lens[a] = lens[a].saturating_add_signed(first);
-                    lens[b] = lens[b].saturating_add_signed(second);
-                    let [elements, v2e, e2e, b2e, work] = lens.map(|len| &noise[..len]);
-                    let n = list.n + host.dice.once_in(8) as u32;
-                    host.compare(&Call { what, n, elements, v2e, e2e, b2e, work, out: &noise[..9] });
-                }
-            }
-        }
     }
 }
 
@@ -167,13 +166,14 @@ fn large_housings(host: &mut Host) {
     host.try_list(&list, 1);
 }
 
-/// B2e may have as many entries as E2e, and no more.
+/// B2e may have four entries to an element, in three columns too, and no more.
 fn longest_b2e(host: &mut Host, tables: &Tables) {
     let noise = mem::take(&mut host.noise);
-    for extra in 0..2 {
-        for b in [MAX_BORDERS, MAX_BORDERS + 1] {
-            let mut call = tables.question(Question::Opposite(borzhanu::border(b)));
-            call.b2e = &noise[..tables.e2e.len() + extra];
+    let longest = tables.elements.len();
+    for len in longest..=longest + 1 {
+        for b in longest as u32..=longest as u32 + 1 {
+            let mut call = tables.query(host.any_way(), Query::Opposite(borzhanu::border(b)), &[]);
+            call.b2e = &noise[..len];
             host.compare(&call);
         }
     }
@@ -183,17 +183,20 @@ fn longest_b2e(host: &mut Host, tables: &Tables) {
 fn largest_sheet(host: &mut Host) {
     let list = sheet(1000, 1000, (true, true), Kinds::Quadrilaterals, &mut host.dice);
     let tables = host.build(&list).expect("a closed sheet is accepted");
-    host.compare_recovery(tables.n, &tables.v2e, &tables.e2e, 0);
-    host.ask(&tables, Question::Next(borzhanu::side(MAX_ELEMENTS, 4)));
-    host.ask(&tables, Question::Next(borzhanu::side(MAX_ELEMENTS + 1, 1)));
+    host.compare_recovery(tables.n, MAX_ELEMENTS, &tables.v2e, &tables.e2e, 0);
+    host.ask(&tables, Query::Opposite(borzhanu::side(MAX_ELEMENTS, 4)));
+    host.ask(&tables, Query::Next(borzhanu::side(MAX_ELEMENTS, 4)));
+    host.ask(&tables, Query::Next(borzhanu::side(MAX_ELEMENTS + 1, 1)));
     host.ask_walker(&tables, MAX_VERTICES);
     longest_b2e(host, &tables);
 }
 
 fn largest_fan(host: &mut Host) {
     let tables = host.build(&fan(MAX_ELEMENTS - 1, true)).expect("a fan is accepted");
-    host.ask_list(&tables, Question::Ring(1));
-    host.ask_list(&tables, Question::BorderLoop(tables.b2e.len() as u32));
+    host.ask(&tables, Query::Opposite(borzhanu::side(MAX_ELEMENTS - 1, 3)));
+    host.ask_list(&tables, Query::Ring(1));
+    host.ask_list(&tables, Query::BorderLoop(tables.b2e.len() as u32));
+    longest_b2e(host, &tables);
 }
 
 /// The most vertices, with no element or with one: in front, spread out, at the end, or unfit.
@@ -210,37 +213,13 @@ fn mostly_unused(host: &mut Host) {
     }
 }
 
-/// n, and the numbers of rows of the element list and of E2e, at their largest or one past it; then there is no need
-/// of a work buffer.
-fn about_the_largest(host: &mut Host, n: u32, m: u32, e2e_rows: u32) {
-    let past = n > MAX_VERTICES || m.max(e2e_rows) > MAX_ELEMENTS;
-    let noise = mem::take(&mut host.noise);
-    for what in [Question::Build, Question::Recover, Question::Ring(1)] {
-        host.compare(&Call {
-            what,
-            n,
-            elements: &noise[..4 * m as usize],
-            v2e: &noise[..n as usize],
-            e2e: &noise[..4 * e2e_rows as usize],
-            b2e: &noise[..9],
-            work: &noise[..if past { 0 } else { work_length(n, m as usize) }],
-            out: &noise[..9],
-        });
-    }
-    host.noise = noise;
-}
-
 fn largest(host: &mut Host) {
     let most = MAX_ELEMENTS;
     largest_sheet(host);
     largest_fan(host);
     host.build(&book(most, most));
     mostly_unused(host);
-    for past in 0..8 {
-        about_the_largest(host, most + past % 2, most + past / 2 % 2, most + past / 4);
-    }
-    about_the_largest(host, most, 0, 0);
-    about_the_largest(host, most + 1, 0, 0);
+    about_the_largest(host);
 }
 
 fn main() {
@@ -248,11 +227,12 @@ fn main() {
     let start = Instant::now();
     let mut host = Host::new(seed);
     println!("seed {seed}");
-    let families: [Family; 10] = [
+    let families: [Family; 11] = [
         ("lists of one row", one_row),
         ("lists of two rows", two_rows),
         ("unused vertices", unused_vertices),
         ("tables of two elements", small_tables),
+        ("tables in common", tables_in_common),
         ("tables of noise", noise_tables),
         ("lengths", lengths),
         ("small housings", small_housings),

@@ -1,0 +1,76 @@
+//! The archive's queries as include/borzhanu.h declares them, to be told any columns on buffers of any length. The
+//! wrapper's meshes have fit lengths and tell their own columns.
+
+use crate::reference::Refused;
+
+macro_rules! queries {
+    ($($name:ident($($argument:ident: $kind:ty),*);)*) => {
+        extern "C" {
+            $(
+                pub fn $name(
+                    n: u32,
+                    columns: u32,
+                    elements: *const u32,
+                    elements_len: usize,
+                    v2e: *const u32,
+                    v2e_len: usize,
+                    e2e: *const u32,
+                    e2e_len: usize,
+                    b2e: *const u32,
+                    b2e_len: usize,
+                    $($argument: $kind),*
+                ) -> u64;
+            )*
+        }
+    };
+}
+
+queries! {
+    borzhanu_opposite(code: u32);
+    borzhanu_next(code: u32);
+    borzhanu_previous(code: u32);
+    borzhanu_element(code: u32);
+    borzhanu_origin(code: u32);
+    borzhanu_destination(code: u32);
+    borzhanu_across(code: u32);
+    borzhanu_halfedge_is_border(code: u32);
+    borzhanu_vertex_is_border(v: u32);
+    borzhanu_ring(v: u32, out: *mut u32, out_len: usize);
+    borzhanu_neighbours(v: u32, out: *mut u32, out_len: usize);
+    borzhanu_border_loop(b: u32, out: *mut u32, out_len: usize);
+    borzhanu_walker_start(v: u32, walker: *mut u32);
+    borzhanu_walker_step(walker: *mut u32);
+}
+
+/// Calls a query on a [`View`](crate::reference::View) and further arguments.
+#[macro_export]
+macro_rules! told {
+    ($name:ident, $view:expr $(, $argument:expr)*) => {
+        // SAFETY: each pointer has its slice's own length, and the kernel stays within these.
+        unsafe {
+            $crate::raw::$name(
+                $view.n,
+                $view.told,
+                $view.elements.as_ptr(),
+                $view.elements.len(),
+                $view.v2e.as_ptr(),
+                $view.v2e.len(),
+                $view.e2e.as_ptr(),
+                $view.e2e.len(),
+                $view.b2e.as_ptr(),
+                $view.b2e.len()
+                $(, $argument)*
+            )
+        }
+    };
+}
+
+/// The two numbers of an answer, or a refusal and its place, out of what a query returned.
+pub fn taken_apart(returned: u64) -> Result<(u32, u32), Refused> {
+    let first = (returned >> 28) as u32 & 0xFFF_FFFF;
+    let second = returned as u32 & 0xFFF_FFFF;
+    match (returned >> 56) as u32 {
+        0 => Ok((first, second)),
+        number => Err((number, first, second)),
+    }
+}
