@@ -71,7 +71,7 @@ double milliseconds() {
 
 struct Kernel {
     explicit Kernel(const List &list)
-        : v2e(list.n), e2e(list.rows.size()), b2e(list.n), work(borzhanu_work_length(list.n, list.m)) {}
+        : v2e(list.n), e2e(3 * std::size_t(list.m)), b2e(list.n), work(borzhanu_work_length(list.n, list.m)) {}
 
     bool build(const List &list) {
         return borzhanu_refusal(borzhanu_build(list.n, list.rows.data(), list.rows.size(), v2e.data(), v2e.size(),

@@ -5,8 +5,11 @@
 //! Runs are interleaved and medians reported, so that a slow moment of the machine meets every candidate.
 //! All buffers are allocated and touched before the first run and used again in every run.
 
-use borzhanu::{build, recover, work_length, Mesh, Refusal};
+use borzhanu::{build, columns, recover, work_length, Mesh, Refusal};
 use hosts::meshes::{book, fan, sheet, Dice, Kinds, List};
+use hosts::raw::taken_apart;
+use hosts::reference::View;
+use hosts::told;
 use std::collections::HashMap;
 use std::env;
 use std::fs;
@@ -19,8 +22,10 @@ const ROUNDS: usize = 21;
 const LARGE_ROUNDS: usize = 7;
 
 /// The three tables by a hash map keyed by the vertices of each half-edge, after section 3.2 of T. J. Alumbaugh and
-/// X. Jiao, "Compact Array-Based Mesh Data Structures", with no check of the list. Gives k and the number of edges.
-fn hash_map_build(elements: &[u32], v2e: &mut [u32], e2e: &mut [u32], b2e: &mut [u32]) -> (u32, u32) {
+/// X. Jiao, "Compact Array-Based Mesh Data Structures", with no check of the list, E2e in so many columns. Gives k and
+/// the number of edges.
+fn hash_map_build(columns: usize, elements: &[u32], v2e: &mut [u32], e2e: &mut [u32], b2e: &mut [u32]) -> (u32, u32) {
+    let place = |slot: usize| columns * (slot / 4) + slot % 4;
     v2e.fill(0);
     e2e.fill(0);
     let mut unmatched: HashMap<(u32, u32), usize> = HashMap::with_capacity(elements.len() / 2);
@@ -33,8 +38,8 @@ fn hash_map_build(elements: &[u32], v2e: &mut [u32], e2e: &mut [u32], b2e: &mut 
             let slot = 4 * f + i;
             match unmatched.remove(&(destination, origin)) {
                 Some(twin) => {
-                    e2e[slot] = code(twin);
-                    e2e[twin] = code(slot);
+                    e2e[place(slot)] = code(twin);
+                    e2e[place(twin)] = code(slot);
                 }
                 None => _ = unmatched.insert((origin, destination), slot),
             }
@@ -49,10 +54,10 @@ fn hash_map_build(elements: &[u32], v2e: &mut [u32], e2e: &mut [u32], b2e: &mut 
         let corners = if row[3] == 0 { 3 } else { 4 };
         for i in 0..corners {
             let slot = 4 * f + i;
-            if e2e[slot] == 0 {
+            if e2e[place(slot)] == 0 {
                 b2e[k as usize] = code(slot);
                 k += 1;
-                e2e[slot] = 8 * k;
+                e2e[place(slot)] = 8 * k;
                 v2e[row[(i + 1) % corners] as usize - 1] = 8 * k;
             }
         }
@@ -60,6 +65,7 @@ fn hash_map_build(elements: &[u32], v2e: &mut [u32], e2e: &mut [u32], b2e: &mut 
     (k, (sides + k) / 2)
 }
 
+/// The code of the side whose corner is this entry of the element list.
 fn code(slot: usize) -> u32 {
     (8 * (slot / 4 + 1) + slot % 4 + 1) as u32
 }
@@ -67,6 +73,7 @@ fn code(slot: usize) -> u32 {
 /// A list and the buffers of the calls on it.
 struct Bench<'a> {
     list: &'a List,
+    columns: usize,
     v2e: Vec<u32>,
     e2e: Vec<u32>,
     b2e: Vec<u32>,
@@ -121,17 +128,19 @@ fn median(times: &[f64]) -> f64 {
 
 impl<'a> Bench<'a> {
     fn new(list: &'a List) -> Bench<'a> {
-        let (n, rows) = (list.n as usize, 4 * list.rows.len());
-        let borders = n.min(rows);
+        let columns = columns(list.n, list.entries()).expect("the list is small enough") as usize;
+        let (n, m) = (list.n as usize, list.rows.len());
+        let borders = n.min(4 * m);
         Bench {
             list,
+            columns,
             v2e: vec![1; n],
-            e2e: vec![1; rows],
+            e2e: vec![1; columns * m],
             b2e: vec![1; borders],
-            work: vec![1; work_length(list.n, list.rows.len())],
-            other: (vec![1; n], vec![1; rows], vec![1; borders]),
-            recovered: vec![1; rows],
-            ring: vec![1; list.rows.len()],
+            work: vec![1; work_length(list.n, m)],
+            other: (vec![1; n], vec![1; columns * m], vec![1; borders]),
+            recovered: vec![1; 4 * m],
+            ring: vec![1; m],
         }
     }
 
@@ -143,23 +152,28 @@ impl<'a> Bench<'a> {
 
     fn hash_map(&mut self) -> (u32, u32) {
         let (v2e, e2e, b2e) = &mut self.other;
-        hash_map_build(self.list.entries(), v2e, e2e, b2e)
+        hash_map_build(self.columns, self.list.entries(), v2e, e2e, b2e)
     }
 
     fn recover(&mut self) {
-        recover(self.list.n, &self.v2e, &self.e2e, &mut self.recovered, &mut self.work).expect("tables as built");
+        let m = self.list.rows.len() as u32;
+        recover(self.list.n, m, &self.v2e, &self.e2e, &mut self.recovered, &mut self.work).expect("tables as built");
     }
 
-    /// The ring of every vertex; gives the sum of their lengths.
+    /// The ring of every vertex of a mesh that is put together for it; gives the sum of their lengths.
     fn rings(&mut self, k: u32) -> usize {
-        let mesh = Mesh {
-            n: self.list.n,
-            elements: self.list.entries(),
-            v2e: &self.v2e,
-            e2e: &self.e2e,
-            b2e: &self.b2e[..k as usize],
-        };
-        (1..=mesh.n).map(|v| mesh.ring(v, &mut self.ring).expect("tables as built")).sum()
+        let b2e = &self.b2e[..k as usize];
+        let mesh = Mesh::new(self.list.n, self.list.entries(), &self.v2e, &self.e2e, b2e).expect("tables as built");
+        (1..=mesh.n()).map(|v| mesh.ring(v, &mut self.ring).expect("tables as built")).sum()
+    }
+
+    /// The ring of every vertex of a closed mesh, each call told these columns; gives the sum of their lengths.
+    fn rings_told(&mut self, told: u32) -> usize {
+        let view =
+            View { n: self.list.n, told, elements: self.list.entries(), v2e: &self.v2e, e2e: &self.e2e, b2e: &[] };
+        let (out, len) = (self.ring.as_mut_ptr(), self.ring.len());
+        let ring = |v| taken_apart(told!(borzhanu_ring, view, v, out, len)).expect("tables as built").0;
+        (1..=view.n).map(|v| ring(v) as usize).sum()
     }
 
     /// Both builds write the same tables, and recovery gives the list back.
@@ -291,6 +305,56 @@ fn print_extremes(dice: &mut Dice) {
     println!();
 }
 
+/// A closed mesh of 2 × width × height triangles, in order and shuffled.
+fn closed_pair(width: u32, height: u32, dice: &mut Dice) -> [List; 2] {
+    let list = sheet(width, height, (true, true), Kinds::Triangles, dice);
+    [list.clone(), shuffled(list, dice)]
+}
+
+/// Meshes in pairs, in order and shuffled, with the columns that their queries are told.
+fn lists_with_told(dice: &mut Dice) -> Vec<(u32, List)> {
+    let small = closed_pair(25, 20, dice);
+    let pairs = [(0, small.clone()), (3, small), (3, closed_pair(250, 200, dice)), (3, closed_pair(1000, 500, dice))];
+    pairs.into_iter().flat_map(|(told, pair)| pair.map(|list| (told, list))).collect()
+}
+
+/// A run goes through a small mesh many times.
+fn passes(list: &List) -> u32 {
+    50_000_u32.div_ceil(list.n)
+}
+
+/// Median of the nanoseconds per ring for each list, runs interleaved.
+fn ring_times(lists: &[(u32, List)]) -> Vec<f64> {
+    let mut benches: Vec<Bench> = lists.iter().map(|(_, list)| Bench::new(list)).collect();
+    let mut times = vec![Vec::new(); lists.len()];
+    for bench in &mut benches {
+        bench.build().expect("a closed sheet is accepted");
+    }
+    for _ in 0..LARGE_ROUNDS {
+        for (((told, list), bench), times) in lists.iter().zip(&mut benches).zip(&mut times) {
+            let sum = timed(times, || (0..passes(list)).map(|_| bench.rings_told(*told)).sum::<usize>());
+            assert_eq!(sum, passes(list) as usize * 3 * list.rows.len());
+        }
+    }
+    let rings = |list: &List| f64::from(passes(list) * list.n);
+    times.iter().zip(lists).map(|(times, (_, list))| median(times) * 1e6 / rings(list)).collect()
+}
+
+fn print_told(dice: &mut Dice) {
+    println!("## Rings of a small and of a large mesh\n");
+    println!("The ring of every vertex of a closed mesh of triangles: nanoseconds per ring, medians of {LARGE_ROUNDS}");
+    println!("interleaved runs. Told 3 columns, a query reads only what is about its vertex: nothing grows with");
+    println!("the mesh but the share of it that is in no cache. Told 0, it looks at the whole list for the columns.\n");
+    println!("| triangles | told | in order | shuffled |");
+    println!("|---|---|---|---|");
+    let lists = lists_with_told(dice);
+    for (pair, times) in lists.chunks(2).zip(ring_times(&lists).chunks(2)) {
+        let (told, list) = &pair[0];
+        println!("| {} | {told} | {:.0} | {:.0} |", list.rows.len(), times[0], times[1]);
+    }
+    println!();
+}
+
 /// No element, and one, on n vertices.
 fn hardly_used(n: u32) -> [List; 2] {
     [List::new(n, &[]), List::new(n, &[[n, 1, n / 2, 0]])]
@@ -338,6 +402,7 @@ fn main() -> io::Result<()> {
     print_hundred_thousand(&lists);
     print_growth(&mut dice);
     print_extremes(&mut dice);
+    print_told(&mut dice);
     print_unused(&mut dice);
     Ok(())
 }
