@@ -65,15 +65,8 @@ pub extern "C" fn borzhanu_opposite(
 ) -> u64
     ensures { λ r. ⌜ r ≡ packedAnswer (oppositeAnswer (told n columns (now (elements .entry)) (now (v2e .entry)) (now (e2e .entry)) (now (b2e .entry))) code) ⌝ }
 {
-    answer::pack(query::opposite(
-        n,
-        columns::seen(columns, elements),
-        elements,
-        v2e,
-        e2e,
-        b2e,
-        code,
-    ))
+    let seen = columns::seen(columns, elements);
+    answer::pack(query::opposite(n, seen, elements, v2e, e2e, b2e, code))
 }
 
 // The half-edge after a half-edge, in its element or along the border.
@@ -89,15 +82,8 @@ pub extern "C" fn borzhanu_next(
 ) -> u64
     ensures { λ r. ⌜ r ≡ packedAnswer (nextAnswer (told n columns (now (elements .entry)) (now (v2e .entry)) (now (e2e .entry)) (now (b2e .entry))) code) ⌝ }
 {
-    answer::pack(query::next(
-        n,
-        columns::seen(columns, elements),
-        elements,
-        v2e,
-        e2e,
-        b2e,
-        code,
-    ))
+    let seen = columns::seen(columns, elements);
+    answer::pack(query::next(n, seen, elements, v2e, e2e, b2e, code))
 }
 
 // The side before a side, in its element.
@@ -113,15 +99,8 @@ pub extern "C" fn borzhanu_previous(
 ) -> u64
     ensures { λ r. ⌜ r ≡ packedAnswer (previousAnswer (told n columns (now (elements .entry)) (now (v2e .entry)) (now (e2e .entry)) (now (b2e .entry))) code) ⌝ }
 {
-    answer::pack(query::previous(
-        n,
-        columns::seen(columns, elements),
-        elements,
-        v2e,
-        e2e,
-        b2e,
-        code,
-    ))
+    let seen = columns::seen(columns, elements);
+    answer::pack(query::previous(n, seen, elements, v2e, e2e, b2e, code))
 }
 
 // The element of a side.
@@ -137,15 +116,8 @@ pub extern "C" fn borzhanu_element(
 ) -> u64
     ensures { λ r. ⌜ r ≡ packedAnswer (elementAnswer (told n columns (now (elements .entry)) (now (v2e .entry)) (now (e2e .entry)) (now (b2e .entry))) code) ⌝ }
 {
-    answer::pack(query::element(
-        n,
-        columns::seen(columns, elements),
-        elements,
-        v2e,
-        e2e,
-        b2e,
-        code,
-    ))
+    let seen = columns::seen(columns, elements);
+    answer::pack(query::element(n, seen, elements, v2e, e2e, b2e, code))
 }
 
 // The vertex where a half-edge begins.
@@ -161,15 +133,8 @@ pub extern "C" fn borzhanu_origin(
 ) -> u64
     ensures { λ r. ⌜ r ≡ packedAnswer (originAnswer (told n columns (now (elements .entry)) (now (v2e .entry)) (now (e2e .entry)) (now (b2e .entry))) code) ⌝ }
 {
-    answer::pack(query::origin(
-        n,
-        columns::seen(columns, elements),
-        elements,
-        v2e,
-        e2e,
-        b2e,
-        code,
-    ))
+    let seen = columns::seen(columns, elements);
+    answer::pack(query::origin(n, seen, elements, v2e, e2e, b2e, code))
 }
 
 // The vertex where a half-edge ends.
@@ -185,15 +150,8 @@ pub extern "C" fn borzhanu_destination(
 ) -> u64
     ensures { λ r. ⌜ r ≡ packedAnswer (destinationAnswer (told n columns (now (elements .entry)) (now (v2e .entry)) (now (e2e .entry)) (now (b2e .entry))) code) ⌝ }
 {
-    answer::pack(query::destination(
-        n,
-        columns::seen(columns, elements),
-        elements,
-        v2e,
-        e2e,
-        b2e,
-        code,
-    ))
+    let seen = columns::seen(columns, elements);
+    answer::pack(query::destination(n, seen, elements, v2e, e2e, b2e, code))
 }
 
 // The element on the other side of a side, or 0 at a border.
@@ -209,15 +167,8 @@ pub extern "C" fn borzhanu_across(
 ) -> u64
     ensures { λ r. ⌜ r ≡ packedAnswer (acrossAnswer (told n columns (now (elements .entry)) (now (v2e .entry)) (now (e2e .entry)) (now (b2e .entry))) code) ⌝ }
 {
-    answer::pack(query::across(
-        n,
-        columns::seen(columns, elements),
-        elements,
-        v2e,
-        e2e,
-        b2e,
-        code,
-    ))
+    let seen = columns::seen(columns, elements);
+    answer::pack(query::across(n, seen, elements, v2e, e2e, b2e, code))
 }
 
 // 1 for a border half-edge, 0 for a side.
@@ -233,15 +184,8 @@ pub extern "C" fn borzhanu_halfedge_is_border(
 ) -> u64
     ensures { λ r. ⌜ r ≡ packedAnswer (halfEdgeBorderAnswer (told n columns (now (elements .entry)) (now (v2e .entry)) (now (e2e .entry)) (now (b2e .entry))) code) ⌝ }
 {
-    answer::pack(query::halfedge_is_border(
-        n,
-        columns::seen(columns, elements),
-        elements,
-        v2e,
-        e2e,
-        b2e,
-        code,
-    ))
+    let seen = columns::seen(columns, elements);
+    answer::pack(query::halfedge_is_border(n, seen, elements, v2e, e2e, b2e, code))
 }
 
 // 1 for a vertex on a border, 0 for another.
@@ -257,15 +201,8 @@ pub extern "C" fn borzhanu_vertex_is_border(
 ) -> u64
     ensures { λ r. ⌜ r ≡ packedAnswer (vertexBorderAnswer (told n columns (now (elements .entry)) (now (v2e .entry)) (now (e2e .entry)) (now (b2e .entry))) v) ⌝ }
 {
-    answer::pack(query::vertex_is_border(
-        n,
-        columns::seen(columns, elements),
-        elements,
-        v2e,
-        e2e,
-        b2e,
-        v,
-    ))
+    let seen = columns::seen(columns, elements);
+    answer::pack(query::vertex_is_border(n, seen, elements, v2e, e2e, b2e, v))
 }
 
 // The elements about a vertex, in turn order.
@@ -283,16 +220,8 @@ pub extern "C" fn borzhanu_ring(
     ensures { λ r. ⌜ r ≡ packedAnswer (ringAnswer (told n columns (now (elements .entry)) (now (v2e .entry)) (now (e2e .entry)) (now (b2e .entry))) v (now (out .entry))) ⌝ }
     ensures { λ _. ⌜ now (out .exit) ≡ ringLeaves (told n columns (now (elements .entry)) (now (v2e .entry)) (now (e2e .entry)) (now (b2e .entry))) v (now (out .entry)) ⌝ }
 {
-    answer::pack(rings::ring(
-        n,
-        columns::seen(columns, elements),
-        elements,
-        v2e,
-        e2e,
-        b2e,
-        v,
-        out,
-    ))
+    let seen = columns::seen(columns, elements);
+    answer::pack(rings::ring(n, seen, elements, v2e, e2e, b2e, v, out))
 }
 
 // The vertices joined to a vertex by an edge, in turn order.
@@ -310,16 +239,8 @@ pub extern "C" fn borzhanu_neighbours(
     ensures { λ r. ⌜ r ≡ packedAnswer (neighboursAnswer (told n columns (now (elements .entry)) (now (v2e .entry)) (now (e2e .entry)) (now (b2e .entry))) v (now (out .entry))) ⌝ }
     ensures { λ _. ⌜ now (out .exit) ≡ neighboursLeaves (told n columns (now (elements .entry)) (now (v2e .entry)) (now (e2e .entry)) (now (b2e .entry))) v (now (out .entry)) ⌝ }
 {
-    answer::pack(rings::neighbours(
-        n,
-        columns::seen(columns, elements),
-        elements,
-        v2e,
-        e2e,
-        b2e,
-        v,
-        out,
-    ))
+    let seen = columns::seen(columns, elements);
+    answer::pack(rings::neighbours(n, seen, elements, v2e, e2e, b2e, v, out))
 }
 
 // The border numbers of one hole, from b on.
@@ -337,16 +258,8 @@ pub extern "C" fn borzhanu_border_loop(
     ensures { λ r. ⌜ r ≡ packedAnswer (borderLoopAnswer (told n columns (now (elements .entry)) (now (v2e .entry)) (now (e2e .entry)) (now (b2e .entry))) b (now (out .entry))) ⌝ }
     ensures { λ _. ⌜ now (out .exit) ≡ borderLoopLeaves (told n columns (now (elements .entry)) (now (v2e .entry)) (now (e2e .entry)) (now (b2e .entry))) b (now (out .entry)) ⌝ }
 {
-    answer::pack(rings::border_loop(
-        n,
-        columns::seen(columns, elements),
-        elements,
-        v2e,
-        e2e,
-        b2e,
-        b,
-        out,
-    ))
+    let seen = columns::seen(columns, elements);
+    answer::pack(rings::border_loop(n, seen, elements, v2e, e2e, b2e, b, out))
 }
 
 // A walker call on a record that a host holds as three numbers.

@@ -111,18 +111,6 @@ pub fn border_loop(
     if 0 < refusal {
         return refuse(refusal);
     }
-    let limit = b2e.len() as u32;
-    list_walk(
-        Walk::Borders,
-        n,
-        columns,
-        list,
-        v2e,
-        e2e,
-        b2e,
-        limit,
-        b,
-        0,
-        out,
-    )
+    let k = b2e.len() as u32;
+    list_walk(Walk::Borders, n, columns, list, v2e, e2e, b2e, k, b, 0, out)
 }

@@ -21,8 +21,8 @@ unfolding borderLoopAnswer borderLoopLeaves
 returns c =
     list-refused _ (c .before .before .border-refusal .ensures) _ _ (c .before .if1 .taken) (c .refuse .ensures)
 
-cast-limit : tie.Need-cast-limit
-cast-limit c = let f = c .before .border-refusal .ensures .fit (c .if1 .left) in omega (arith, f .border, f .elements)
+cast-k : tie.Need-cast-k
+cast-k c = let f = c .before .border-refusal .ensures .fit (c .if1 .left) in omega (arith, f .border, f .elements)
 
 list-walk-requires : tie.Need-list-walk-requires
 list-walk-requires c κs =
@@ -47,7 +47,7 @@ border-loop-spec =
     border-refusal-requires
     refuse-requires
     returns
-    cast-limit
+    cast-k
     list-walk-requires
     same-length
     returns-2)
