@@ -74,16 +74,17 @@ fn next_by(
     }
 }
 
+// One step of the walk from x. The numbers come first: so they are passed in registers.
 fn visit(
     walk: Walk,
+    x: u32,
+    start: u32,
     n: u32,
     columns: u32,
     list: &[u32],
     v2e: &[u32],
     e2e: &[u32],
     b2e: &[u32],
-    start: u32,
-    x: u32,
 ) -> Step
     requires { ⌜ (let M = mesh n columns (now list) (now v2e) (now e2e) (now b2e) in Fit M × Stands walk M x) ⌝ }
     ensures { λ r. ⌜ Stepped walk (mesh n columns (now (list .entry)) (now (v2e .entry)) (now (e2e .entry)) (now (b2e .entry))) start x r ⌝ }
@@ -120,7 +121,7 @@ fn count(
         if limit <= count {
             return Read::Broken;
         }
-        let step = visit(walk, n, columns, list, v2e, e2e, b2e, start, x);
+        let step = visit(walk, x, start, n, columns, list, v2e, e2e, b2e);
         let Step::To { shown: _, next } = step else {
             return Read::Broken;
         };
@@ -151,7 +152,7 @@ fn write(
     let mut x = start;
     let mut at: usize = 0;
     while at < size {
-        let step = visit(walk, n, columns, list, v2e, e2e, b2e, start, x);
+        let step = visit(walk, x, start, n, columns, list, v2e, e2e, b2e);
         let Step::To { shown, next } = step else {
             return;
         };
