@@ -1,5 +1,4 @@
 // Half-edge numbers and element rows, document 01, "Element list and half-edge numbers".
-ghost use mathlib.Core.Logic.{_⊎_};
 ghost use mathlib.Core.Path.{_≡_};
 ghost use Prim.Native.Nat.{_+_, _*_, _≤_, _<_};
 ghost use lib.Dec.{eqb};
@@ -178,12 +177,12 @@ pub fn slot_of(s: u32) -> usize
     wide(4 * (element_of(s) - 1) + (number_of(s) - 1))
 }
 
-// The entry of E2e, in this many columns, that is side s's.
-pub fn e2e_slot(columns: u32, s: u32) -> usize
-    requires { ⌜ ((columns ≡ 3) ⊎ (columns ≡ 4)) × ((1 ≤ element s) × (1 ≤ number s)) ⌝ }
-    ensures { λ r. ⌜ r ≡ e2eSlot columns s ⌝ }
+// The entry of an E2e of three columns that is side s's.
+pub fn narrow_slot_of(s: u32) -> usize
+    requires { ⌜ (1 ≤ element s) × (1 ≤ number s) ⌝ }
+    ensures { λ r. ⌜ r ≡ e2eSlot 3 s ⌝ }
 {
-    wide(columns * (element_of(s) - 1) + (number_of(s) - 1))
+    wide(3 * (element_of(s) - 1) + (number_of(s) - 1))
 }
 
 // The first of two numbers for a triangle, the second for a quadrilateral. A fourth entry of 0 makes a triangle.

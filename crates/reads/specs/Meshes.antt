@@ -7,7 +7,7 @@ use mathlib.Core.Path.{_≡_}
 use Prim.Native.Nat.{ℕ, zero, suc, _*_, _≤_}
 use lib.Dec.{T}
 use lib.ListN.{length}
-use Rattle.rules.specs.Elements.{maxElement, elements}
+use Rattle.rules.specs.Elements.{maxElement, elements, element, number}
 use Rattle.rules.specs.Refusals.{Answer, refused}
 use Rattle.rules.specs.Queries.{Mesh, asked, defined}
 
@@ -21,6 +21,13 @@ pub record Fit (M : Mesh) : Type 0 where
   pub opposites : length (M .opposites) ≡ M .columns * elements (M .list)
   pub border : length (M .border) ≤ 4 * elements (M .list)
   pub elements : elements (M .list) ≤ maxElement
+
+-- a table of c columns has a row for the element of s, which counts its sides from 1 to 4
+pub record EntryIn (c : ℕ) (E2e : List ℕ) (s : ℕ) : Type 0 where
+  pub element-from : 1 ≤ element s
+  pub number-from : 1 ≤ number s
+  pub number-to : number s ≤ 4
+  pub row : c * element s ≤ length E2e
 
 -- what is answered where the checks before it found r: 0 is nothing
 unfoldable pub settle : ℕ → Answer → Answer

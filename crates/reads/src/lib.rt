@@ -1,23 +1,25 @@
 // What a query reads from the tables: a value that names something, or a broken entry.
 use halfedge::HalfEdge;
-use halfedge::e2e_slot;
 use halfedge::element_of;
 use halfedge::is_border;
+use halfedge::narrow_slot_of;
 use halfedge::number_of;
+use halfedge::slot_of;
 use halfedge::wide;
-use sides::destination_of;
 use sides::is_side;
 use sides::next_code;
 use sides::origin_of;
+ghost use mathlib.Core.Logic.{_⊎_};
 ghost use mathlib.Core.Path.{_≡_};
 ghost use Prim.Native.Nat.{_≤_};
 ghost use lib.Dec.{T};
 ghost use lib.ListN.{length};
 ghost use Rattle.lists.specs.Tests.{within};
 ghost use Rattle.rules.specs.Elements.{Side};
+ghost use Rattle.rules.specs.Tables.{entryOf};
 ghost use Rattle.rules.specs.Queries.{read, andThen, isBorderCode, isHalfEdge, isEntry, isVertex, readOpposite, readBorderSide, readVertexEntry, readOrigin};
 ghost use Rattle.rules.specs.Queries.{readDestination, borderNext, startSide, onward, loopNext};
-ghost use Rattle.reads.specs.Meshes.{mesh, Fit};
+ghost use Rattle.reads.specs.Meshes.{mesh, Fit, EntryIn};
 ghost use Rattle.reads.specs.Readings.{readOf, priorVertex};
 
 pub enum Read {
@@ -113,6 +115,20 @@ fn is_entry(
     is_half_edge(n, columns, list, v2e, e2e, b2e, code)
 }
 
+// The E2e entry of side s; 0, which names nothing, for a fourth side in three columns.
+fn entry_of(columns: u32, e2e: &[u32], s: u32) -> u32
+    requires { ⌜ ((columns ≡ 3) ⊎ (columns ≡ 4)) × EntryIn columns (now e2e) s ⌝ }
+    ensures { λ r. ⌜ r ≡ entryOf columns (now (e2e .entry)) s ⌝ }
+{
+    if columns == 4 {
+        return e2e[slot_of(s)];
+    }
+    if number_of(s) == 4 {
+        return 0;
+    }
+    e2e[narrow_slot_of(s)]
+}
+
 pub fn read_opposite(
     n: u32,
     columns: u32,
@@ -125,11 +141,7 @@ pub fn read_opposite(
     requires { ⌜ Fit (mesh n columns (now list) (now v2e) (now e2e) (now b2e)) × Side (now list) s ⌝ }
     ensures { λ r. ⌜ readOf r ≡ readOpposite (mesh n columns (now (list .entry)) (now (v2e .entry)) (now (e2e .entry)) (now (b2e .entry))) s ⌝ }
 {
-    // A fourth side has no entry in three columns.
-    if columns < number_of(s) {
-        return Read::Broken;
-    }
-    let opposed = e2e[e2e_slot(columns, s)];
+    let opposed = entry_of(columns, e2e, s);
     let valid = is_half_edge(n, columns, list, v2e, e2e, b2e, opposed);
     checked(valid, opposed)
 }
@@ -197,7 +209,7 @@ pub fn read_destination(
     requires { ⌜ Side (now list) s ⌝ }
     ensures { λ r. ⌜ readOf r ≡ readDestination (mesh n columns (now (list .entry)) (now (v2e .entry)) (now (e2e .entry)) (now (b2e .entry))) s ⌝ }
 {
-    let v = destination_of(list, s);
+    let v = origin_of(list, next_code(list, s));
     let valid = is_vertex(n, columns, list, v2e, e2e, b2e, v);
     checked(valid, v)
 }
