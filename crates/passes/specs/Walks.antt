@@ -1,11 +1,14 @@
 -- The walks of the list queries: elements about a vertex, their sides' ends, and border numbers.
 -- Assumes nothing.
+use mathlib.Core.Bool.{true, false}
 use mathlib.Core.Logic.{_⊎_}
 use mathlib.Core.Option.{Option, none, some}
 use mathlib.Core.List.{List, [], _∷_}
 use mathlib.Core.Path.{_≡_}
-use Prim.Native.Nat.{ℕ, zero, suc, _≤_}
-use lib.ListN.{length}
+use Prim.Native.Nat.{ℕ, zero, suc, _+_, _≤_}
+use lib.Dec.{ltb}
+use lib.ListN.{length, set}
+use lib.Seq.{sets}
 use Rattle.rules.specs.Elements.{element, Side}
 use Rattle.rules.specs.Refusals.{Answer}
 use Rattle.rules.specs.Queries.{Mesh, listed, listLeaves, prepend, follow, over, onward, loopNext, readDestination}
@@ -53,6 +56,15 @@ sizeOf none = none
 unfoldable pub listOf : Option (List ℕ) → List ℕ
 listOf (some xs) = xs
 listOf none = []
+
+-- an output in which entry `at` of a list was put from entry `from` on, where it is before entry `size`
+unfoldable pub putAt : List ℕ → ℕ → ℕ → ℕ → ℕ → List ℕ
+putAt out from size at e = elim (ltb at size) [ true ↦ set out (from + at) e | false ↦ out ]
+
+-- what a pass over the list xs leaves: with size 0 the output as it was, with the list's own size the list from entry `from` on
+pub record Leaves (from size : ℕ) (xs : Option (List ℕ)) (before out : List ℕ) : Type 0 where
+  pub unwritten : size ≡ 0 → out ≡ before
+  pub written : sizeOf xs ≡ some size → out ≡ sets before from (listOf xs)
 
 -- the vertex before a list, where there is one
 unfoldable pub leading : ℕ → List ℕ

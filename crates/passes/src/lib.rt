@@ -11,14 +11,14 @@ use reads::read_destination;
 use reads::ring_next;
 ghost use mathlib.Core.Option.{some};
 ghost use mathlib.Core.Path.{_≡_};
-ghost use Prim.Native.Nat.{_+_, _≤_};
+ghost use Prim.Native.Nat.{ℕ, _+_, _≤_};
 ghost use lib.ListN.{length};
 ghost use lib.Seq.{sets};
 ghost use Rattle.answer.specs.Numbers.{numbers};
 ghost use Rattle.rules.specs.Elements.{maxBorder};
 ghost use Rattle.reads.specs.Meshes.{mesh, Fit};
 ghost use Rattle.reads.specs.Readings.{readOf};
-ghost use Rattle.passes.specs.Walks.{nextBy, shownBy, Stands, Begins, Stepped, walked, sizeOf, listOf, leading, preceded, Lists};
+ghost use Rattle.passes.specs.Walks.{nextBy, shownBy, Stands, Begins, Stepped, walked, sizeOf, putAt, Leaves, leading, preceded, Lists};
 
 // What is listed: the elements about a vertex, their sides' ends, or border numbers.
 pub enum Walk {
@@ -74,17 +74,16 @@ fn next_by(
     }
 }
 
-// One step of the walk from x. The numbers come first: so they are passed in registers.
 fn visit(
     walk: Walk,
-    x: u32,
-    start: u32,
     n: u32,
     columns: u32,
     list: &[u32],
     v2e: &[u32],
     e2e: &[u32],
     b2e: &[u32],
+    start: u32,
+    x: u32,
 ) -> Step
     requires { ⌜ (let M = mesh n columns (now list) (now v2e) (now e2e) (now b2e) in Fit M × Stands walk M x) ⌝ }
     ensures { λ r. ⌜ Stepped walk (mesh n columns (now (list .entry)) (now (v2e .entry)) (now (e2e .entry)) (now (b2e .entry))) start x r ⌝ }
@@ -100,8 +99,19 @@ fn visit(
     Step::To { shown, next }
 }
 
-// How many entries a walk of at most `limit` steps lists; none from 0.
-fn count(
+// Entry `at` of the list, put where it belongs from entry `from` of `out` on; nothing past entry `size`.
+fn put(out: &mut [u32], from: usize, size: usize, at: usize, shown: u32)
+    requires { ⌜ from + size ≤ length (now out) ⌝ }
+    ensures { λ _. ⌜ now (out .exit) ≡ putAt (now (out .entry)) from size at shown ⌝ }
+{
+    if at < size {
+        out[from + at] = shown;
+    }
+}
+
+// A pass over a walk of at most `limit` steps: how many entries it lists, none from 0. Its first `size` entries are written, so that a pass
+// with 0 only counts.
+fn pass(
     walk: Walk,
     n: u32,
     columns: u32,
@@ -111,9 +121,15 @@ fn count(
     b2e: &[u32],
     limit: u32,
     start: u32,
+    from: usize,
+    size: usize,
+    out: &mut [u32],
 ) -> Read
     requires { ⌜ (let M = mesh n columns (now list) (now v2e) (now e2e) (now b2e) in Fit M × Begins walk M start) ⌝ }
+    requires { ⌜ from + size ≤ length (now out) ⌝ }
     ensures { λ r. ⌜ readOf r ≡ sizeOf (walked walk (mesh n columns (now (list .entry)) (now (v2e .entry)) (now (e2e .entry)) (now (b2e .entry))) start limit start) ⌝ }
+    ensures { λ _. ⌜ Leaves from size (walked walk (mesh n columns (now (list .entry)) (now (v2e .entry)) (now (e2e .entry)) (now (b2e .entry))) start limit start) (now (out .entry)) (now (out .exit)) ⌝ }
+    ensures { λ r. ⌜ ((k : ℕ) → readOf r ≡ some k → k ≤ limit) ⌝ }
 {
     let mut x = start;
     let mut count: u32 = 0;
@@ -121,45 +137,15 @@ fn count(
         if limit <= count {
             return Read::Broken;
         }
-        let step = visit(walk, x, start, n, columns, list, v2e, e2e, b2e);
-        let Step::To { shown: _, next } = step else {
+        let step = visit(walk, n, columns, list, v2e, e2e, b2e, start, x);
+        let Step::To { shown, next } = step else {
             return Read::Broken;
         };
+        put(out, from, size, wide(count), shown);
         count += 1;
         x = next;
     }
     Read::Value(count)
-}
-
-// Writes a walk of `size` entries from entry `from` on.
-fn write(
-    walk: Walk,
-    n: u32,
-    columns: u32,
-    list: &[u32],
-    v2e: &[u32],
-    e2e: &[u32],
-    b2e: &[u32],
-    start: u32,
-    from: usize,
-    size: usize,
-    out: &mut [u32],
-)
-    requires { ⌜ (let M = mesh n columns (now list) (now v2e) (now e2e) (now b2e) in Fit M × Begins walk M start) ⌝ }
-    requires { ⌜ (sizeOf (walked walk (mesh n columns (now list) (now v2e) (now e2e) (now b2e)) start size start) ≡ some size) × (from + size ≤ length (now out)) ⌝ }
-    ensures { λ _. ⌜ now (out .exit) ≡ sets (now (out .entry)) from (listOf (walked walk (mesh n columns (now (list .entry)) (now (v2e .entry)) (now (e2e .entry)) (now (b2e .entry))) start size start)) ⌝ }
-{
-    let mut x = start;
-    let mut at: usize = 0;
-    while at < size {
-        let step = visit(walk, x, start, n, columns, list, v2e, e2e, b2e);
-        let Step::To { shown, next } = step else {
-            return;
-        };
-        out[from + at] = shown;
-        at += 1;
-        x = next;
-    }
 }
 
 // How many entries stand before the list.
@@ -201,7 +187,20 @@ pub fn list_walk(
     requires { ⌜ limit ≤ maxBorder ⌝ }
     ensures { λ r. ⌜ Lists (preceded prior (walked walk (mesh n columns (now (list .entry)) (now (v2e .entry)) (now (e2e .entry)) (now (b2e .entry))) start limit start)) (now (out .entry)) (numbers r) (now (out .exit)) ⌝ }
 {
-    let counted = count(walk, n, columns, list, v2e, e2e, b2e, limit, start);
+    let counted = pass(
+        walk,
+        n,
+        columns,
+        list,
+        v2e,
+        e2e,
+        b2e,
+        limit,
+        start,
+        0,
+        0,
+        out,
+    );
     let Read::Value(size) = counted else {
         return refuse(12);
     };
@@ -211,7 +210,7 @@ pub fn list_walk(
         return refuse_at(13, needed, 0);
     }
     lead(prior, out);
-    write(
+    pass(
         walk,
         n,
         columns,
@@ -219,6 +218,7 @@ pub fn list_walk(
         v2e,
         e2e,
         b2e,
+        limit,
         start,
         wide(first),
         wide(size),
