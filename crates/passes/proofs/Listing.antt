@@ -86,6 +86,11 @@ pub wrote : {out led left zs : List ℕ} {i first : ℕ} {o : Option (List ℕ)}
 unfolding listOf
 wrote p e f g = rw (e, f, g) at p
 
+-- nothing is left of a list without entries
+pub no-more : (out : List ℕ) (i : ℕ) (zs : List ℕ) → length zs ≡ 0 → sets out i zs ≡ out
+no-more out i [] e = refl
+no-more out i (z ∷ zs) e = absurd (omega arith)
+
 pub leading-one : (u : ℕ) → length (leading u) ≤ 1
 unfolding leading
 leading-one zero = omega arith

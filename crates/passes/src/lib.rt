@@ -210,6 +210,9 @@ pub fn list_walk(
         return refuse_at(13, needed, 0);
     }
     lead(prior, out);
+    if size == 0 {
+        return give(needed);
+    }
     pass(
         walk,
         n,

@@ -4,7 +4,7 @@ use mathlib.Core.List.{List}
 use mathlib.Core.Option.{Option, some}
 use Prim.Native.Nat.{ℕ, _+_, _≤_, _<_}
 use Rattle.passes.proofs.Following.{size-some}
-use Rattle.passes.proofs.Listing.{none-listed, short-listed, all-listed, wrote, leading-one}
+use Rattle.passes.proofs.Listing.{none-listed, short-listed, all-listed, wrote, no-more, leading-one}
 use Rattle.reads.proofs.Readings.{value-of, broken-of}
 use Rattle.reads.specs.Meshes.{mesh}
 use Rattle.reads.specs.Readings.{readOf}
@@ -32,16 +32,16 @@ passed c = c .before .before .before .before
 abbrev counted : tie.After-places → tie.After-counted
 counted c = c .before .before
 
-abbrev led : tie.After-wide3 → tie.After-lead
-led c = c .before .before .before .before
+abbrev fits : tie.After-lead → tie.Else1
+fits c = c .before .before
 
-abbrev fits : tie.After-wide3 → tie.Else1
-fits c = led c .before .before
-
-abbrev placed : tie.After-wide3 → tie.After-places
+abbrev placed : tie.After-lead → tie.After-places
 placed c = fits c .before .before
 
-abbrev written : tie.After-give → tie.After-pass2
+abbrev led : tie.After-wide3 → tie.After-lead
+led c = c .before .before .before .before .before
+
+abbrev written : tie.After-give2 → tie.After-pass2
 written c = c .before .before .before
 
 -- the list of the walk, and its size
@@ -59,7 +59,7 @@ kept : (c : tie.After-pass) → c .pass .last .1 .1 .1 .1 .1 .1 .1 .1 .1 .1 .1 .
 kept c = c .pass .ensures .1 .0 .unwritten refl
 
 -- its places are in the output
-inside : (c : tie.After-wide3) → let p = placed c in p .places .result + counted p .counted .given .0 .0 ≤ length (begun (passed (counted p)) .args .out .now)
+inside : (c : tie.After-lead) → let p = placed c in p .places .result + counted p .counted .given .0 .0 ≤ length (begun (passed (counted p)) .args .out .now)
 inside c = omega (arith, fits c .if1 .left, fits c .before .wide .ensures, ap length (kept (passed (counted (placed c)))))
 
 pass-requires : tie.Need-pass-requires
@@ -123,8 +123,30 @@ wide-requires-3 c κs = search needs
 pass-requires-2 : tie.Need-pass-requires-2
 pass-requires-2 c κs =
     let size = c .before in
-    let walk = counted (placed size) in
-    (begun (passed walk) .pre .0, omega (arith, inside size, size .wide3 .ensures, size .before .wide2 .ensures, led size .lead .kept, ap length (kept (passed walk))))
+    let walk = counted (placed (led size)) in
+    (begun (passed walk) .pre .0, omega (arith, inside (led size), size .wide3 .ensures, size .before .wide2 .ensures, led size .lead .kept, ap length (kept (passed walk))))
+
+give-requires-2 : tie.Need-give-requires-2
+give-requires-2 c κs = search needs
+
+same-length-4 : tie.Need-same-length-4
+same-length-4 c = search needs
+
+-- the output with the entry before the list, where there is one
+led-in : (c : tie.After-lead) → let s = begun (passed (counted (placed c))) .args in c .lead .last .1 .0 ≡ sets (s .out .now) 0 (leading (s .prior))
+led-in c =
+    let pass = passed (counted (placed c)) in
+    c .lead .ensures ∙ ap (λ (X : List ℕ). sets X 0 (leading (begun pass .args .prior))) (kept pass)
+
+returns-4 : tie.Need-returns-4
+returns-4 c =
+    let size = written c .before .before in
+    let lead = led size in
+    let places = placed lead in
+    let walk = counted places in
+    let (is, long) = found walk in
+    let all = written c .pass2 .ensures .1 .0 .written (sized walk ∙ ap some (sym (size .wide3 .ensures))) in
+    all-listed _ _ _ is (places .places .ensures) long (inside lead) (c .give2 .ensures) (wrote all (led-in lead) (size .before .wide2 .ensures) is)
 
 give-requires : tie.Need-give-requires
 give-requires c κs = search needs
@@ -132,17 +154,14 @@ give-requires c κs = search needs
 same-length-3 : tie.Need-same-length-3
 same-length-3 c = search needs
 
+-- nothing is listed after it
 returns-3 : tie.Need-returns-3
 returns-3 c =
-    let size = written c .before .before in
-    let first = size .before in
-    let places = placed size in
-    let walk = counted places in
-    let s = begun (passed walk) in
-    let (is, long) = found walk in
-    let all = written c .pass2 .ensures .1 .0 .written (sized walk ∙ ap some (sym (size .wide3 .ensures))) in
-    let led-in = led size .lead .ensures ∙ ap (λ (X : List ℕ). sets X 0 (leading (s .args .prior))) (kept (passed walk)) in
-    all-listed _ _ _ is (places .places .ensures) long (inside size) (c .give .ensures) (wrote all led-in (first .wide2 .ensures) is)
+    let lead = c .before .before .before .before in
+    let places = placed lead in
+    let (is, long) = found (counted places) in
+    all-listed _ _ _ is (places .places .ensures) long (inside lead) (c .give .ensures)
+    (led-in lead ∙ sym (no-more _ (places .places .result) (listOf (whole (begun (passed (counted places))))) (long ∙ c .before .if2 .taken)))
 
 pub list-walk-spec : {M : Type 1} → statement M
 list-walk-spec =
@@ -161,9 +180,12 @@ list-walk-spec =
     same-length-2
     returns-2
     lead-requires
+    give-requires
+    same-length-3
+    returns-3
     wide-requires-2
     wide-requires-3
     pass-requires-2
-    give-requires
-    same-length-3
-    returns-3)
+    give-requires-2
+    same-length-4
+    returns-4)
