@@ -10,7 +10,7 @@ use native.Mathlib.Omega.{arith}
 use lib.Dec.{T, leb, eqb}
 use lib.ListN.{length}
 use Rattle.lists.specs.Tests.{both, within}
-use Rattle.lists.specs.TestLaws.{Test, pass, fail, test, passes, means-itself, means-both, means-either, means-eq, means-le, means-within}
+use Rattle.lists.specs.TestLaws.{Test, pass, fail, test, means-itself, means-both, means-either, means-eq, means-le, means-within}
 use Rattle.lists.specs.SearchLaws.{count-bound}
 use Rattle.rules.specs.Elements.{maxVertex, maxElement, elements, element, number, sides, isSide, Side, next, sideWith, firstSide, countSides}
 use Rattle.rules.specs.Elements.{firstVertex}

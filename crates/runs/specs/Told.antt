@@ -5,7 +5,7 @@
 -- still ends with what the definition says: lengths by the told number, and the E2e entry of a fourth side in three columns names nothing (12)."
 -- Assumes nothing.
 use mathlib.Core.Path.{_≡_, refl, ap, sym, subst, _∙_}
-use mathlib.Core.Bool.{Bool, true, false}
+use mathlib.Core.Bool.{true}
 use mathlib.Core.Logic.{_⊎_, inl, inr, _↔_}
 use mathlib.Core.List.{List}
 use Prim.Native.Nat.{ℕ, _%_, _≤_, _<_}
@@ -13,13 +13,13 @@ use native.Mathlib.Omega.{arith}
 use lib.Dec.{T, eqb, not-T}
 use lib.ListN.{take}
 use Rattle.lists.specs.Tests.{both, within}
-use Rattle.lists.specs.TestLaws.{true-of, false-of, passes, means-itself, means-either, means-not, means-eq, means-within}
+use Rattle.lists.specs.TestLaws.{true-of, false-of, means-itself, means-either, means-not, means-eq, means-within}
 use Rattle.lists.specs.SearchLaws.{le-or-lt}
 use Rattle.rules.specs.Elements.{Side, isSide}
 use Rattle.rules.specs.Pairing.{sizesFit}
 use Rattle.rules.specs.Tables.{columns}
 use Rattle.rules.specs.Refusals.{Answer, gives, refused, Buffers, lengthChecks}
-use Rattle.rules.specs.Queries.{Mesh, seen, told, columnsAnswer, queryLengths, asked, found, isHalfEdge, isBorderCode, opposite, oppositeAnswer, bySide, readBorderSide}
+use Rattle.rules.specs.Queries.{Mesh, seen, told, columnsAnswer, queryLengths, asked, found, isHalfEdge, isBorderCode, opposite, oppositeAnswer, readBorderSide}
 use Rattle.theory.specs.Answers.{past-lengths}
 use Rattle.theory.specs.Columns.{three-or-four}
 use Rattle.theory.specs.Built.{by-side}

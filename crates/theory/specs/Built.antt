@@ -1,6 +1,6 @@
 -- Built tables: checks 1 and 2 pass on them, their half-edges, and what each read on them gives.
 -- Assumes nothing.
-use mathlib.Core.Path.{_≡_, refl, ap, sym, _∙_}
+use mathlib.Core.Path.{_≡_, refl}
 use mathlib.Core.Bool.{Bool, true, false}
 use mathlib.Core.Logic.{_⊎_, inl, inr}
 use mathlib.Core.Option.{some}
@@ -10,7 +10,7 @@ use native.Mathlib.Omega.{arith}
 use lib.Dec.{T, eqb}
 use lib.ListN.{length}
 use Rattle.lists.specs.Tests.{both}
-use Rattle.lists.specs.TestLaws.{true-of, false-of, Means, passes, both-pass, means-itself, means-both, means-either, means-not, means-eq, means-le, means-within}
+use Rattle.lists.specs.TestLaws.{true-of, false-of, Means, passes, means-itself, means-both, means-either, means-not, means-eq, means-le, means-within}
 use Rattle.lists.specs.Search.{at}
 use Rattle.lists.specs.SearchLaws.{count-bound}
 use Rattle.rules.specs.Elements.{elements, isSide, Side, origin, destination, sideWith, countSides}

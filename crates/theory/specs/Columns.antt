@@ -4,17 +4,17 @@ use mathlib.Core.Path.{_≡_, refl, ap, sym, _∙_}
 use mathlib.Core.Bool.{true, false}
 use mathlib.Core.Logic.{_⊎_, inl, inr}
 use mathlib.Core.List.{List}
-use Prim.Native.Nat.{ℕ, _+_, _*_, _-_, _/_, _%_, _≤_, _<_}
+use Prim.Native.Nat.{ℕ, _+_, _*_, _/_, _%_, _≤_, _<_}
 use native.Mathlib.Omega.{arith}
-use lib.Dec.{T, leb, eqb, not-T}
+use lib.Dec.{leb, eqb, not-T}
 use lib.ListN.{length}
-use Rattle.lists.specs.TestLaws.{Test, pass, fail, test, true-of, false-of, decide, means-not, means-eq, means-le}
+use Rattle.lists.specs.TestLaws.{Test, pass, fail, test, true-of, false-of, means-not, means-eq, means-le}
 use Rattle.lists.specs.Search.{at, tab}
 use Rattle.lists.specs.SearchLaws.{length-tab, at-tab, is-tab, tab-same, le-or-lt}
 use Rattle.rules.specs.Elements.{maxElement, maxBorder, elements, number, isSide, Side, slot, sideAt, firstSide}
 use Rattle.rules.specs.Tables.{columns, codeAt, e2eSlot, e2eEntry, e2e, entryOf, wide}
 use Rattle.rules.specs.Recovery.{columnsBy, widened}
-use Rattle.theory.specs.Sides.{side-facts, sideAt-slot}
+use Rattle.theory.specs.Sides.{side-facts}
 use Rattle.theory.specs.Least.{means-none, means-some}
 
 -- c is the number of the list's columns

@@ -7,7 +7,7 @@ use Rattle.rules.specs.Elements.{elements, sides, isSide}
 use Rattle.sides.proofs.Sided.{side-by, element-sides}
 use borrow.Author.Tests.{le-leb, lt-leb}
 use mathlib.Core.List.{List}
-use mathlib.Core.Path.{_≡_, ap, sym, _∙_}
+use mathlib.Core.Path.{_≡_, ap, _∙_}
 use native.Mathlib.Omega.{arith}
 use borrow.Author.Needs.{needs}
 use Rattle.sides.proofs.is_side.Statement.{statement}
