@@ -1,6 +1,6 @@
 //! What the wrapper adds to the archive: refusals by name, a mesh whose columns are looked up once, a walk that ends
-//! after a refusal, tables that are owned, lists as vectors, kinds of vertices, and half-edges. The values are those of the worked cases that docs/TRACE.md
-//! quotes, or worked out by hand.
+//! after a refusal, tables that are owned, lists as vectors, kinds of vertices, and half-edges. The values are those of
+//! the worked cases that docs/TRACE.md quotes, or worked out by hand.
 
 use borzhanu::{
     build, columns, recover, work_length, Counts, HalfEdge, Mesh, Refusal, Tables, VertexKind, WalkerRecord,
