@@ -20,3 +20,16 @@ module _ {u : ℕ} {r x : Answer} (e : u ≡ packedAnswer r) where
 module _ {n x y : ℕ} {L V2e E2e B2e : List ℕ} (looked : x ≡ y) where
   pub by-seen : {A : Type 0} (rule : Mesh → A) {w : A} → w ≡ rule (mesh n x L V2e E2e B2e) → w ≡ rule (mesh n y L V2e E2e B2e)
   by-seen rule f = f ∙ ap (λ (z : ℕ). rule (mesh n z L V2e E2e B2e)) looked
+
+  -- one number, about what the code or the number c names
+  pub packs-seen :
+      (rule : Mesh → ℕ → Answer) {c u : ℕ} {r : Answer} → r ≡ rule (mesh n x L V2e E2e B2e) c → u ≡ packedAnswer r →
+      u ≡ packedAnswer (rule (mesh n y L V2e E2e B2e) c)
+  packs-seen rule {c} f e = packs e (by-seen (λ M. rule M c) f)
+
+  -- a list, and what it leaves in the output
+  pub packs-listed :
+      (rule : Mesh → ℕ → List ℕ → Answer) (leaves : Mesh → ℕ → List ℕ → List ℕ) {c u : ℕ} {r : Answer} {out left : List ℕ} →
+      (r ≡ rule (mesh n x L V2e E2e B2e) c out) × (left ≡ leaves (mesh n x L V2e E2e B2e) c out) → u ≡ packedAnswer r →
+      (u ≡ packedAnswer (rule (mesh n y L V2e E2e B2e) c out)) × (left ≡ leaves (mesh n y L V2e E2e B2e) c out)
+  packs-listed rule leaves {c} {out = out} (f, g) e = (packs e (by-seen (λ M. rule M c out) f), by-seen (λ M. leaves M c out) g)

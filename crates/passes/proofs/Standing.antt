@@ -11,7 +11,6 @@ use lib.ListN.{length}
 use Rattle.lists.specs.TestLaws.{zero-or}
 use Rattle.rules.specs.Elements.{Side, next}
 use Rattle.rules.specs.Queries.{Mesh, bySide, isHalfEdge, isBorderCode, readOpposite, borderNext, onward, loopNext}
-use Rattle.theory.specs.Sides.{side-positive}
 use Rattle.theory.specs.Steps.{next-side}
 use Rattle.passes.specs.declared.Walk.{Walk}
 use Rattle.passes.specs.declared.Walk.the-variants.{Elements, Ends, Borders}
@@ -21,11 +20,6 @@ use Rattle.reads.proofs.Tested.{half-side, border-facts}
 
 pub stands-as : {w u : Walk} (M : Mesh) (x : ℕ) → w ≡ u → Stands w M x → Stands u M x
 stands-as M x e s = subst (λ w. Stands w M x) e s
-
-pub stands-positive : (w : Walk) (M : Mesh) (x : ℕ) → Stands w M x → x ≡ 0 → ⊥
-stands-positive Elements M x s z = side-positive (M .list) x s z
-stands-positive Ends M x s z = side-positive (M .list) x s z
-stands-positive Borders M x s z = omega arith
 
 -- y where it is not the start, 0 where it is
 unless : (y start z : ℕ) → _≡_ {A = Option ℕ} (elim (eqb y start) [ true ↦ some 0 | false ↦ some y ]) (some z) → (z ≡ 0 → ⊥) → y ≡ z

@@ -209,6 +209,7 @@ pub fn read_destination(
     requires { ⌜ Side (now list) s ⌝ }
     ensures { λ r. ⌜ readOf r ≡ readDestination (mesh n columns (now (list .entry)) (now (v2e .entry)) (now (e2e .entry)) (now (b2e .entry))) s ⌝ }
 {
+    // The next side's origin: for sides 1 and 2 one corner is read, not the row.
     let v = origin_of(list, next_code(list, s));
     let valid = is_vertex(n, columns, list, v2e, e2e, b2e, v);
     checked(valid, v)

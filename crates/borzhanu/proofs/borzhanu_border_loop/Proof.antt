@@ -2,7 +2,7 @@
 -- Assumes nothing.
 use borrow.Author.Needs.{needs}
 use Rattle.rules.specs.Queries.{borderLoopAnswer, borderLoopLeaves}
-use Rattle.borzhanu.proofs.Packed.{packs, by-seen}
+use Rattle.borzhanu.proofs.Packed.{packs-listed}
 use Rattle.borzhanu.proofs.borzhanu_border_loop.Statement.{statement}
 use Rattle.borzhanu.proofs.borzhanu_border_loop.Tie as tie
 
@@ -21,11 +21,7 @@ same-length c = search needs
 returns : tie.Need-returns
 returns c =
     let left = c .before .before .before in
-    let here = left .before .before in
-    let looked = here .seen .ensures in
-    let a = here .before .before .before .before .before .before .args in
-    let (answer, leaves) = left .border-loop .ensures in
-    (packs (c .pack .ensures) (by-seen looked (λ M. borderLoopAnswer M (a .b) (a .out .now)) answer), by-seen looked (λ M. borderLoopLeaves M (a .b) (a .out .now)) leaves)
+    packs-listed (left .before .before .seen .ensures) borderLoopAnswer borderLoopLeaves (left .border-loop .ensures) (c .pack .ensures)
 
 pub borzhanu-border-loop-spec : {M : Type 1} → statement M
 borzhanu-border-loop-spec = tie.close (tie.spec seen-requires border-loop-requires pack-requires same-length returns)

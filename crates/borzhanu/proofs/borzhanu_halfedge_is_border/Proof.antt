@@ -2,7 +2,7 @@
 -- Assumes nothing.
 use borrow.Author.Needs.{needs}
 use Rattle.rules.specs.Queries.{halfEdgeBorderAnswer}
-use Rattle.borzhanu.proofs.Packed.{packs, by-seen}
+use Rattle.borzhanu.proofs.Packed.{packs-seen}
 use Rattle.borzhanu.proofs.borzhanu_halfedge_is_border.Statement.{statement}
 use Rattle.borzhanu.proofs.borzhanu_halfedge_is_border.Tie as tie
 
@@ -16,10 +16,7 @@ pack-requires : tie.Need-pack-requires
 pack-requires c κs = search needs
 
 returns : tie.Need-returns
-returns c =
-    let looked = c .before .before in
-    let a = looked .before .before .before .before .before .args in
-    packs (c .pack .ensures) (by-seen (looked .seen .ensures) (λ M. halfEdgeBorderAnswer M (a .code)) (c .before .halfedge-is-border .ensures))
+returns c = packs-seen (c .before .before .seen .ensures) halfEdgeBorderAnswer (c .before .halfedge-is-border .ensures) (c .pack .ensures)
 
 pub borzhanu-halfedge-is-border-spec : {M : Type 1} → statement M
 borzhanu-halfedge-is-border-spec = tie.close (tie.spec seen-requires halfedge-is-border-requires pack-requires returns)

@@ -2,7 +2,7 @@
 -- Assumes nothing.
 use borrow.Author.Needs.{needs}
 use Rattle.rules.specs.Queries.{neighboursAnswer, neighboursLeaves}
-use Rattle.borzhanu.proofs.Packed.{packs, by-seen}
+use Rattle.borzhanu.proofs.Packed.{packs-listed}
 use Rattle.borzhanu.proofs.borzhanu_neighbours.Statement.{statement}
 use Rattle.borzhanu.proofs.borzhanu_neighbours.Tie as tie
 
@@ -21,11 +21,7 @@ same-length c = search needs
 returns : tie.Need-returns
 returns c =
     let left = c .before .before .before in
-    let here = left .before .before in
-    let looked = here .seen .ensures in
-    let a = here .before .before .before .before .before .before .args in
-    let (answer, leaves) = left .neighbours .ensures in
-    (packs (c .pack .ensures) (by-seen looked (λ M. neighboursAnswer M (a .v) (a .out .now)) answer), by-seen looked (λ M. neighboursLeaves M (a .v) (a .out .now)) leaves)
+    packs-listed (left .before .before .seen .ensures) neighboursAnswer neighboursLeaves (left .neighbours .ensures) (c .pack .ensures)
 
 pub borzhanu-neighbours-spec : {M : Type 1} → statement M
 borzhanu-neighbours-spec = tie.close (tie.spec seen-requires neighbours-requires pack-requires same-length returns)

@@ -2,7 +2,7 @@
 -- Assumes nothing.
 use borrow.Author.Needs.{needs}
 use Rattle.rules.specs.Queries.{nextAnswer}
-use Rattle.borzhanu.proofs.Packed.{packs, by-seen}
+use Rattle.borzhanu.proofs.Packed.{packs-seen}
 use Rattle.borzhanu.proofs.borzhanu_next.Statement.{statement}
 use Rattle.borzhanu.proofs.borzhanu_next.Tie as tie
 
@@ -16,10 +16,7 @@ pack-requires : tie.Need-pack-requires
 pack-requires c κs = search needs
 
 returns : tie.Need-returns
-returns c =
-    let looked = c .before .before in
-    let a = looked .before .before .before .before .before .args in
-    packs (c .pack .ensures) (by-seen (looked .seen .ensures) (λ M. nextAnswer M (a .code)) (c .before .next .ensures))
+returns c = packs-seen (c .before .before .seen .ensures) nextAnswer (c .before .next .ensures) (c .pack .ensures)
 
 pub borzhanu-next-spec : {M : Type 1} → statement M
 borzhanu-next-spec = tie.close (tie.spec seen-requires next-requires pack-requires returns)

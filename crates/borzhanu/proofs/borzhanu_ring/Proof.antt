@@ -2,7 +2,7 @@
 -- Assumes nothing.
 use borrow.Author.Needs.{needs}
 use Rattle.rules.specs.Queries.{ringAnswer, ringLeaves}
-use Rattle.borzhanu.proofs.Packed.{packs, by-seen}
+use Rattle.borzhanu.proofs.Packed.{packs-listed}
 use Rattle.borzhanu.proofs.borzhanu_ring.Statement.{statement}
 use Rattle.borzhanu.proofs.borzhanu_ring.Tie as tie
 
@@ -21,11 +21,7 @@ same-length c = search needs
 returns : tie.Need-returns
 returns c =
     let left = c .before .before .before in
-    let here = left .before .before in
-    let looked = here .seen .ensures in
-    let a = here .before .before .before .before .before .before .args in
-    let (answer, leaves) = left .ring .ensures in
-    (packs (c .pack .ensures) (by-seen looked (λ M. ringAnswer M (a .v) (a .out .now)) answer), by-seen looked (λ M. ringLeaves M (a .v) (a .out .now)) leaves)
+    packs-listed (left .before .before .seen .ensures) ringAnswer ringLeaves (left .ring .ensures) (c .pack .ensures)
 
 pub borzhanu-ring-spec : {M : Type 1} → statement M
 borzhanu-ring-spec = tie.close (tie.spec seen-requires ring-requires pack-requires same-length returns)
