@@ -17,7 +17,7 @@ use Rattle.rules.specs.Elements.{maxVertex, maxElement, elements}
 use Rattle.rules.specs.Pairing.{sizesFit, unfitCorner, repeatedCorner}
 use Rattle.rules.specs.Tables.{borders, edges, b2e, columns, e2e, v2e}
 use Rattle.rules.specs.Refusals.{Answer, gives, refused, Buffers, callLengths, buildLengths, lengthChecks, workAfter, buildAnswer, buildLeaves}
-use Rattle.rules.specs.Refusals.{roomCheck, listAnswer, after, onto, crowdedSide, alikeSide, unorderedVertex}
+use Rattle.rules.specs.Refusals.{roomCheck, listAnswer, after, onto, crowdedSide, alikeSide, unorderedVertex, clashing}
 use Rattle.theory.specs.FitRows.{means-sizes}
 use Rattle.theory.specs.Columns.{three-or-four, narrowed, narrow-wide}
 use Rattle.theory.specs.Built.{borders-bound}
@@ -99,10 +99,11 @@ pub counts-are : (n : ℕ) (L : List ℕ) (k e : ℕ) → listAnswer n L ≡ giv
 unfolding listAnswer
 counts-are n L k e g =
     let h : gives (borders L) (edges L) ≡ gives k e =
-    past-check (unorderedVertex n L) k e _ _ _ _
+    past-check (clashing L) k e _ _ _ _
+    (past-check (unorderedVertex n L) k e _ _ _ _
     (past-check (alikeSide L) k e _ _ _ _
     (past-check (crowdedSide L) k e _ _ _ _
-    (past-check (repeatedCorner L) k e _ _ _ _ (past-check (unfitCorner n L) k e _ _ _ _ g .1) .1) .1) .1) .1 in
+    (past-check (repeatedCorner L) k e _ _ _ _ (past-check (unfitCorner n L) k e _ _ _ _ g .1) .1) .1) .1) .1) .1 in
     cc
 
 -- checks 1 and 2 found nothing

@@ -7,9 +7,9 @@ use Prim.Native.Nat.{ℕ, _+_, _-_}
 use lib.Dec.{eqb, ltb}
 use Rattle.lists.specs.Tests.{either}
 use Rattle.lists.specs.Search.{at}
-use Rattle.rules.specs.Elements.{sidesBy, sideAt, firstVertex}
+use Rattle.rules.specs.Elements.{sidesBy, sideAt, firstNumber}
 use Rattle.rules.specs.Pairing.{unfitCorner, repeatedCorner}
-use Rattle.theory.specs.Least.{FirstVertex}
+use Rattle.theory.specs.Least.{FirstNumber}
 use Rattle.corners.specs.declared.Fault.{Fault}
 use Rattle.corners.specs.declared.Fault.the-variants.{Unfit, Repeated, Nothing}
 
@@ -19,14 +19,14 @@ noVertex n x = either (eqb x 0) (ltb n x)
 
 -- corner i of a row equals an earlier one
 unfoldable pub repeats : List ℕ → ℕ → Bool
-repeats row i = not (eqb (firstVertex (i - 1) (λ j. eqb (at row (j - 1)) (at row (i - 1)))) 0)
+repeats row i = not (eqb (firstNumber (i - 1) (λ j. eqb (at row (j - 1)) (at row (i - 1)))) 0)
 
 -- r is the first corner of a row that is no vertex, or that equals an earlier one; 0 where there is none
 abbrev pub UnfitIn : ℕ → List ℕ → ℕ → Type 0
-UnfitIn n row r = FirstVertex (sidesBy (at row 3)) (λ i. noVertex n (at row (i - 1))) r
+UnfitIn n row r = FirstNumber (sidesBy (at row 3)) (λ i. noVertex n (at row (i - 1))) r
 
 abbrev pub RepeatedIn : List ℕ → ℕ → Type 0
-RepeatedIn row r = FirstVertex (sidesBy (at row 3)) (repeats row) r
+RepeatedIn row r = FirstNumber (sidesBy (at row 3)) (repeats row) r
 
 -- r is the first repeated corner, as a side's code: the one found before, or else that of the row at a
 pub data Repeating (a : ℕ) (row : List ℕ) (found r : ℕ) : Type 0 where

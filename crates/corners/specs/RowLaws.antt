@@ -12,7 +12,7 @@ use Rattle.lists.specs.Search.{at}
 use Rattle.lists.specs.SearchLaws.{lt-or-eq}
 use Rattle.rules.specs.Elements.{sidesBy}
 use Rattle.theory.specs.Sides.{SidesBy, three, four, sides-by}
-use Rattle.theory.specs.Least.{FirstVertex, nobody, somebody, means-some-vertex}
+use Rattle.theory.specs.Least.{FirstNumber, nobody, somebody, means-some-number}
 use Rattle.corners.specs.Faults.{noVertex, repeats, UnfitIn, RepeatedIn}
 
 -- numbers from 1 on
@@ -40,25 +40,25 @@ module _ (t : ℕ → Bool) (fourth : ℕ) where
       go (three z e) = absurd (d z)
       go (four z e) = e
 
-  pub first-one : T (t 1) → FirstVertex (sidesBy fourth) t 1
+  pub first-one : T (t 1) → FirstNumber (sidesBy fourth) t 1
   first-one a = somebody (omega arith) (omega (arith, at-least)) a (none-yet (λ v. T (not (t v))))
 
-  pub first-two : T (not (t 1)) → T (t 2) → FirstVertex (sidesBy fourth) t 2
+  pub first-two : T (not (t 1)) → T (t 2) → FirstNumber (sidesBy fourth) t 2
   first-two x a = somebody (omega arith) (omega (arith, at-least)) a (one-more (λ v. T (not (t v))) 1 (none-yet (λ v. T (not (t v)))) x)
 
   before-three : T (not (t 1)) → T (not (t 2)) → (v : ℕ) → 1 ≤ v → v < 3 → T (not (t v))
   before-three x y = one-more (λ v. T (not (t v))) 2 (one-more (λ v. T (not (t v))) 1 (none-yet (λ v. T (not (t v)))) x) y
 
-  pub first-three : T (not (t 1)) → T (not (t 2)) → T (t 3) → FirstVertex (sidesBy fourth) t 3
+  pub first-three : T (not (t 1)) → T (not (t 2)) → T (t 3) → FirstNumber (sidesBy fourth) t 3
   first-three x y a = somebody (omega arith) (omega (arith, at-least)) a (before-three x y)
 
   before-four : T (not (t 1)) → T (not (t 2)) → T (not (t 3)) → (v : ℕ) → 1 ≤ v → v < 4 → T (not (t v))
   before-four x y z = one-more (λ v. T (not (t v))) 3 (before-three x y) z
 
-  pub first-four : (fourth ≡ 0 → ⊥) → T (not (t 1)) → T (not (t 2)) → T (not (t 3)) → T (t 4) → FirstVertex (sidesBy fourth) t 4
+  pub first-four : (fourth ≡ 0 → ⊥) → T (not (t 1)) → T (not (t 2)) → T (not (t 3)) → T (t 4) → FirstNumber (sidesBy fourth) t 4
   first-four d x y z a = somebody (omega arith) (omega (arith, all-four d)) a (before-four x y z)
 
-  pub first-none : T (not (t 1)) → T (not (t 2)) → T (not (t 3)) → ((fourth ≡ 0 → ⊥) → T (not (t 4))) → FirstVertex (sidesBy fourth) t 0
+  pub first-none : T (not (t 1)) → T (not (t 2)) → T (not (t 3)) → ((fourth ≡ 0 → ⊥) → T (not (t 4))) → FirstNumber (sidesBy fourth) t 0
   first-none x y z w = nobody refl (λ v a b. go (sides-by fourth) v a b)
     where
       go : {k : ℕ} → SidesBy fourth k → (v : ℕ) → 1 ≤ v → v ≤ k → T (not (t v))
@@ -99,7 +99,7 @@ module _ (n : ℕ) (row : List ℕ) where
 module _ (row : List ℕ) where
   pub means-repeats : (i : ℕ) → Means (repeats row i) ((j : ℕ) × (1 ≤ j) × (j ≤ i - 1) × T (eqb (at row (j - 1)) (at row (i - 1))))
   unfolding repeats
-  means-repeats i = means-some-vertex (i - 1) (λ j. eqb (at row (j - 1)) (at row (i - 1)))
+  means-repeats i = means-some-number (i - 1) (λ j. eqb (at row (j - 1)) (at row (i - 1)))
 
   repeated : (i j : ℕ) → 1 ≤ j → j ≤ i - 1 → at row (i - 1) ≡ at row (j - 1) → T (repeats row i)
   repeated i j a b e = means-repeats i .shows (j, a, b, means-eq _ _ .shows (sym e))

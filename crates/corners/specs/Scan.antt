@@ -14,20 +14,20 @@ use Rattle.lists.specs.SearchLaws.{le-or-lt}
 use Rattle.rules.specs.Elements.{corner, sidesBy, sides, Side, slot, origin, sideAt}
 use Rattle.rules.specs.Pairing.{unfitCorner, repeatedCorner}
 use Rattle.theory.specs.Sides.{SidesBy, three, four, sides-by, side-facts, side-of, sideAt-slot, slot-sideAt, slot-below, slot-less}
-use Rattle.theory.specs.Least.{First, FirstVertex, first-is}
+use Rattle.theory.specs.Least.{First, FirstNumber, first-is}
 use Rattle.theory.specs.FitRows.{unfit, earlier, repeated, means-unfit, means-earlier, means-repeated}
 use Rattle.halfedge.specs.Rows.{rowOf, part-at}
 use Rattle.corners.specs.Faults.{noVertex, repeats, UnfitIn, Repeating, kept, none, new, faultOf}
 use Rattle.corners.specs.RowLaws.{means-repeats}
 use Rattle.corners.specs.declared.Fault.the-variants.{Unfit, Repeated, Nothing}
 
-pub first-le-four : (fourth : ℕ) {t : ℕ → Bool} {r : ℕ} → FirstVertex (sidesBy fourth) t r → r ≤ 4
+pub first-le-four : (fourth : ℕ) {t : ℕ → Bool} {r : ℕ} → FirstNumber (sidesBy fourth) t r → r ≤ 4
 first-le-four fourth {t} {r} x = go x (sides-by fourth)
   where
-    go : {k : ℕ} → FirstVertex k t r → SidesBy fourth k → r ≤ 4
-    go (FirstVertex.nobody e f) y = omega arith
-    go (FirstVertex.somebody a b u f) (three z e) = omega arith
-    go (FirstVertex.somebody a b u f) (four z e) = omega arith
+    go : {k : ℕ} → FirstNumber k t r → SidesBy fourth k → r ≤ 4
+    go (FirstNumber.nobody e f) y = omega arith
+    go (FirstNumber.somebody a b u f) (three z e) = omega arith
+    go (FirstNumber.somebody a b u f) (four z e) = omega arith
 
 -- r is the first side with the test t among those whose corners stand below a; 0 where there is none
 pub data FirstBelow (L : List ℕ) (t : ℕ → Bool) (a r : ℕ) : Type 0 where
@@ -78,20 +78,20 @@ module _ (L : List ℕ) (a e : ℕ) (aligned : a ≡ 4 * (a / 4)) (end : e ≡ a
       (there : (i : ℕ) → 1 ≤ i → i ≤ sidesBy (at (rowAt L a e) 3) → T (u i) → T (t (sideAt (a + i - 1))))
       (back : (i : ℕ) → 1 ≤ i → i ≤ sidesBy (at (rowAt L a e) 3) → T (t (sideAt (a + i - 1))) → T (u i))
       (clear : (s : ℕ) → Side L s → slot s < a → T (not (t s))) where
-    row-clear : FirstVertex (sidesBy (at (rowAt L a e) 3)) u 0 → (s : ℕ) → Side L s → slot s < e → T (not (t s))
+    row-clear : FirstNumber (sidesBy (at (rowAt L a e) 3)) u 0 → (s : ℕ) → Side L s → slot s < e → T (not (t s))
     row-clear x s b h = go x (le-or-lt a (slot s))
       where
-        go : FirstVertex (sidesBy (at (rowAt L a e) 3)) u 0 → (a ≤ slot s) ⊎ (slot s < a) → T (not (t s))
+        go : FirstNumber (sidesBy (at (rowAt L a e) 3)) u 0 → (a ≤ slot s) ⊎ (slot s < a) → T (not (t s))
         go y (inr k) = clear s b k
-        go (FirstVertex.somebody from to w f) (inl k) = absurd (omega arith)
-        go (FirstVertex.nobody z f) (inl k) =
+        go (FirstNumber.somebody from to w f) (inl k) = absurd (omega arith)
+        go (FirstNumber.nobody z f) (inl k) =
             let (c, q) = row-number s b k h in
             let i = slot s - a + 1 in
             not-T (t s) (λ w. T-not (u i) (f i (omega arith) c) (back i (omega arith) c (rw q w)))
 
-    row-found : (i : ℕ) → (i ≡ 0 → ⊥) → FirstVertex (sidesBy (at (rowAt L a e) 3)) u i → First L t (sideAt (a + i - 1))
-    row-found i d (FirstVertex.nobody z f) = absurd (d z)
-    row-found i d (FirstVertex.somebody from to w f) =
+    row-found : (i : ℕ) → (i ≡ 0 → ⊥) → FirstNumber (sidesBy (at (rowAt L a e) 3)) u i → First L t (sideAt (a + i - 1))
+    row-found i d (FirstNumber.nobody z f) = absurd (d z)
+    row-found i d (FirstNumber.somebody from to w f) =
         let r = sideAt (a + i - 1) in
         let b = row-side i from to in
         First.somebody b (there i from to w)
@@ -100,7 +100,7 @@ module _ (L : List ℕ) (a e : ℕ) (aligned : a ≡ 4 * (a / 4)) (end : e ≡ a
         go : (s : ℕ) → Side L s → (a ≤ slot s) ⊎ (slot s < a) → slot s < a + i - 1 → T (not (t s))
         go s c (inr k) h = clear s c k
         go s c (inl k) h =
-            let m = first-le-four (at (rowAt L a e) 3) {t = u} (FirstVertex.somebody from to w f) in
+            let m = first-le-four (at (rowAt L a e) 3) {t = u} (FirstNumber.somebody from to w f) in
             let (l, q) = row-number s c k (omega arith) in
             let j = slot s - a + 1 in
             not-T (t s) (λ y. T-not (u j) (f j (omega arith) (omega arith)) (back j (omega arith) l (rw q y)))

@@ -16,9 +16,9 @@ use Rattle.rules.specs.Elements.{elements}
 use Rattle.rules.specs.Pairing.{callSizes, sizesFit, unfitCorner, repeatedCorner, rowsFit}
 use Rattle.rules.specs.Tables.{borders, columns, e2e, v2e}
 use Rattle.rules.specs.Recovery.{widened, walkTo, walk}
-use Rattle.rules.specs.Refusals.{Answer, gives, refused, crowdedSide, alikeSide, unorderedVertex, listAnswer, accepts}
+use Rattle.rules.specs.Refusals.{Answer, gives, refused, crowdedSide, alikeSide, unorderedVertex, clashing, listAnswer, accepts}
 use Rattle.rules.specs.Refusals.{recovers, recoverLengths, lengthChecks, workAfter, after, onto, recoverAnswer, recoverList, recoverWork}
-use Rattle.theory.specs.Answers.{past-check, ordered-answer}
+use Rattle.theory.specs.Answers.{past-check, accepted-answer}
 use Rattle.theory.specs.FitRows.{means-call-sizes, means-sizes}
 use Rattle.theory.specs.Deciding.{means-accepted}
 use Rattle.theory.specs.Columns.{three-or-four, length-widened, narrowed, narrow-wide}
@@ -54,10 +54,12 @@ module _ (n : ℕ) (L : List ℕ) where
       let (d, g₃) = past-check (crowdedSide L) k e _ _ _ _ g₂ in
       let (f, g₄) = past-check (alikeSide L) k e _ _ _ _ g₃ in
       let (h, g₅) = past-check (unorderedVertex n L) k e _ _ _ _ g₄ in
+      let (i, g₆) = past-check (clashing L) k e _ _ _ _ g₅ in
       both-pass (both (sizesFit n L) (both (eqb (unfitCorner n L) 0) (eqb (repeatedCorner L) 0))) _
       (both-pass (sizesFit n L) _ t (both-pass (eqb (unfitCorner n L) 0) (eqb (repeatedCorner L) 0) (means-eq _ 0 .shows a) (means-eq _ 0 .shows b)))
       (both-pass (eqb (crowdedSide L) 0) _ (means-eq _ 0 .shows d)
-      (both-pass (eqb (alikeSide L) 0) (eqb (unorderedVertex n L) 0) (means-eq _ 0 .shows f) (means-eq _ 0 .shows h)))
+      (both-pass (eqb (alikeSide L) 0) _ (means-eq _ 0 .shows f)
+      (both-pass (eqb (unorderedVertex n L) 0) (eqb (clashing L) 0) (means-eq _ 0 .shows h) (means-eq _ 0 .shows i))))
 
   pub refusal-unaccepted : (r a b : ℕ) → listAnswer n L ≡ refused r a b → accepts n L ≡ false
   refusal-unaccepted r a b g =
@@ -65,7 +67,7 @@ module _ (n : ℕ) (L : List ℕ) where
       (not-T (accepts n L)
       (λ t.
       let x = means-accepted n L .says t in
-      let h = ordered-answer n L (x .rows) (x .pairing) (x .ordered) in
+      let h = accepted-answer n L (x .rows) x in
       let z : _≡_ {A = ℕ} 0 1 = cc in omega arith))
 
   -- so the comparison decides recovery

@@ -9,11 +9,11 @@ use lib.Dec.{T, eqb}
 use lib.ListN.{length, take, replicate}
 use Rattle.lists.specs.Tests.{both, same}
 use Rattle.lists.specs.Search.{least, count, upto, tab, zeros}
-use Rattle.rules.specs.Elements.{elements, sidesBy, isSide, slot, origin, nextNumber, next, sideAt, firstSide, countSides, firstVertex}
-use Rattle.rules.specs.Pairing.{alike, opposed, joins, callSizes, sizesFit, unfitCorner, repeatedCorner, rowsFit}
+use Rattle.rules.specs.Elements.{elements, sidesBy, isSide, slot, origin, nextNumber, next, sideAt, firstSide, countSides, firstNumber}
+use Rattle.rules.specs.Pairing.{alike, opposed, joins, callSizes, sizesFit, unfitCorner, repeatedCorner, rowsFit, isCorner, sharedCorners, shareSide, meetWell}
 use Rattle.rules.specs.Tables.{partner, isBorder, b2e, borderNumber, borders, columns, codeAt, e2eSlot, e2eEntry, e2e, entryOf, wide, borderInto, v2eEntry, v2e, edges}
 use Rattle.rules.specs.Recovery.{columnsBy, widened, sideOfBorder, walkStart, turnBy, trace, walkTo, walk}
-use Rattle.rules.specs.Refusals.{Answer, gives, refused, crowdedSide, alikeSide, missed, unorderedVertex, checkFound, listAnswer, accepts}
+use Rattle.rules.specs.Refusals.{Answer, gives, refused, crowdedSide, alikeSide, missed, unorderedVertex, clashOf, clashing, checkFound, listAnswer, accepts}
 use Rattle.rules.specs.Refusals.{Buffers, callLengths, buildLengths, lengthChecks, roomCheck, buildAnswer, after, onto, buildLeaves, recoverLengths, recovers, recoverAnswer, recoverList}
 use Rattle.rules.specs.Queries.{Mesh, seen, told, columnsAnswer, queryLengths, asked, defined, found, listed, listLeaves, andThen, prepend, readAll, follow, over, isBorderCode, isHalfEdge, isEntry, isVertex}
 use Rattle.rules.specs.Queries.{readOpposite, readBorderSide, readVertexEntry, readOrigin, readDestination, opposite, oppositeAnswer, borderNext, vertexBorderAnswer, startSide, onward, ringSides}
@@ -66,6 +66,8 @@ pub data Case : Type 0 where
   -- the columns of the list, and build's answer with an E2e of this length
   columnsAre : ℕ → List ℕ → ℕ → Case
   answersWith : ℕ → List ℕ → ℕ → Answer → Case
+  -- with an empty B2e
+  answersNarrow : ℕ → List ℕ → Answer → Case
   -- of n, the columns told, the list and this E2e, what opposite answers of the code
   oppositeIs : ℕ → ℕ → List ℕ → List ℕ → ℕ → Answer → Case
 
@@ -101,6 +103,9 @@ holds (columnsAre n L c) = sameAnswer (columnsAnswer n L) (gives c 0)
 holds (answersWith n L long a) =
     let w = room n L in
     sameAnswer (buildAnswer n L (record { vertices = w .vertices; opposites = blank long; border = w .border; work = w .work })) a
+holds (answersNarrow n L a) =
+    let w = room n L in
+    sameAnswer (buildAnswer n L (record { vertices = w .vertices; opposites = w .opposites; border = []; work = w .work })) a
 holds (oppositeIs n c L E2e s a) =
     let w = left n L in sameAnswer (oppositeAnswer (told n c L (w .vertices) E2e (w .border)) s) a
 
@@ -130,6 +135,13 @@ quadrilaterals = quad 4 1 2 3 ++ quad 8 5 6 7 ++ quad 12 9 10 11
 
 unfoldable pub shared : List ℕ
 shared = tab 12 (λ p. 8 * (p + 1))
+
+-- the first two share the corners 1 and 3, a diagonal of both; the others join them about 4 and 5
+unfoldable pub diagonal : List ℕ
+diagonal = quad 1 2 3 4 ++ quad 1 5 3 6 ++ tri 1 4 5 ++ tri 3 5 4
+
+unfoldable pub threeCorners : List ℕ
+threeCorners = quad 1 2 3 4 ++ tri 3 2 1
 
 -- "Where no n is named, it is the greatest corner"
 unfoldable pub cases : List Case
@@ -166,8 +178,8 @@ cases =
     recovered 4 2 (32 ∷ 8 ∷ 16 ∷ 24 ∷ []) listingE2e (some listing) ∷
     recovered 4 2 (8 ∷ 32 ∷ 16 ∷ 24 ∷ []) listingE2e (some (quad 2 1 3 0 ++ quad 2 3 4 0)) ∷
     recovered 4 2 (32 ∷ 8 ∷ 16 ∷ 16 ∷ []) listingE2e none ∷
-    -- of "Pairing and turn order": "Two triangles back to back, (1,2,3) and (1,3,2), are accepted"
-    answers 3 (tri 1 2 3 ++ tri 1 3 2) (gives 0 3) ∷
+    -- of "Pairing and turn order": "Two triangles back to back, (1,2,3) and (1,3,2)"; document 02, point 5: they are refused
+    answers 3 (tri 1 2 3 ++ tri 1 3 2) (refused 18 1 2) ∷
     -- document 02, point 2: "the case of one vertex and no element is accepted with V2e 0"
     answers 1 [] (gives 0 0) ∷ v2eIs 1 [] (0 ∷ []) ∷ e2eIs 1 [] [] ∷ b2eIs 1 [] [] ∷
     -- "vertices that no plate uses. Accept them, with V2e entry 0": the listing with a fifth vertex
@@ -206,15 +218,27 @@ cases =
     oppositeIs 4 3 (quad 1 2 3 4) (three 8 16 24) 12 (refused 12 0 0) ∷
     oppositeIs 4 3 (quad 1 2 3 4) (three 8 16 24) 11 (gives 24 0) ∷
     oppositeIs 4 3 listing listingE2e 17 (gives 11 0) ∷
+    -- document 02, point 5: two quadrilaterals that share a diagonal, and a quadrilateral and a triangle that share three corners
+    answers 6 diagonal (refused 18 1 2) ∷
+    answers 4 threeCorners (refused 18 1 2) ∷
+    -- "place the least pair, lower number first": the lower number, and the higher
+    answers 5 (tri 3 2 5 ++ tri 1 2 3 ++ quad 1 3 4 2) (refused 18 1 3) ∷
+    answers 9 (tri 7 8 9 ++ quad 1 2 3 4 ++ tri 3 2 1 ++ tri 4 3 5) (refused 18 2 3) ∷
+    -- "after 8, before 9": back to back beside two fans at a point, and with a B2e that has no room
+    answers 8 (tri 1 2 3 ++ tri 1 3 2 ++ tri 4 5 6 ++ tri 4 7 8) (refused 8 4 0) ∷
+    answersNarrow 4 threeCorners (refused 18 1 2) ∷
+    answersNarrow 4 listing (refused 9 4 0) ∷
+    -- "Existence in building and recovery is read over this narrower list": the tables of the two back to back
+    recovered 3 2 (9 ∷ 10 ∷ 11 ∷ []) (three 19 18 17 ++ three 11 10 9) none ∷
     []
 
 -- the rules give every row of the table
 pub cases-hold : T (every holds cases)
 unfolding three quad tri blank room left built sameAnswer gave holds every listing listingE2e tetrahedron mixed triangles
-    quadrilaterals shared cases least count upto tab zeros same
-    sidesBy isSide slot origin nextNumber next sideAt firstSide countSides firstVertex alike opposed joins callSizes sizesFit unfitCorner
-    repeatedCorner rowsFit partner isBorder b2e borderNumber borders columns codeAt e2eSlot e2eEntry e2e entryOf wide borderInto v2eEntry v2e
-    edges columnsBy widened sideOfBorder walkStart turnBy trace walkTo walk crowdedSide alikeSide missed unorderedVertex checkFound listAnswer accepts callLengths
+    quadrilaterals shared diagonal threeCorners cases least count upto tab zeros same
+    sidesBy isSide slot origin nextNumber next sideAt firstSide countSides firstNumber alike opposed joins callSizes sizesFit unfitCorner
+    repeatedCorner rowsFit isCorner sharedCorners shareSide meetWell partner isBorder b2e borderNumber borders columns codeAt e2eSlot e2eEntry e2e entryOf wide borderInto v2eEntry v2e
+    edges columnsBy widened sideOfBorder walkStart turnBy trace walkTo walk crowdedSide alikeSide missed unorderedVertex clashOf clashing checkFound listAnswer accepts callLengths
     buildLengths lengthChecks roomCheck buildAnswer after onto buildLeaves recoverLengths recovers recoverAnswer recoverList seen
     columnsAnswer queryLengths asked defined found listed listLeaves
     andThen prepend readAll follow over isBorderCode isHalfEdge isEntry isVertex readOpposite readBorderSide readVertexEntry readOrigin

@@ -1,6 +1,6 @@
 -- Document 01, "Element list and half-edge numbers". L is an element list; a half-edge is its code.
 -- Assumes nothing.
-use mathlib.Core.Bool.{Bool, true, false}
+use mathlib.Core.Bool.{Bool, true, false, not}
 use mathlib.Core.List.{List}
 use Prim.Native.Nat.{ℕ, _+_, _*_, _-_, _/_, _%_}
 use lib.Dec.{T, ltb, eqb}
@@ -93,7 +93,11 @@ firstSide L t =
 unfoldable pub countSides : List ℕ → (ℕ → Bool) → ℕ
 countSides L t = count (sideWith L t) (length L)
 
--- the least vertex with the test t; 0 where there is none
-unfoldable pub firstVertex : ℕ → (ℕ → Bool) → ℕ
-firstVertex n t =
+-- "both are numbered from 1": the least of the vertices, or elements, 1 to n with the test t; 0 where there is none
+unfoldable pub firstNumber : ℕ → (ℕ → Bool) → ℕ
+firstNumber n t =
     let i = least (λ j. t (j + 1)) n in elim (ltb i n) [ true ↦ i + 1 | false ↦ 0 ]
+
+-- one of them has the test t
+abbrev pub someNumber : ℕ → (ℕ → Bool) → Bool
+someNumber n t = not (eqb (firstNumber n t) 0)

@@ -1,15 +1,15 @@
--- Document 01, "Pairing and turn order".
+-- Document 01, "Pairing and turn order"; and document 02, point 5, how plates may meet.
 -- Assumes nothing.
 use mathlib.Core.Path.{_≡_}
 use mathlib.Core.Bool.{Bool, not}
 use mathlib.Core.Logic.{_⊎_}
 use mathlib.Core.List.{List}
-use Prim.Native.Nat.{ℕ, suc, _*_, _-_, _≤_, _<_}
+use Prim.Native.Nat.{ℕ, suc, _+_, _*_, _-_, _≤_, _<_}
 use lib.Dec.{T, leb, ltb, eqb}
 use lib.ListN.{length}
 use Rattle.lists.specs.Tests.{both, either}
-use Rattle.lists.specs.Search.{at}
-use Rattle.rules.specs.Elements.{maxVertex, maxElement, elements, element, Side, origin, destination, next, firstSide}
+use Rattle.lists.specs.Search.{at, count}
+use Rattle.rules.specs.Elements.{maxVertex, maxElement, elements, corner, sides, element, Side, origin, destination, next, firstSide, someNumber}
 
 -- two sides run alike between the same two vertices; "in opposite directions"; "join the same two vertices"
 unfoldable pub alike : List ℕ → ℕ → ℕ → Bool
@@ -83,8 +83,34 @@ repeatedCorner L =
 unfoldable pub rowsFit : ℕ → List ℕ → Bool
 rowsFit n L = both (sizesFit n L) (both (eqb (unfitCorner n L) 0) (eqb (repeatedCorner L) 0))
 
--- "The list is accepted when its rows are fit, a pairing exists and every vertex has a turn order"
+-- document 02, point 5: v is a corner of element f
+unfoldable pub isCorner : List ℕ → ℕ → ℕ → Bool
+isCorner L f v = someNumber (sides L f) (λ i. eqb (corner L f i) v)
+
+-- how many corners of f are corners of g too
+unfoldable pub sharedCorners : List ℕ → ℕ → ℕ → ℕ
+sharedCorners L f g = count (λ i. isCorner L g (corner L f (i + 1))) (sides L f)
+
+-- a side of f and a side of g join the same two vertices
+unfoldable pub shareSide : List ℕ → ℕ → ℕ → Bool
+shareSide L f g = someNumber (sides L f) (λ i. someNumber (sides L g) (λ j. joins L (8 * f + i) (8 * g + j)))
+
+-- "two different elements share no corner, one corner, or exactly two corners that are also a side of both"
+unfoldable pub meetWell : List ℕ → ℕ → ℕ → Bool
+meetWell L f g = either (leb (sharedCorners L f g) 1) (both (eqb (sharedCorners L f g) 2) (shareSide L f g))
+
+-- f is an element of L
+abbrev pub Element : List ℕ → ℕ → Type 0
+Element L f = (1 ≤ f) × (f ≤ elements L)
+
+-- "conformal": every two different elements meet well
+abbrev pub Conformal : List ℕ → Type 0
+Conformal L = (f g : ℕ) → Element L f → Element L g → (f ≡ g → ⊥) → T (meetWell L f g)
+
+-- "The list is accepted when its rows are fit, a pairing exists and every vertex has a turn order"; document 02, point 5: "From now on a
+-- list is accepted only if two different elements" meet well
 pub record Accepted (n : ℕ) (L : List ℕ) : Type 0 where
   pub rows : T (rowsFit n L)
   pub pairing : ℕ → ℕ
   pub ordered : Ordered n L pairing
+  pub meeting : Conformal L

@@ -3,12 +3,12 @@
 use mathlib.Core.Bool.{Bool, true, false, not}
 use mathlib.Core.List.{List, _++_}
 use Prim.Native.Nat.{ℕ, _+_, _*_}
-use lib.Dec.{leb, eqb}
+use lib.Dec.{leb, ltb, eqb}
 use lib.ListN.{length, drop, replicate}
 use Rattle.lists.specs.Tests.{both, either, same}
 use Rattle.lists.specs.Search.{at}
-use Rattle.rules.specs.Elements.{elements, element, number, slot, origin, firstSide, countSides, firstVertex}
-use Rattle.rules.specs.Pairing.{alike, joins, callSizes, sizesFit, unfitCorner, repeatedCorner, rowsFit}
+use Rattle.rules.specs.Elements.{elements, element, number, slot, origin, firstSide, countSides, firstNumber}
+use Rattle.rules.specs.Pairing.{alike, joins, callSizes, sizesFit, unfitCorner, repeatedCorner, rowsFit, meetWell}
 use Rattle.rules.specs.Tables.{borders, b2e, columns, e2e, wide, v2e, edges}
 use Rattle.rules.specs.Recovery.{widened, walk}
 
@@ -33,20 +33,31 @@ unfoldable pub missed : List ℕ → List ℕ → ℕ → Bool
 missed L W v = not (eqb (firstSide L (λ s. both (eqb (origin L s) v) (not (eqb (at W (slot s)) v)))) 0)
 
 unfoldable pub unorderedVertex : ℕ → List ℕ → ℕ
-unorderedVertex n L = let W = walk (v2e n L) (wide L) in firstVertex n (missed L W)
+unorderedVertex n L = let W = walk (v2e n L) (wide L) in firstNumber n (missed L W)
+
+-- 18, document 02, point 5: "two elements that break this, place the least pair, lower number first": the least element above f that
+-- doesn't meet f well, and the least f with one
+unfoldable pub clashOf : List ℕ → ℕ → ℕ
+clashOf L f = firstNumber (elements L) (λ g. both (ltb f g) (not (meetWell L f g)))
+
+unfoldable pub clashing : List ℕ → ℕ
+clashing L = firstNumber (elements L) (λ f. not (eqb (clashOf L f) 0))
 
 -- a refusal where something was found for it, else what the later checks say
 unfoldable pub checkFound : ℕ → Answer → Answer → Answer
 checkFound x refusal rest = elim (eqb x 0) [ true ↦ rest | false ↦ refusal ]
 
--- its place by the side, and by the vertex, that was found
+-- its place by the side, by the vertex, and by the element with another, that was found
 abbrev pub sideCheck : ℕ → ℕ → Answer → Answer
 sideCheck r s rest = checkFound s (refused r (element s) (number s)) rest
 
 abbrev pub vertexCheck : ℕ → ℕ → Answer → Answer
 vertexCheck r v rest = checkFound v (refused r v 0) rest
 
--- checks 3 to 8, "in order, each over the whole list before the next"; then k and the number of edges
+abbrev pub pairCheck : ℕ → ℕ → ℕ → Answer → Answer
+pairCheck r f g rest = checkFound f (refused r f g) rest
+
+-- checks 3 to 8, "in order, each over the whole list before the next", and 18 "after 8, before 9"; then k and the number of edges
 unfoldable pub listAnswer : ℕ → List ℕ → Answer
 listAnswer n L =
     sideCheck 3 (unfitCorner n L)
@@ -54,7 +65,8 @@ listAnswer n L =
     (sideCheck 6 (crowdedSide L)
     (sideCheck 7 (alikeSide L)
     (vertexCheck 8 (unorderedVertex n L)
-    (gives (borders L) (edges L))))))
+    (pairCheck 18 (clashing L) (clashOf L (clashing L))
+    (gives (borders L) (edges L)))))))
 
 -- an accepted list, as a test
 unfoldable pub accepts : ℕ → List ℕ → Bool
@@ -62,7 +74,8 @@ accepts n L =
     both (rowsFit n L)
     (both (eqb (crowdedSide L) 0)
     (both (eqb (alikeSide L) 0)
-    (eqb (unorderedVertex n L) 0)))
+    (both (eqb (unorderedVertex n L) 0)
+    (eqb (clashing L) 0))))
 
 -- the buffers of build
 pub record Buffers : Type 0 where

@@ -13,10 +13,10 @@ use Rattle.lists.specs.Tests.{both, within}
 use Rattle.lists.specs.TestLaws.{Test, pass, fail, test, means-itself, means-both, means-either, means-eq, means-le, means-within}
 use Rattle.lists.specs.SearchLaws.{count-bound}
 use Rattle.rules.specs.Elements.{maxVertex, maxElement, elements, element, number, sides, isSide, Side, next, sideWith, firstSide, countSides}
-use Rattle.rules.specs.Elements.{firstVertex}
+use Rattle.rules.specs.Elements.{firstNumber}
 use Rattle.rules.specs.Pairing.{callSizes, sizesFit, unfitCorner, repeatedCorner}
 use Rattle.rules.specs.Tables.{borders, columns, edges}
-use Rattle.rules.specs.Refusals.{Answer, gives, refused, Buffers, crowdedSide, alikeSide, unorderedVertex, checkFound}
+use Rattle.rules.specs.Refusals.{clashOf, clashing, Answer, gives, refused, Buffers, crowdedSide, alikeSide, unorderedVertex, checkFound}
 use Rattle.rules.specs.Refusals.{listAnswer, lengthChecks, roomCheck, buildAnswer, recovers, recoverAnswer}
 use Rattle.rules.specs.Queries.{Mesh, columnsAnswer, queryLengths, asked, defined, found, listed, andThen, prepend, readAll, read, bySide, byEntry, follow, over, isBorderCode, isHalfEdge, isEntry}
 use Rattle.rules.specs.Queries.{isVertex, readOpposite, readBorderSide, readVertexEntry, readOrigin, readDestination, opposite, borderNext, startSide}
@@ -24,7 +24,7 @@ use Rattle.rules.specs.Queries.{onward, ringSides, ring, neighbours, loopNext, 
 use Rattle.rules.specs.Queries.{elementAnswer, originAnswer, destinationAnswer, acrossAnswer, halfEdgeBorderAnswer, vertexBorderAnswer, ringAnswer}
 use Rattle.rules.specs.Queries.{neighboursAnswer, borderLoopAnswer, Walker, startAnswer, walkerStart, goesTo, moved, walkerStep}
 use Rattle.theory.specs.Sides.{side-facts}
-use Rattle.theory.specs.Least.{First, nobody, somebody, first-side, FirstVertex, first-vertex}
+use Rattle.theory.specs.Least.{First, nobody, somebody, first-side, FirstNumber, first-number}
 use Rattle.theory.specs.Steps.{NextNumber, wraps, grows, next-number, previous-side}
 use Rattle.theory.specs.FitRows.{means-sizes}
 use Rattle.theory.specs.Columns.{three-or-four}
@@ -72,16 +72,16 @@ found-small : (L : List ℕ) (t : ℕ → Bool) {s : ℕ} → elements L ≤ max
 found-small L t h (nobody e f) = omega arith
 found-small L t {s} h (somebody a u f) = side-small L s h a
 
-vertex-small : (n : ℕ) (t : ℕ → Bool) {v : ℕ} → n ≤ maxVertex → FirstVertex n t v → v < 268_435_456
-vertex-small n t h (FirstVertex.nobody e f) = omega arith
-vertex-small n t h (FirstVertex.somebody a b u f) = omega arith
+number-small : (n : ℕ) (t : ℕ → Bool) {v : ℕ} → n ≤ 1_000_000 → FirstNumber n t v → v < 268_435_456
+number-small n t h (FirstNumber.nobody e f) = omega arith
+number-small n t h (FirstNumber.somebody a b u f) = omega arith
 
 module _ (n : ℕ) (L : List ℕ) (z : Sized n L) where
   side : (t : ℕ → Bool) → firstSide L t < 268_435_456
   side t = found-small L t (z .1 .0) (first-side L t)
 
-  vertex : (t : ℕ → Bool) → firstVertex n t < 268_435_456
-  vertex t = vertex-small n t (z .0) (first-vertex n t)
+  numbered : (k : ℕ) → k ≤ 1_000_000 → (t : ℕ → Bool) → firstNumber k t < 268_435_456
+  numbered k h t = number-small k t h (first-number k t)
 
   counts-fit : Fits (gives (borders L) (edges L))
   unfolding edges countSides
@@ -91,13 +91,14 @@ module _ (n : ℕ) (L : List ℕ) (z : Sized n L) where
   )
 
   list-fits : Fits (listAnswer n L)
-  unfolding listAnswer unfitCorner repeatedCorner crowdedSide alikeSide unorderedVertex
+  unfolding listAnswer unfitCorner repeatedCorner crowdedSide alikeSide unorderedVertex clashing clashOf
   list-fits =
       check-fits _ _ _ (side-fits 3 _ (omega arith) (omega arith) (side _))
       (check-fits _ _ _ (side-fits 4 _ (omega arith) (omega arith) (side _))
       (check-fits _ _ _ (side-fits 6 _ (omega arith) (omega arith) (side _))
       (check-fits _ _ _ (side-fits 7 _ (omega arith) (omega arith) (side _))
-      (check-fits _ _ _ (omega arith, omega arith, vertex _, omega arith) counts-fit))))
+      (check-fits _ _ _ (omega arith, omega arith, numbered n (z .0) _, omega arith)
+      (check-fits _ _ _ (omega arith, omega arith, numbered (elements L) (z .1 .0) _, numbered (elements L) (z .1 .0) _) counts-fit)))))
 
 pub build-fits : (n : ℕ) (L : List ℕ) (w : Buffers) → Fits (buildAnswer n L w)
 unfolding buildAnswer

@@ -4,7 +4,9 @@
 -- one entry", which "is from now on read for each n and m, in recovery the m it is told" (document 02, point 10). "Whatever element list is handed to building, when lengths and rows are fit, building gives one of the refusals 5 to 8 exactly
 -- when no pairing of its sides with a turn order about every vertex exists; where one exists, it refuses only a B2e shorter than k. Whatever
 -- entries V2e and E2e hold, when lengths are fit, recovery gives 10 exactly when no accepted list has these tables, and otherwise writes an
--- accepted list that has exactly these tables." Of the refusals 5 to 8, "Refusal 5 no longer occurs" (document 02, point 2): 6 to 8 remain.
+-- accepted list that has exactly these tables." Of the refusals 5 to 8, "Refusal 5 no longer occurs" (document 02, point 2): 6 to 8
+-- remain; and "Existence in building and recovery is read over this narrower list, 18 joining its numbers" (document 02, point 5), so with the
+-- pairing and its turn orders every two different elements meet well: the list is accepted.
 -- Assumes nothing.
 use mathlib.Core.Path.{_≡_, refl, ap, sym, subst, _∙_}
 use mathlib.Core.Bool.{Bool, true, false}
@@ -17,13 +19,13 @@ use lib.ListN.{length}
 use Rattle.lists.specs.TestLaws.{Test, pass, fail, test}
 use Rattle.lists.specs.Search.{at}
 use Rattle.rules.specs.Elements.{elements, element}
-use Rattle.rules.specs.Pairing.{Ordered, Accepted, callSizes, sizesFit, rowsFit}
+use Rattle.rules.specs.Pairing.{Accepted, callSizes, sizesFit, rowsFit}
 use Rattle.rules.specs.Tables.{borders, edges, e2e, v2e}
 use Rattle.rules.specs.Recovery.{HasTables, widened, walk}
 use Rattle.rules.specs.Refusals.{Answer, gives, refused, Buffers, buildLengths, roomCheck, listAnswer, after, buildAnswer, buildLeaves}
 use Rattle.rules.specs.Refusals.{recoverLengths, recovers, recoverAnswer}
 use Rattle.theory.specs.Deciding.{means-accepted}
-use Rattle.theory.specs.Answers.{past-lengths, past-room, Late, Never, ordered-answer, build-late, build-ordered, build-never-five}
+use Rattle.theory.specs.Answers.{past-lengths, past-room, Late, Never, accepted-answer, build-late, build-accepted, build-never-five}
 use Rattle.theory.specs.Described.{described}
 use Rattle.theory.specs.Rings.{About}
 use Rattle.theory.specs.Recovering.{tables-equal, means-recovers, means-some-list, recover-gives, recover-none}
@@ -41,7 +43,7 @@ pub record Counted (n : ℕ) (L : List ℕ) (w : Buffers) (k e : ℕ) : Type 0 w
 pub list-counted : (n : ℕ) (L : List ℕ) → T (sizesFit n L) → (k e : ℕ) → listAnswer n L ≡ gives k e → Accepted n L × ((k ≡ borders L) × (e ≡ edges L))
 list-counted n L s k e f =
     let x = means-accepted n L .says (counts-accepted n L s k e f) in
-    let q = sym f ∙ ordered-answer n L (x .rows) (x .pairing) (x .ordered) in
+    let q = sym f ∙ accepted-answer n L (x .rows) x in
     (x, ((cc), (cc)))
 
 module _ (n : ℕ) (L : List ℕ) (w : Buffers) where
@@ -81,13 +83,13 @@ never-five n L w w′ a run p q e = build-never-five n L w p q (sym (run .answer
 -- (b) with fit lengths and rows
 module _ (n : ℕ) (L : List ℕ) (w w′ : Buffers) (a : Answer) (run : BuildRun n L w a w′)
     (sizes : T (sizesFit n L)) (lengths : T (buildLengths n L w)) (rows : T (rowsFit n L)) where
-  pub six-to-eight : Late a ↔ (((π : ℕ → ℕ) × Ordered n L π) → ⊥)
-  six-to-eight =
+  pub late-refusals : Late a ↔ (Accepted n L → ⊥)
+  late-refusals =
       let x = build-late n L rows w sizes lengths in
       ((λ l. x .0 (subst Late (run .answer) l)), (λ f. subst Late (sym (run .answer)) (x .1 f)))
 
-  pub only-nine : (π : ℕ → ℕ) → Ordered n L π → a ≡ roomCheck (length (w .border)) (gives (borders L) (edges L))
-  only-nine π x = run .answer ∙ build-ordered n L rows w sizes lengths π x
+  pub only-nine : Accepted n L → a ≡ roomCheck (length (w .border)) (gives (borders L) (edges L))
+  only-nine x = run .answer ∙ build-accepted n L rows w sizes lengths x
 
 -- (c) a run of recovery, told m, that answers has written a list of m elements with exactly these tables
 module _ (n m : ℕ) (V2e E2e list work : List ℕ) (a : Answer) (list′ work′ : List ℕ) (run : RecoverRun n m V2e E2e list work a list′ work′) where

@@ -105,7 +105,7 @@ module _ (n : ℕ) (L : List ℕ) (w w′ : Buffers) (a : Answer) (run : BuildRu
   never-nine long p q g = go (sizesFit n L) (buildLengths n L w) refl (sym (run .answer) ∙ g)
     where
       past : T (sizesFit n L) → (x : Answer) → listAnswer n L ≡ x → roomCheck (length (w .border)) x ≡ refused 9 p q → ⊥
-      past s (refused r i j) e f = list-never n L 9 (λ r from to d z. omega arith) p q (e ∙ f)
+      past s (refused r i j) e f = list-never n L 9 (λ r from to d e. e) p q (e ∙ f)
       past s (gives k j) e f =
           let (x, b) = list-counted n L s k j e in
           let h : k ≤ length (w .border) = omega (arith, b .0, borders-few n L (good n L x)) in

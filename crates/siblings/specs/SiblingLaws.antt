@@ -11,32 +11,23 @@ use lib.Dec.{T, ltb, eqb, T-not}
 use Rattle.lists.specs.Tests.{both}
 use Rattle.lists.specs.TestLaws.{Test, pass, fail, test, Means, means-itself, decide, means-both, means-not, means-eq, means-lt}
 use Rattle.lists.specs.SearchLaws.{le-not-lt}
-use Rattle.rules.specs.Elements.{Side, origin, next, firstSide}
+use Rattle.rules.specs.Elements.{Side, origin, firstSide}
 use Rattle.rules.specs.Pairing.{alike, opposed, joins}
 use Rattle.theory.specs.Sides.{side-facts, side-positive}
 use Rattle.theory.specs.Least.{First, nobody, somebody, first-side}
-use Rattle.theory.specs.Steps.{next-side}
-use Rattle.theory.specs.FitRows.{Fit, ends-differ}
+use Rattle.theory.specs.Links.{lesser, greater, beyond, side, Spans, low-side, high-side}
 use Rattle.theory.specs.Pairings.{means-alike, means-opposed, means-joins}
-use Rattle.siblings.specs.Siblings.{sibling, lesser, greater, Between, beyond}
+use Rattle.siblings.specs.Siblings.{sibling, Between}
 use Rattle.siblings.specs.Rings.{Next, rises, returns}
 
--- the vertices of a side of fit rows
-pub ends-fit : (n : ℕ) (L : List ℕ) → Fit n L → (s : ℕ) → Side L s → (1 ≤ lesser L s) × (lesser L s < greater L s) × (greater L s ≤ n)
-unfolding lesser greater
-ends-fit n L f s a =
-    let d = ends-differ n L f s a in
-    let b = next-side L s a in
-    let x = f .from s a in
-    let y = f .from (next L s) b in
-    let z = f .to s a in
-    let w = f .to (next L s) b in ((omega arith), (omega arith), (omega arith))
+-- a side between two vertices is a link between them
+pub between-spans : {L : List ℕ} {u v s : ℕ} → Between L u v s → Spans L u v s
+between-spans {L} {s} b =
+    record { link = side (b .side); from = low-side L s (b .side) ∙ b .low; to = high-side L s (b .side) ∙ b .high }
 
-pub between-fit : {n : ℕ} {L : List ℕ} {u v s : ℕ} → Fit n L → Between L u v s → (1 ≤ u) × (u < v) × (v ≤ n)
-between-fit {n} {L} {s} f b =
-    let e = ends-fit n L f s (b .side) in
-    let l = b .low in
-    let h = b .high in ((omega arith), (omega arith), (omega arith))
+pub spans-between : {L : List ℕ} {u v s : ℕ} → Side L s → Spans L u v s → Between L u v s
+spans-between {L} {s} a b =
+    record { side = a; low = sym (low-side L s a) ∙ b .from; high = sym (high-side L s a) ∙ b .to }
 
 module _ (L : List ℕ) where
   pub side-beyond : (s : ℕ) → Side L s → s < beyond L

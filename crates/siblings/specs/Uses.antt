@@ -18,8 +18,9 @@ use Rattle.rules.specs.Tables.{partner}
 use Rattle.theory.specs.Sides.{slot-sideAt, sideAt-slot, slot-below, slot-inj}
 use Rattle.theory.specs.Least.{first-found, means-some}
 use Rattle.theory.specs.FitRows.{Fit, ends-differ}
+use Rattle.theory.specs.Links.{lesser, greater, beyond}
 use Rattle.theory.specs.Pairings.{means-alike, means-opposed, means-joins, partner-opposed}
-use Rattle.siblings.specs.Siblings.{sibling, lesser, greater, Between, beyond}
+use Rattle.siblings.specs.Siblings.{sibling, Between}
 use Rattle.siblings.specs.SiblingLaws.{side-beyond, joins-between, between-joins, sibling-follows}
 use Rattle.siblings.specs.Rings.{Next, rises, returns}
 

@@ -1,7 +1,7 @@
--- What the scratch buffer holds after checks 3 to 8.
+-- What the scratch buffer holds after checks 3 to 8 and 18.
 -- Assumes nothing.
 use mathlib.Core.Path.{_≡_, refl, ap, sym, _∙_}
-use mathlib.Core.Bool.{true}
+use mathlib.Core.Bool.{true, not}
 use mathlib.Core.List.{List}
 use Prim.Native.Nat.{ℕ, _+_, _*_, _/_, _≤_}
 use native.Mathlib.Omega.{arith}
@@ -12,12 +12,13 @@ use Rattle.lists.specs.SearchLaws.{count-bound}
 use Rattle.lists.specs.TestLaws.{both-pass, means-eq}
 use Rattle.lists.specs.Parts.{part, part-take}
 use Rattle.lists.specs.Stores.{Kept}
-use Rattle.rules.specs.Elements.{maxElement, elements, element, number, sideAt, slot, sideWith, firstVertex, countSides}
-use Rattle.rules.specs.Pairing.{sizesFit, unfitCorner, repeatedCorner, rowsFit}
+use Rattle.rules.specs.Elements.{maxElement, elements, element, number, sideAt, slot, sideWith, firstNumber, countSides}
+use Rattle.rules.specs.Pairing.{sizesFit, unfitCorner, repeatedCorner, rowsFit, Element}
 use Rattle.rules.specs.Tables.{borders, edges, b2e, wide, v2e}
 use Rattle.rules.specs.Recovery.{walkTo, walk}
-use Rattle.rules.specs.Refusals.{Answer, gives, refused, crowdedSide, alikeSide, missed, unorderedVertex, sideCheck, vertexCheck, listAnswer}
+use Rattle.rules.specs.Refusals.{Answer, gives, refused, crowdedSide, alikeSide, missed, unorderedVertex, clashOf, clashing, sideCheck, vertexCheck, pairCheck, listAnswer}
 use Rattle.theory.specs.Sides.{sideAt-slot}
+use Rattle.theory.specs.Least.{FirstNumber, first-number}
 use Rattle.theory.specs.FitRows.{Fit, means-fit, no-side-at}
 use Rattle.theory.specs.Pairings.{the-pairing}
 use Rattle.theory.specs.Entries.{length-v2e}
@@ -38,7 +39,8 @@ pub record Sized (n : ℕ) (L w : List ℕ) : Type 0 where
 
 -- the checks that are left
 abbrev pub pairedAnswer : ℕ → List ℕ → Answer
-pairedAnswer n L = vertexCheck 8 (unorderedVertex n L) (gives (borders L) (edges L))
+pairedAnswer n L =
+    vertexCheck 8 (unorderedVertex n L) (pairCheck 18 (clashing L) (clashOf L (clashing L)) (gives (borders L) (edges L)))
 
 abbrev pub fitAnswer : ℕ → List ℕ → Answer
 fitAnswer n L = sideCheck 6 (crowdedSide L) (sideCheck 7 (alikeSide L) (pairedAnswer n L))
@@ -71,7 +73,7 @@ pub record Tabled (n : ℕ) (L : List ℕ) (o k c : ℕ) (w w₂ : List ℕ) : T
   pub number : k ≡ borders L
   pub sides : c ≡ countSides L (λ s. true)
   pub walked : Walked o L w₂
-  pub unordered : firstVertex n (missed L (drop o w₂)) ≡ unorderedVertex n L
+  pub unordered : firstNumber n (missed L (drop o w₂)) ≡ unorderedVertex n L
   pub holds : Holds n L w₂
   pub long : length w₂ ≡ length w
 
@@ -121,7 +123,7 @@ module _ {n : ℕ} {L w : List ℕ} (r : Ready n L w) {k c : ℕ} {w₁ : List �
         number = x .number;
         sides = x .sides;
         walked = walk-done;
-        unordered = ap (λ (X : List ℕ). firstVertex n (missed L X)) own;
+        unordered = ap (λ (X : List ℕ). firstNumber n (missed L X)) own;
         holds = walk-holds;
         long = y .long ∙ x .long;
       }
@@ -134,24 +136,42 @@ sides-bound : (L : List ℕ) → countSides L (λ s. true) ≤ length L
 unfolding countSides
 sides-bound L = count-bound (sideWith L (λ s. true)) (length L)
 
+-- what check 18 found is an element
+pub clashes : (L : List ℕ) (f : ℕ) → f ≡ clashing L → (f ≡ 0 → ⊥) → Element L f
+unfolding clashing
+clashes L f e d = go (first-number (elements L) (λ f. not (eqb (clashOf L f) 0)))
+  where
+    go : FirstNumber (elements L) (λ f. not (eqb (clashOf L f) 0)) (firstNumber (elements L) (λ f. not (eqb (clashOf L f) 0))) → Element L f
+    go (FirstNumber.nobody z h) = absurd (d (e ∙ z))
+    go (FirstNumber.somebody a b u h) = rw e (a, b)
+
 module _ {n o k c : ℕ} {L w w₂ : List ℕ} (t : Tabled n L o k c w w₂) where
   pub few : c + k ≤ 8 * maxElement
   few = omega (arith, t .number, t .sides, borders-bound L, sides-bound L, t .fit .fours, t .fit .size)
 
   -- check 8 by the vertex v that the search found
-  module _ {v : ℕ} (found : v ≡ firstVertex n (missed L (drop o w₂))) where
+  module _ {v : ℕ} (found : v ≡ firstNumber n (missed L (drop o w₂))) where
     is : v ≡ unorderedVertex n L
     is = found ∙ t .unordered
 
     pub refuses-8 : {a : Answer} → (v ≡ 0 → ⊥) → a ≡ refused 8 v 0 → Tabulated n L (pairedAnswer n L) a w w₂
     refuses-8 d e = refuses e (rw is (check-refuses (unorderedVertex n L) _ _ (λ z. d (is ∙ z)))) (t .long)
 
-    pub gives-tables : {a : Answer} → v ≡ 0 → a ≡ gives k ((c + k) / 2) → Tabulated n L (pairedAnswer n L) a w w₂
+    -- check 18 by the element f, and by g for its other
+    pub refuses-18 : {f g : ℕ} {a : Answer} → v ≡ 0 → f ≡ clashing L → (f ≡ 0 → ⊥) → g ≡ clashOf L f → a ≡ refused 18 f g → Tabulated n L (pairedAnswer n L) a w w₂
+    refuses-18 {f} z p d q e =
+        refuses e
+        (check-clear (unorderedVertex n L) _ _ (sym is ∙ z)
+        ∙ check-refuses (clashing L) _ _ (λ y. d (p ∙ y))
+        ∙ sym (ap (refused 18 f) q ∙ ap (λ (f : ℕ). refused 18 f (clashOf L f)) p))
+        (t .long)
+
+    pub gives-tables : {f : ℕ} {a : Answer} → v ≡ 0 → f ≡ clashing L → f ≡ 0 → a ≡ gives k ((c + k) / 2) → Tabulated n L (pairedAnswer n L) a w w₂
     unfolding edges
-    gives-tables z e =
+    gives-tables z p y e =
         let counts = ap (λ (i : ℕ). gives i ((c + i) / 2)) (t .number) ∙ ap (λ (j : ℕ). gives (borders L) ((j + borders L) / 2)) (t .sides) in
         record {
-          answer = e ∙ counts ∙ sym (check-clear (unorderedVertex n L) _ _ (sym is ∙ z));
+          answer = e ∙ counts ∙ sym (check-clear (unorderedVertex n L) _ _ (sym is ∙ z) ∙ check-clear (clashing L) _ _ (sym p ∙ y));
           holds = λ k e g. t .holds;
           long = t .long;
         }

@@ -1,9 +1,9 @@
-// Checks 3 to 8 and the three tables of a list, in a scratch buffer of n + 12m entries; nothing else is written.
+// Checks 3 to 8 and 18 and the three tables of a list, in a scratch buffer of n + 12m entries; nothing else is written.
 ghost use mathlib.Core.Path.{_≡_};
 ghost use Prim.Native.Nat.{_+_, _*_};
 ghost use lib.ListN.{length};
 ghost use Rattle.rules.specs.Elements.{elements, element, number};
-ghost use Rattle.rules.specs.Refusals.{refused, listAnswer};
+ghost use Rattle.rules.specs.Refusals.{refused, clashing, listAnswer};
 ghost use Rattle.theory.specs.FitRows.{Fit};
 ghost use Rattle.answer.specs.Numbers.{numbers};
 ghost use Rattle.borders.specs.Numbers.{Ready};
@@ -20,6 +20,8 @@ use corners::first_fault;
 use halfedge::element_of;
 use halfedge::number_of;
 use halfedge::wide;
+use meeting::clash_of;
+use meeting::clashing_element;
 use siblings::siblings;
 use unordered::unordered_vertex;
 use walk::walk;
@@ -31,9 +33,9 @@ fn refusal_at(refusal: u32, code: u32) -> Answer
     refuse_at(refusal, element_of(code), number_of(code))
 }
 
-// The tables and check 8, where checks 3 to 7 found nothing.
-fn tabulate_paired(n: u32, list: &[u32], work: &mut [u32]) -> Answer
-    requires { ⌜ Ready n (now list) (now work) ⌝ }
+// The tables and checks 8 and 18, where checks 3 to 7 found nothing; f is the element that 18 finds, or 0.
+fn tabulate_paired(n: u32, list: &[u32], work: &mut [u32], f: u32) -> Answer
+    requires { ⌜ Ready n (now list) (now work) × (f ≡ clashing (now list)) ⌝ }
     ensures { λ r. ⌜ Tabulated n (now (list .entry)) (pairedAnswer n (now (list .entry))) (numbers r) (now (work .entry)) (now (work .exit)) ⌝ }
 {
     let m = list.len() / 4;
@@ -44,18 +46,21 @@ fn tabulate_paired(n: u32, list: &[u32], work: &mut [u32]) -> Answer
     if v != 0 {
         return refuse_at(8, v, 0);
     }
+    if f != 0 {
+        return refuse_at(18, f, clash_of(list, f));
+    }
     let k = counts.borders;
     let sides = counts.sides;
     give_two(k, (sides + k) / 2)
 }
 
-// Checks 6 to 8 and the tables, where checks 3 and 4 found nothing.
+// Checks 6 to 8 and 18 and the tables, where checks 3 and 4 found nothing.
 fn tabulate_fit(n: u32, list: &[u32], work: &mut [u32]) -> Answer
     requires { ⌜ Fit n (now list) × (length (now work) ≡ n + 12 * elements (now list)) ⌝ }
     ensures { λ r. ⌜ Tabulated n (now (list .entry)) (fitAnswer n (now (list .entry))) (numbers r) (now (work .entry)) (now (work .exit)) ⌝ }
 {
     let vertices = wide(n);
-    siblings(vertices, list, work);
+    let crossed = siblings(vertices, list, work);
     first_sides(vertices, list, work);
     let s = crowded_side(vertices, list, work);
     if s != 0 {
@@ -65,7 +70,8 @@ fn tabulate_fit(n: u32, list: &[u32], work: &mut [u32]) -> Answer
     if t != 0 {
         return refusal_at(7, t);
     }
-    tabulate_paired(n, list, work)
+    let f = clashing_element(vertices, list, work, crossed);
+    tabulate_paired(n, list, work, f)
 }
 
 pub fn tabulate(n: u32, list: &[u32], work: &mut [u32]) -> Answer

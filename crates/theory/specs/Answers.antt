@@ -1,7 +1,7 @@
--- What build answers, with fit lengths and rows: one of the refusals 6 to 8 exactly when no pairing of the sides with a turn order about
--- every vertex exists; where one exists, only 9 remains, exactly when B2e is shorter than k.
+-- What build answers, with fit lengths and rows: one of the refusals 6 to 8 and 18 exactly when the list isn't accepted; where it is, only 9
+-- remains, exactly when B2e is shorter than k.
 -- Assumes nothing.
-use mathlib.Core.Path.{_≡_, ap, sym, subst, _∙_}
+use mathlib.Core.Path.{_≡_, refl, ap, sym, subst, _∙_}
 use mathlib.Core.Bool.{Bool, true, false}
 use mathlib.Core.Logic.{_⊎_, inl, inr, _↔_}
 use mathlib.Core.List.{List}
@@ -11,14 +11,14 @@ use lib.Dec.{T, leb, eqb, not-T}
 use lib.ListN.{length}
 use Rattle.lists.specs.TestLaws.{true-of, false-of, passes, means-not, means-eq, means-le, zero-or}
 use Rattle.lists.specs.SearchLaws.{le-or-lt}
-use Rattle.rules.specs.Pairing.{Ordered, unfitCorner, repeatedCorner, rowsFit, sizesFit}
+use Rattle.rules.specs.Pairing.{Accepted, unfitCorner, repeatedCorner, rowsFit, sizesFit}
 use Rattle.rules.specs.Tables.{partner, borders, edges}
-use Rattle.rules.specs.Refusals.{Answer, gives, refused, crowdedSide, alikeSide, unorderedVertex, sideCheck, checkFound, listAnswer, Buffers}
+use Rattle.rules.specs.Refusals.{Answer, gives, refused, crowdedSide, alikeSide, unorderedVertex, clashing, sideCheck, checkFound, listAnswer, Buffers}
 use Rattle.rules.specs.Refusals.{buildLengths, lengthChecks, roomCheck, buildAnswer}
 use Rattle.theory.specs.FitRows.{means-fit}
 use Rattle.theory.specs.Pairings.{pairing-exists, the-pairing}
-use Rattle.theory.specs.Orders.{good}
-use Rattle.theory.specs.Deciding.{means-ordered}
+use Rattle.theory.specs.Orders.{good, accepted-of}
+use Rattle.theory.specs.Deciding.{means-ordered, means-conformal}
 
 -- a check that found nothing goes on to the later ones; else it refuses
 module _ (x : ℕ) (refusal rest : Answer) where
@@ -62,16 +62,19 @@ past-check x k e r p q rest g = go (zero-or x)
     go (inl z) = (z, sym (check-clear x (refused r p q) rest z) ∙ g)
     go (inr d) = let h = check-refuses x (refused r p q) rest d in let z : _≡_ {A = ℕ} 0 1 = cc in absurd (omega arith)
 
--- one of the refusals 6 to 8
-abbrev pub Late : Answer → Type 0
-Late x = (r : ℕ) × (a : ℕ) × (b : ℕ) × (6 ≤ r) × (r ≤ 8) × (x ≡ refused r a b)
+-- one of the refusals 6 to 8 and 18
+abbrev pub LateNumber : ℕ → Type 0
+LateNumber r = ((6 ≤ r) × (r ≤ 8)) ⊎ (r ≡ 18)
 
-late-check : (x r p q : ℕ) (rest : Answer) → 6 ≤ r → r ≤ 8 → (x ≡ 0 → Late rest) → Late (checkFound x (refused r p q) rest)
-late-check x r p q rest from to f = go (zero-or x)
+abbrev pub Late : Answer → Type 0
+Late x = (r : ℕ) × (a : ℕ) × (b : ℕ) × LateNumber r × (x ≡ refused r a b)
+
+late-check : (x r p q : ℕ) (rest : Answer) → LateNumber r → (x ≡ 0 → Late rest) → Late (checkFound x (refused r p q) rest)
+late-check x r p q rest late f = go (zero-or x)
   where
     go : (x ≡ 0) ⊎ (x ≡ 0 → ⊥) → Late (checkFound x (refused r p q) rest)
     go (inl e) = rw (check-clear x (refused r p q) rest e) (f e)
-    go (inr d) = (r, p, q, from, to, check-refuses x (refused r p q) rest d)
+    go (inr d) = (r, p, q, late, check-refuses x (refused r p q) rest d)
 
 module _ (n : ℕ) (L : List ℕ) (rows : T (rowsFit n L)) where
   -- with fit rows checks 3 and 4 find nothing
@@ -83,32 +86,36 @@ module _ (n : ℕ) (L : List ℕ) (rows : T (rowsFit n L)) where
       check-clear (unfitCorner n L) _ _ (means-eq (unfitCorner n L) 0 .says b)
       ∙ check-clear (repeatedCorner L) _ rest (means-eq (repeatedCorner L) 0 .says c)
 
-  -- where a pairing with turn orders exists, checks 3 to 8 find nothing
-  pub ordered-answer : (π : ℕ → ℕ) → Ordered n L π → listAnswer n L ≡ gives (borders L) (edges L)
+  -- of an accepted list checks 3 to 8 and 18 find nothing
+  pub accepted-answer : Accepted n L → listAnswer n L ≡ gives (borders L) (edges L)
   unfolding listAnswer
-  ordered-answer π x =
-      let g = good n L (record { rows = rows; pairing = π; ordered = x }) in
+  accepted-answer x =
+      let g = good n L x in
       let (c, d) = pairing-exists n L (g .fit) .0 (partner L, g .pairing) in
       rows-clear _
       ∙ check-clear (crowdedSide L) _ _ c
       ∙ check-clear (alikeSide L) _ _ d
       ∙ check-clear (unorderedVertex n L) _ _ (means-eq (unorderedVertex n L) 0 .says (means-ordered n L (g .pairing) .shows (g .orders)))
+      ∙ check-clear (clashing L) _ _ (means-eq (clashing L) 0 .says (means-conformal n L (g .fit) .shows (x .meeting)))
 
-  -- where none exists, one of the checks 6 to 8 finds something
-  pub unordered-answer : (((π : ℕ → ℕ) × Ordered n L π) → ⊥) → Late (listAnswer n L)
+  -- of another one of the checks 6 to 8 and 18 finds something
+  pub unaccepted-answer : (Accepted n L → ⊥) → Late (listAnswer n L)
   unfolding listAnswer
-  unordered-answer none =
+  unaccepted-answer none =
       let fit = means-fit n L .says rows in
       subst Late (sym (rows-clear _))
-      (late-check (crowdedSide L) 6 _ _ _ (omega arith) (omega arith)
+      (late-check (crowdedSide L) 6 _ _ _ (inl (omega arith, omega arith))
       (λ c.
-      late-check (alikeSide L) 7 _ _ _ (omega arith) (omega arith)
+      late-check (alikeSide L) 7 _ _ _ (inl (omega arith, omega arith))
       (λ a.
-      late-check (unorderedVertex n L) 8 _ _ _ (omega arith) (omega arith)
+      late-check (unorderedVertex n L) 8 _ _ _ (inl (omega arith, omega arith))
       (λ o.
+      late-check (clashing L) 18 _ _ _ (inr refl)
+      (λ m.
       let p = the-pairing n L fit a in
       let orders = means-ordered n L p .says (means-eq (unorderedVertex n L) 0 .shows o) in
-      absurd (none (partner L, record { pairing = p; orders = orders }))))))
+      let meeting = means-conformal n L fit .says (means-eq (clashing L) 0 .shows m) in
+      absurd (none (accepted-of n L (record { fit = fit; pairing = p; orders = orders }) meeting)))))))
 
   module _ (w : Buffers) (sizes : T (sizesFit n L)) (lengths : T (buildLengths n L w)) where
     -- with fit lengths the answer is that of checks 3 to 9
@@ -117,27 +124,31 @@ module _ (n : ℕ) (L : List ℕ) (rows : T (rowsFit n L)) where
     fit-answer =
         rw (true-of (sizesFit n L) sizes, true-of (buildLengths n L w) lengths, lengthChecks)
 
-    -- theorem 2: where a pairing with turn orders exists, only 9 remains, exactly when B2e is shorter than k
-    pub build-ordered : (π : ℕ → ℕ) → Ordered n L π → buildAnswer n L w ≡ roomCheck (length (w .border)) (gives (borders L) (edges L))
-    build-ordered π x = fit-answer ∙ ap (roomCheck (length (w .border))) (ordered-answer π x)
+    -- theorem 2: of an accepted list only 9 remains, exactly when B2e is shorter than k
+    pub build-accepted : Accepted n L → buildAnswer n L w ≡ roomCheck (length (w .border)) (gives (borders L) (edges L))
+    build-accepted x = fit-answer ∙ ap (roomCheck (length (w .border))) (accepted-answer x)
 
-    -- theorem 2: one of the refusals 6 to 8 exactly when no pairing with turn orders exists
-    pub build-late : Late (buildAnswer n L w) ↔ (((π : ℕ → ℕ) × Ordered n L π) → ⊥)
+    -- theorem 2: one of the refusals 6 to 8 and 18 exactly when the list isn't accepted
+    pub build-late : Late (buildAnswer n L w) ↔ (Accepted n L → ⊥)
     unfolding roomCheck
     build-late = (
-      (λ (r, a, b, from, to, e) (π, x). not-late r a b from to (le-or-lt (borders L) (length (w .border))) (sym (build-ordered π x) ∙ e)),
+      (λ (r, a, b, late, e) x. not-late r a b late (le-or-lt (borders L) (length (w .border))) (sym (build-accepted x) ∙ e)),
       (λ none.
-          let (r, a, b, from, to, e) = unordered-answer none in
-          (r, a, b, from, to, fit-answer ∙ ap (roomCheck (length (w .border))) e)),
+          let (r, a, b, late, e) = unaccepted-answer none in
+          (r, a, b, late, fit-answer ∙ ap (roomCheck (length (w .border))) e)),
     )
       where
-        not-late : (r a b : ℕ) → 6 ≤ r → r ≤ 8 → (borders L ≤ length (w .border)) ⊎ (length (w .border) < borders L) → roomCheck (length (w .border)) (gives (borders L) (edges L)) ≡ refused r a b → ⊥
-        not-late r a b from to (inl h) e =
+        other : (r : ℕ) → LateNumber r → r ≡ 9 → ⊥
+        other r (inl (from, to)) e = omega arith
+        other r (inr z) e = omega arith
+
+        not-late : (r a b : ℕ) → LateNumber r → (borders L ≤ length (w .border)) ⊎ (length (w .border) < borders L) → roomCheck (length (w .border)) (gives (borders L) (edges L)) ≡ refused r a b → ⊥
+        not-late r a b late (inl h) e =
             let g = room-enough (length (w .border)) (borders L) (edges L) h in
             let z : _≡_ {A = ℕ} 0 1 = cc in omega arith
-        not-late r a b from to (inr h) e =
+        not-late r a b late (inr h) e =
             let g = room-short (length (w .border)) (borders L) (edges L) h in
-            let z : r ≡ 9 = cc in omega arith
+            let z : r ≡ 9 = cc in other r late z
 
 -- the answer x isn't refusal q
 abbrev pub Never : ℕ → Answer → Type 0
@@ -156,16 +167,17 @@ never-check q x r c d rest other f a b p = go (zero-or x)
     go (inl e) = f a b (sym (check-clear x (refused r c d) rest e) ∙ p)
     go (inr n) = never-refused q r c d other a b (sym (check-refuses x (refused r c d) rest n) ∙ p)
 
--- checks 3 to 8 give their own numbers but 5, and no other
-pub list-never : (n : ℕ) (L : List ℕ) (q : ℕ) → ((r : ℕ) → 3 ≤ r → r ≤ 8 → (r ≡ 5 → ⊥) → r ≡ q → ⊥) → Never q (listAnswer n L)
+-- checks 3 to 8 and 18 give their own numbers and no other, so neither 5 nor 9
+pub list-never : (n : ℕ) (L : List ℕ) (q : ℕ) → ((r : ℕ) → 3 ≤ r → r ≤ 18 → (r ≡ 5 → ⊥) → (r ≡ 9 → ⊥) → r ≡ q → ⊥) → Never q (listAnswer n L)
 unfolding listAnswer
 list-never n L q other =
-    never-check q (unfitCorner n L) 3 _ _ _ (other 3 (omega arith) (omega arith) (λ z. omega arith))
-    (never-check q (repeatedCorner L) 4 _ _ _ (other 4 (omega arith) (omega arith) (λ z. omega arith))
-    (never-check q (crowdedSide L) 6 _ _ _ (other 6 (omega arith) (omega arith) (λ z. omega arith))
-    (never-check q (alikeSide L) 7 _ _ _ (other 7 (omega arith) (omega arith) (λ z. omega arith))
-    (never-check q (unorderedVertex n L) 8 _ _ _ (other 8 (omega arith) (omega arith) (λ z. omega arith))
-    (never-gives q (borders L) (edges L))))))
+    never-check q (unfitCorner n L) 3 _ _ _ (other 3 (omega arith) (omega arith) (λ z. omega arith) (λ z. omega arith))
+    (never-check q (repeatedCorner L) 4 _ _ _ (other 4 (omega arith) (omega arith) (λ z. omega arith) (λ z. omega arith))
+    (never-check q (crowdedSide L) 6 _ _ _ (other 6 (omega arith) (omega arith) (λ z. omega arith) (λ z. omega arith))
+    (never-check q (alikeSide L) 7 _ _ _ (other 7 (omega arith) (omega arith) (λ z. omega arith) (λ z. omega arith))
+    (never-check q (unorderedVertex n L) 8 _ _ _ (other 8 (omega arith) (omega arith) (λ z. omega arith) (λ z. omega arith))
+    (never-check q (clashing L) 18 _ _ _ (other 18 (omega arith) (omega arith) (λ z. omega arith) (λ z. omega arith))
+    (never-gives q (borders L) (edges L)))))))
 
 never-room : (q room : ℕ) (x : Answer) → (9 ≡ q → ⊥) → Never q x → Never q (roomCheck room x)
 unfolding roomCheck
@@ -187,4 +199,4 @@ pub build-never-five : (n : ℕ) (L : List ℕ) (w : Buffers) → Never 5 (build
 unfolding buildAnswer
 build-never-five n L w =
     never-lengths 5 (sizesFit n L) (buildLengths n L w) _ (omega arith)
-    (never-room 5 (length (w .border)) _ (λ z. omega arith) (list-never n L 5 (λ r from to d. d)))
+    (never-room 5 (length (w .border)) _ (λ z. omega arith) (list-never n L 5 (λ r from to d e. d)))

@@ -1,5 +1,5 @@
--- `accepted` is decided by a function that computes, and build gives one of the refusals 6 to 8 exactly when no pairing of the sides with a
--- turn order about every vertex exists.
+-- `accepted` is decided by a function that computes: checks 6 to 8 and 18 find nothing exactly when a pairing of the sides with a turn order
+-- about every vertex exists and every two different elements meet well.
 -- Assumes nothing.
 use mathlib.Core.Path.{_≡_}
 use mathlib.Core.Bool.{Bool, not}
@@ -7,18 +7,20 @@ use mathlib.Core.Logic.{_⊎_, inl, inr}
 use mathlib.Core.List.{List}
 use Prim.Native.Nat.{ℕ, _≤_, _<_}
 use native.Mathlib.Omega.{arith}
-use lib.Dec.{T, eqb, T-not, not-T}
+use lib.Dec.{T, ltb, eqb, T-not, not-T}
 use Rattle.lists.specs.Tests.{both}
-use Rattle.lists.specs.TestLaws.{Test, pass, fail, test, Means, decide, passes, means-both, means-not, means-eq}
+use Rattle.lists.specs.TestLaws.{Test, pass, fail, test, Means, decide, passes, both-pass, means-both, means-not, means-eq, means-lt}
 use Rattle.lists.specs.Search.{at}
-use Rattle.rules.specs.Elements.{slot, origin, firstSide, firstVertex}
-use Rattle.rules.specs.Pairing.{Pairing, TurnOrder, Accepted, rowsFit}
+use Rattle.lists.specs.SearchLaws.{le-or-lt}
+use Rattle.rules.specs.Elements.{elements, slot, origin, firstSide, firstNumber}
+use Rattle.rules.specs.Pairing.{Pairing, TurnOrder, rowsFit, meetWell, Element, Conformal, Accepted}
 use Rattle.rules.specs.Tables.{partner, wide, v2e}
 use Rattle.rules.specs.Recovery.{walk}
-use Rattle.rules.specs.Refusals.{crowdedSide, alikeSide, missed, unorderedVertex, accepts}
-use Rattle.theory.specs.Least.{means-some, means-none, means-no-vertex, FirstVertex, nobody, somebody, first-vertex}
-use Rattle.theory.specs.FitRows.{means-fit}
+use Rattle.rules.specs.Refusals.{crowdedSide, alikeSide, missed, unorderedVertex, clashOf, clashing, accepts}
+use Rattle.theory.specs.Least.{means-some, means-none, means-no-number, FirstNumber, nobody, somebody, first-number}
+use Rattle.theory.specs.FitRows.{Fit, means-fit}
 use Rattle.theory.specs.Pairings.{pairing-exists, the-pairing}
+use Rattle.theory.specs.Meeting.{meet-either-way}
 use Rattle.theory.specs.Orders.{good, accepted-of}
 use Rattle.theory.specs.Covering.{Covered, order-covered, covered-order}
 
@@ -63,8 +65,8 @@ module _ (n : ℕ) (L : List ℕ) where
   means-covered =
       let W = walk (v2e n L) (wide L) in
       record {
-        says = λ z v a b. covered-or W v (not-T (missed L W v) (means-no-vertex n (missed L W) .says z v a b));
-        shows = λ f. means-no-vertex n (missed L W) .shows (λ v a b t. means-missed W v .says t (f v a b));
+        says = λ z v a b. covered-or W v (not-T (missed L W v) (means-no-number n (missed L W) .says z v a b));
+        shows = λ f. means-no-number n (missed L W) .shows (λ v a b t. means-missed W v .says t (f v a b));
       }
 
   module _ (p : Pairing L (partner L)) where
@@ -80,20 +82,73 @@ module _ (n : ℕ) (L : List ℕ) where
     pub unordered-least : (unorderedVertex n L ≡ 0 → ⊥)
         → ((o : List ℕ) → TurnOrder L (partner L) (unorderedVertex n L) o → ⊥) × ((v : ℕ) → 1 ≤ v → v < unorderedVertex n L → (o : List ℕ) × TurnOrder L (partner L) v o)
     unfolding unorderedVertex
-    unordered-least d = go (first-vertex n (missed L (walk (v2e n L) (wide L))))
+    unordered-least d = go (first-number n (missed L (walk (v2e n L) (wide L))))
       where
         W : List ℕ
         W = walk (v2e n L) (wide L)
 
         u : ℕ
-        u = firstVertex n (missed L W)
+        u = firstNumber n (missed L W)
 
-        go : FirstVertex n (missed L W) u → ((o : List ℕ) → TurnOrder L (partner L) u o → ⊥) × ((v : ℕ) → 1 ≤ v → v < u → (o : List ℕ) × TurnOrder L (partner L) v o)
+        go : FirstNumber n (missed L W) u → ((o : List ℕ) → TurnOrder L (partner L) u o → ⊥) × ((v : ℕ) → 1 ≤ v → v < u → (o : List ℕ) × TurnOrder L (partner L) v o)
         go (nobody e f) = absurd (d e)
         go (somebody a b t f) = (
           (λ o x. means-missed W u .says t (order-covered n L p u a b o x)),
           (λ v c h. covered-order n L p v c (omega arith) (covered-or W v (f v c h))),
         )
+
+  -- no element above f clashes with f
+  means-unclashed : (f : ℕ) → Means (eqb (clashOf L f) 0) ((g : ℕ) → Element L g → f < g → T (meetWell L f g))
+  unfolding clashOf
+  means-unclashed f = record { says = λ z g (a, b) h. says z g a b h; shows = λ x. none .shows (λ g a b t. shows x g a b t) }
+    where
+      clashes : ℕ → Bool
+      clashes g = both (ltb f g) (not (meetWell L f g))
+
+      none : Means (eqb (firstNumber (elements L) clashes) 0) ((g : ℕ) → 1 ≤ g → g ≤ elements L → T (clashes g) → ⊥)
+      none = means-no-number (elements L) clashes
+
+      says : T (eqb (firstNumber (elements L) clashes) 0) → (g : ℕ) → 1 ≤ g → g ≤ elements L → f < g → T (meetWell L f g)
+      says z g a b h = go (test (meetWell L f g))
+        where
+          go : Test (meetWell L f g) → T (meetWell L f g)
+          go (pass t e) = t
+          go (fail t e) = absurd (none .says z g a b (both-pass (ltb f g) (not (meetWell L f g)) (means-lt f g .shows h) t))
+
+      shows : ((g : ℕ) → Element L g → f < g → T (meetWell L f g)) → (g : ℕ) → 1 ≤ g → g ≤ elements L → T (clashes g) → ⊥
+      shows x g a b t =
+          let (h, c) = passes (ltb f g) (not (meetWell L f g)) t in T-not (meetWell L f g) c (x g (a, b) (means-lt f g .says h))
+
+  -- check 18 finds nothing exactly when every two different elements meet well
+  pub means-conformal : Fit n L → Means (eqb (clashing L) 0) (Conformal L)
+  unfolding clashing
+  means-conformal fit = record { says = says; shows = shows }
+    where
+      clashed : ℕ → Bool
+      clashed f = not (eqb (clashOf L f) 0)
+
+      none : Means (eqb (firstNumber (elements L) clashed) 0) ((f : ℕ) → 1 ≤ f → f ≤ elements L → T (clashed f) → ⊥)
+      none = means-no-number (elements L) clashed
+
+      -- the lower of two elements first
+      rising : T (eqb (firstNumber (elements L) clashed) 0) → (f g : ℕ) → Element L f → Element L g → f < g → T (meetWell L f g)
+      rising z f g (a, b) c h = go (test (eqb (clashOf L f) 0))
+        where
+          go : Test (eqb (clashOf L f) 0) → T (meetWell L f g)
+          go (pass t e) = means-unclashed f .says t g c h
+          go (fail t e) = absurd (none .says z f a b t)
+
+      says : T (eqb (firstNumber (elements L) clashed) 0) → Conformal L
+      says z f g a b d = go (le-or-lt f g)
+        where
+          go : (f ≤ g) ⊎ (g < f) → T (meetWell L f g)
+          go (inl h) = rising z f g a b (omega arith)
+          go (inr h) = meet-either-way n L fit g f b a (rising z g f b a h)
+
+      shows : Conformal L → T (eqb (firstNumber (elements L) clashed) 0)
+      shows x =
+          none .shows
+          (λ f a b t. T-not (eqb (clashOf L f) 0) t (means-unclashed f .shows (λ g c h. x f g (a, b) c (λ e. omega arith))))
 
   -- theorem 2: "accepted" is decided by a function that computes
   pub means-accepted : Means (accepts n L) (Accepted n L)
@@ -104,10 +159,11 @@ module _ (n : ℕ) (L : List ℕ) where
       says t =
           let (a, t₁) = passes (rowsFit n L) _ t in
           let (c, t₂) = passes (eqb (crowdedSide L) 0) _ t₁ in
-          let (d, e) = passes (eqb (alikeSide L) 0) (eqb (unorderedVertex n L) 0) t₂ in
+          let (d, t₃) = passes (eqb (alikeSide L) 0) _ t₂ in
+          let (e, f) = passes (eqb (unorderedVertex n L) 0) (eqb (clashing L) 0) t₃ in
           let fit = means-fit n L .says a in
           let p = the-pairing n L fit (means-eq (alikeSide L) 0 .says d) in
-          accepted-of n L (record { fit = fit; pairing = p; orders = means-ordered p .says e })
+          accepted-of n L (record { fit = fit; pairing = p; orders = means-ordered p .says e }) (means-conformal fit .says f)
 
       shows : Accepted n L → T (accepts n L)
       shows x =
@@ -115,5 +171,6 @@ module _ (n : ℕ) (L : List ℕ) where
           let (c, d) = pairing-exists n L (g .fit) .0 (partner L, g .pairing) in
           means-both (means-fit n L)
           (means-both (means-eq (crowdedSide L) 0)
-          (means-both (means-eq (alikeSide L) 0) (means-ordered (g .pairing)))) .shows
-          (g .fit, (c, (d, g .orders)))
+          (means-both (means-eq (alikeSide L) 0)
+          (means-both (means-ordered (g .pairing)) (means-conformal (g .fit))))) .shows
+          (g .fit, (c, (d, (g .orders, x .meeting))))

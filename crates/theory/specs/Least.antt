@@ -11,7 +11,7 @@ use lib.ListN.{length}
 use Rattle.lists.specs.TestLaws.{Test, pass, fail, test, Means, passes, both-pass, means-not, means-eq, means-lt}
 use Rattle.lists.specs.Search.{at, least}
 use Rattle.lists.specs.SearchLaws.{Least, least-is, lt-or-eq, le-not-lt}
-use Rattle.rules.specs.Elements.{isSide, Side, slot, sideAt, sideWith, firstSide, firstVertex}
+use Rattle.rules.specs.Elements.{isSide, Side, slot, sideAt, sideWith, firstSide, firstNumber}
 use Rattle.theory.specs.Sides.{slot-sideAt, side-positive, sideAt-slot, slot-below, slot-less}
 
 -- r is the least side with the test t, or 0 where there is none
@@ -79,14 +79,14 @@ module _ (L : List ℕ) (t : ℕ → Bool) where
       go (somebody b w f) = (b, w)
 
 -- r is the least vertex of 1 to n with the test t, or 0 where there is none
-pub data FirstVertex (n : ℕ) (t : ℕ → Bool) (r : ℕ) : Type 0 where
-  nobody : r ≡ 0 → ((v : ℕ) → 1 ≤ v → v ≤ n → T (not (t v))) → FirstVertex n t r
-  somebody : 1 ≤ r → r ≤ n → T (t r) → ((v : ℕ) → 1 ≤ v → v < r → T (not (t v))) → FirstVertex n t r
+pub data FirstNumber (n : ℕ) (t : ℕ → Bool) (r : ℕ) : Type 0 where
+  nobody : r ≡ 0 → ((v : ℕ) → 1 ≤ v → v ≤ n → T (not (t v))) → FirstNumber n t r
+  somebody : 1 ≤ r → r ≤ n → T (t r) → ((v : ℕ) → 1 ≤ v → v < r → T (not (t v))) → FirstNumber n t r
 
 module _ (n : ℕ) (t : ℕ → Bool) where
-  pub first-vertex : FirstVertex n t (firstVertex n t)
-  unfolding firstVertex
-  first-vertex = go (test (ltb i n)) (least-is (λ j. t (j + 1)) n)
+  pub first-number : FirstNumber n t (firstNumber n t)
+  unfolding firstNumber
+  first-number = go (test (ltb i n)) (least-is (λ j. t (j + 1)) n)
     where
       i : ℕ
       i = least (λ j. t (j + 1)) n
@@ -95,37 +95,37 @@ module _ (n : ℕ) (t : ℕ → Bool) where
       earlier l v a b =
           let e : v - 1 + 1 ≡ v = omega arith in subst (λ (x : ℕ). T (not (t x))) e (l .before (v - 1) (omega arith))
 
-      go : Test (ltb i n) → Least (λ j. t (j + 1)) n i → FirstVertex n t (firstVertex n t)
+      go : Test (ltb i n) → Least (λ j. t (j + 1)) n i → FirstNumber n t (firstNumber n t)
       go (pass w e) l =
           let h : i < n = means-lt i n .says w in
-          rw (e, firstVertex) (somebody (omega arith) (omega arith) (l .found h) (λ v a b. earlier l v a (omega arith)))
+          rw (e, firstNumber) (somebody (omega arith) (omega arith) (l .found h) (λ v a b. earlier l v a (omega arith)))
       go (fail w e) l =
-          rw (e, firstVertex) (nobody refl (λ v a b. earlier l v a (omega (arith, nltb→le i n w))))
+          rw (e, firstNumber) (nobody refl (λ v a b. earlier l v a (omega (arith, nltb→le i n w))))
 
-  pub means-no-vertex : Means (eqb (firstVertex n t) 0) ((v : ℕ) → 1 ≤ v → v ≤ n → T (t v) → ⊥)
-  means-no-vertex = go first-vertex
+  pub means-no-number : Means (eqb (firstNumber n t) 0) ((v : ℕ) → 1 ≤ v → v ≤ n → T (t v) → ⊥)
+  means-no-number = go first-number
     where
-      go : FirstVertex n t (firstVertex n t) → Means (eqb (firstVertex n t) 0) ((v : ℕ) → 1 ≤ v → v ≤ n → T (t v) → ⊥)
+      go : FirstNumber n t (firstNumber n t) → Means (eqb (firstNumber n t) 0) ((v : ℕ) → 1 ≤ v → v ≤ n → T (t v) → ⊥)
       go (nobody e f) = record { says = λ z v a b u. T-not (t v) (f v a b) u; shows = λ g. means-eq _ _ .shows e }
       go (somebody a b u f) =
           record {
-            says = λ z v c d w. omega (arith, means-eq (firstVertex n t) 0 .says z);
-            shows = λ g. absurd (g (firstVertex n t) a b u);
+            says = λ z v c d w. omega (arith, means-eq (firstNumber n t) 0 .says z);
+            shows = λ g. absurd (g (firstNumber n t) a b u);
           }
 
-  pub means-some-vertex : Means (not (eqb (firstVertex n t) 0)) ((v : ℕ) × (1 ≤ v) × (v ≤ n) × T (t v))
-  means-some-vertex = go first-vertex
+  pub means-some-number : Means (not (eqb (firstNumber n t) 0)) ((v : ℕ) × (1 ≤ v) × (v ≤ n) × T (t v))
+  means-some-number = go first-number
     where
-      go : FirstVertex n t (firstVertex n t) → Means (not (eqb (firstVertex n t) 0)) ((v : ℕ) × (1 ≤ v) × (v ≤ n) × T (t v))
+      go : FirstNumber n t (firstNumber n t) → Means (not (eqb (firstNumber n t) 0)) ((v : ℕ) × (1 ≤ v) × (v ≤ n) × T (t v))
       go (nobody e f) =
           record {
-            says = λ z. absurd (means-not (means-eq (firstVertex n t) 0) .says z e);
+            says = λ z. absurd (means-not (means-eq (firstNumber n t) 0) .says z e);
             shows = λ (v, a, b, u). absurd (T-not (t v) (f v a b) u);
           }
       go (somebody a b u f) =
           record {
-            says = λ z. (firstVertex n t, a, b, u);
-            shows = λ x. means-not (means-eq (firstVertex n t) 0) .shows (λ e. omega arith);
+            says = λ z. (firstNumber n t, a, b, u);
+            shows = λ x. means-not (means-eq (firstNumber n t) 0) .shows (λ e. omega arith);
           }
 
 -- what the views say is all there is to say
@@ -141,10 +141,10 @@ first-is L t r x = go x (first-side L t)
         let m : r ≤ q = le-not-lt r q (λ k. T-not (t q) (f q b k) w) in
         omega arith
 
-pub vertex-is : (n : ℕ) (t : ℕ → Bool) (r : ℕ) → FirstVertex n t r → firstVertex n t ≡ r
-vertex-is n t r x = go x (first-vertex n t)
+pub number-is : (n : ℕ) (t : ℕ → Bool) (r : ℕ) → FirstNumber n t r → firstNumber n t ≡ r
+number-is n t r x = go x (first-number n t)
   where
-    go : {q : ℕ} → FirstVertex n t r → FirstVertex n t q → q ≡ r
+    go : {q : ℕ} → FirstNumber n t r → FirstNumber n t q → q ≡ r
     go (nobody e f) (nobody g h) = g ∙ sym e
     go {q} (nobody e f) (somebody a b u h) = absurd (T-not (t q) (f q a b) u)
     go (somebody a b u f) (nobody g h) = absurd (T-not (t r) (h r a b) u)

@@ -2,7 +2,9 @@ pub mod Sides
 pub mod Least
 pub mod Steps
 pub mod FitRows
+pub mod Links
 pub mod Pairings
+pub mod Meeting
 pub mod Entries
 pub mod Columns
 pub mod Turns

@@ -9,7 +9,7 @@ use lib.ListN.{length}
 use Rattle.lists.specs.TestLaws.{zero-or}
 use Rattle.lists.specs.Search.{at}
 use Rattle.rules.specs.Elements.{Side, origin, destination, next, previous}
-use Rattle.rules.specs.Pairing.{Pairing, Turn, SideAt, TurnOrder, Accepted}
+use Rattle.rules.specs.Pairing.{Pairing, Turn, SideAt, TurnOrder, Conformal, Accepted}
 use Rattle.rules.specs.Tables.{partner}
 use Rattle.theory.specs.Sides.{side-positive}
 use Rattle.theory.specs.Steps.{next-side, next-inj, previous-side, next-previous}
@@ -71,12 +71,13 @@ good n L x =
           let (o, y) = x .ordered .orders v a b in (o, order-same L π (partner L) (pairing-unique L π (partner L) p q) v o y);
     }
 
-pub accepted-of : (n : ℕ) (L : List ℕ) → Good n L → Accepted n L
-accepted-of n L g =
+pub accepted-of : (n : ℕ) (L : List ℕ) → Good n L → Conformal L → Accepted n L
+accepted-of n L g meeting =
     record {
       rows = means-fit n L .shows (g .fit);
       pairing = partner L;
       ordered = record { pairing = g .pairing; orders = g .orders };
+      meeting = meeting;
     }
 
 module _ (L : List ℕ) (p : Pairing L (partner L)) where

@@ -13,11 +13,11 @@ use Rattle.lists.specs.Tests.{both}
 use Rattle.lists.specs.TestLaws.{Means, means-both, means-not, means-eq}
 use Rattle.lists.specs.Search.{at}
 use Rattle.lists.specs.SearchLaws.{lt-or-eq}
-use Rattle.rules.specs.Elements.{elements, Side, slot, origin, sideAt, firstVertex}
+use Rattle.rules.specs.Elements.{elements, Side, slot, origin, sideAt, firstNumber}
 use Rattle.rules.specs.Refusals.{missed}
 use Rattle.halfedge.specs.Rows.{rowOf, part-at}
 use Rattle.theory.specs.Sides.{slot-below, slot-sideAt}
-use Rattle.theory.specs.Least.{means-some, FirstVertex, vertex-is}
+use Rattle.theory.specs.Least.{means-some, FirstNumber, number-is}
 use Rattle.theory.specs.FitRows.{Fit, side-at, entry-at}
 
 -- from place o on stands what the walk wrote: 0 where no side stands
@@ -96,18 +96,18 @@ module _ {n : ℕ} {L : List ℕ} (fit : Fit n L) (W : List ℕ) where
   unfolding origin
   differs v s t e = let (o, d) = means-left v s .says t in d (e ∙ o)
 
-  pub least-missed : {p r : ℕ} → p ≡ length L → LeastBelow L W p r → r ≡ firstVertex n (missed L W)
+  pub least-missed : {p r : ℕ} → p ≡ length L → LeastBelow L W p r → r ≡ firstNumber n (missed L W)
   unfolding origin
-  least-missed {p} {r} all k = sym (vertex-is n (missed L W) r (go k))
+  least-missed {p} {r} all k = sym (number-is n (missed L W) r (go k))
     where
-      go : LeastBelow L W p r → FirstVertex n (missed L W) r
+      go : LeastBelow L W p r → FirstNumber n (missed L W) r
       go (none y g) =
-          FirstVertex.nobody y
+          FirstNumber.nobody y
           (λ v a b. not-T (missed L W v) (λ t. let (s, c, u) = means-missed v .says t in differs v s u (g (slot s) (omega (arith, slot-below L s c)))))
       go (some q l d u nz g) =
           let a = side-at n L fit q (omega arith) (λ y. nz (u ∙ y)) in
           let e = entry-at n L fit q a in
-          FirstVertex.somebody (omega arith) (omega (arith, fit .to (sideAt q) a))
+          FirstNumber.somebody (omega arith) (omega (arith, fit .to (sideAt q) a))
           (means-missed r .shows (sideAt q, a, means-left r (sideAt q) .shows (sym e ∙ sym u, (λ y. d (ap (at W) (sym (slot-sideAt q)) ∙ y ∙ u)))))
           (λ v b c. not-T (missed L W v)
           (λ t.

@@ -2,7 +2,7 @@
 ghost use mathlib.Core.Path.{_≡_};
 ghost use Prim.Native.Nat.{_+_, _≤_, _<_};
 ghost use lib.ListN.{length, drop};
-ghost use Rattle.rules.specs.Elements.{firstVertex};
+ghost use Rattle.rules.specs.Elements.{firstNumber};
 ghost use Rattle.rules.specs.Refusals.{missed};
 ghost use Rattle.theory.specs.FitRows.{Fit};
 ghost use Rattle.unordered.specs.Missed.{Walked, LeastBelow, Lesser};
@@ -38,7 +38,7 @@ fn missed_in_row(o: usize, list: &[u32], work: &[u32], a: usize, best: u32) -> u
 // The least vertex with a side that isn't written from place o on; 0 where there is none.
 pub fn unordered_vertex(n: u32, o: usize, list: &[u32], work: &[u32]) -> u32
     requires { ⌜ Walked o (now list) (now work) × Fit n (now list) ⌝ }
-    ensures { λ r. ⌜ r ≡ firstVertex n (missed (now (list .entry)) (drop o (now (work .entry)))) ⌝ }
+    ensures { λ r. ⌜ r ≡ firstNumber n (missed (now (list .entry)) (drop o (now (work .entry)))) ⌝ }
 {
     let mut best: u32 = 0;
     let mut a: usize = 0;

@@ -31,7 +31,7 @@ done : (c : tie.After-first-sides) →
     let a = start c .args in Prepared (a .n) (wide .result) (a .list .now) (a .work .now) (c .first-sides .last .1 .1 .0)
 done c =
     let was = grouped (c .before) in
-    prepared (start c .pre) (was .before .before .wide .ensures) (was .siblings .ensures) (c .first-sides .ensures)
+    prepared (start c .pre) (was .before .before .wide .ensures) (was .siblings .ensures .0) (c .first-sides .ensures)
 
 -- check 6 found nothing
 uncrowded : (c : tie.Else1) → crowdedSide (start (at-6 (c .before)) .args .list .now) ≡ 0
@@ -45,7 +45,7 @@ siblings-requires c κs = room (begun c .pre) (c .before .wide .ensures)
 
 first-sides-requires : tie.Need-first-sides-requires
 first-sides-requires c κs =
-    let was = grouped c in still (begun (was .before) .pre) (was .before .before .wide .ensures) (was .siblings .ensures)
+    let was = grouped c in still (begun (was .before) .pre) (was .before .before .wide .ensures) (was .siblings .ensures .0)
 
 crowded-side-requires : tie.Need-crowded-side-requires
 crowded-side-requires c κs = done (firsted c) .mapped
@@ -76,11 +76,17 @@ returns-2 c =
     let one = at-7 found in
     refuses-7 (done (at-6 (one .before))) (uncrowded one) (found .alike-side .ensures) (c .before .if2 .taken) (c .refusal-at2 .ensures)
 
+clashing-element-requires : tie.Need-clashing-element-requires
+clashing-element-requires c κs =
+    let one = at-7 (c .before .before) in
+    let ringed = at-6 (one .before) in (done ringed .mapped, uncrowded one, grouped (ringed .before) .siblings .ensures .1)
+
 tabulate-paired-requires : tie.Need-tabulate-paired-requires
 tabulate-paired-requires c κs =
-    let found = c .before .before in
-    let one = at-7 found in
-    ready (done (at-6 (one .before))) (uncrowded one) (sym (found .alike-side .ensures) ∙ c .before .if2 .left)
+    let asked = c .before in
+    let apart = asked .before .before in
+    let one = at-7 (apart .before) in
+    (ready (done (at-6 (one .before))) (uncrowded one) (sym (apart .before .alike-side .ensures) ∙ apart .if2 .left), asked .clashing-element .ensures)
 
 same-length-3 : tie.Need-same-length-3
 same-length-3 c = search needs
@@ -88,7 +94,7 @@ same-length-3 c = search needs
 returns-3 : tie.Need-returns-3
 returns-3 c =
     let paired = c .before .before in
-    let apart = paired .before .before in
+    let apart = paired .before .before .before .before in
     let one = at-7 (apart .before) in
     fit-on (done (at-6 (one .before))) (uncrowded one) (sym (apart .before .alike-side .ensures) ∙ apart .if2 .left) (paired .tabulate-paired .ensures)
 
@@ -107,6 +113,7 @@ tabulate-fit-spec =
     refusal-at-requires-2
     same-length-2
     returns-2
+    clashing-element-requires
     tabulate-paired-requires
     same-length-3
     returns-3)

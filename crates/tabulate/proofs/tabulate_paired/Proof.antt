@@ -4,7 +4,7 @@ use Prim.Native.Nat.{_+_, _*_}
 use native.Mathlib.Omega.{arith}
 use borrow.Author.Needs.{needs}
 use Rattle.rules.specs.Elements.{elements}
-use Rattle.tabulate.specs.Results.{Tabled, tabled, few, refuses-8, gives-tables}
+use Rattle.tabulate.specs.Results.{Tabled, tabled, few, clashes, refuses-8, refuses-18, gives-tables}
 use Rattle.tabulate.proofs.tabulate_paired.Statement.{statement}
 use Rattle.tabulate.proofs.tabulate_paired.Tie as tie
 
@@ -24,13 +24,13 @@ tables : (c : tie.After-walk) →
     Tabled (a .n) (a .list .now) (counted .before .before .wide .result + 8 * elements (a .list .now)) (k .borders) (k .sides) (a .work .now) (c .walk .last .1 .1 .0)
 tables c =
     let counted = numbered c in
-    tabled (begun (counted .before) .pre) (counted .before .before .wide .ensures) (counted .number-borders .ensures) (c .walk .ensures)
+    tabled (begun (counted .before) .pre .0) (counted .before .before .wide .ensures) (counted .number-borders .ensures) (c .walk .ensures)
 
 wide-requires : tie.Need-wide-requires
 wide-requires c κs = search needs
 
 number-borders-requires : tie.Need-number-borders-requires
-number-borders-requires c κs = rw (c .before .wide .ensures) (begun c .pre)
+number-borders-requires c κs = rw (c .before .wide .ensures) (begun c .pre .0)
 
 walk-requires : tie.Need-walk-requires
 walk-requires c κs = search needs
@@ -55,19 +55,44 @@ returns c =
     let found = c .before .before in
     refuses-8 (tables (walked (found .before))) (found .unordered-vertex .ensures) (c .before .if1 .taken) (c .refuse-at .ensures)
 
-add-give-two : tie.Need-add-give-two
-add-give-two c = omega (arith, few (tables (walked (c .before .before))))
+-- the element that check 18 finds, or 0
+abbrev start : tie.After-unordered-vertex → tie.Start
+start c = begun (numbered (walked (c .before)) .before)
 
-give-two-requires : tie.Need-give-two-requires
-give-two-requires c κs = search needs
+clash-of-requires : tie.Need-clash-of-requires
+clash-of-requires c κs =
+    let p = start (c .before .before) in
+    (clashes (p .args .list .now) (p .args .f) (p .pre .1) (c .if2 .taken), p .pre .0 .mapped .fit .size)
+
+refuse-at-requires-2 : tie.Need-refuse-at-requires-2
+refuse-at-requires-2 c κs = search needs
 
 same-length-2 : tie.Need-same-length-2
 same-length-2 c = search needs
 
 returns-2 : tie.Need-returns-2
 returns-2 c =
-    let found = c .before .before in
-    gives-tables (tables (walked (found .before))) (found .unordered-vertex .ensures) (c .before .if1 .left) (c .give-two .ensures)
+    let asked = c .before in
+    let one = asked .before .before in
+    let found = one .before in
+    refuses-18 (tables (walked (found .before))) (found .unordered-vertex .ensures) (one .if1 .left) (start found .pre .1) (asked .before .if2 .taken)
+    (asked .clash-of .ensures) (c .refuse-at2 .ensures)
+
+add-give-two : tie.Need-add-give-two
+add-give-two c = omega (arith, few (tables (walked (c .before .before .before))))
+
+give-two-requires : tie.Need-give-two-requires
+give-two-requires c κs = search needs
+
+same-length-3 : tie.Need-same-length-3
+same-length-3 c = search needs
+
+returns-3 : tie.Need-returns-3
+returns-3 c =
+    let two = c .before in
+    let one = two .before in
+    let found = one .before in
+    gives-tables (tables (walked (found .before))) (found .unordered-vertex .ensures) (one .if1 .left) (start found .pre .1) (two .if2 .left) (c .give-two .ensures)
 
 pub tabulate-paired-spec : {M : Type 1} → statement M
 tabulate-paired-spec =
@@ -82,7 +107,11 @@ tabulate-paired-spec =
     refuse-at-requires
     same-length
     returns
+    clash-of-requires
+    refuse-at-requires-2
+    same-length-2
+    returns-2
     add-give-two
     give-two-requires
-    same-length-2
-    returns-2)
+    same-length-3
+    returns-3)

@@ -1,0 +1,4 @@
+pub mod Folds
+pub mod Clashes
+pub mod Numbers
+pub mod Places
