@@ -8,6 +8,10 @@
  * nothing. Vertices that belong to no element are accepted, however many: n may be 1,000,000 with one
  * element, or with none.
  *
+ * Any two elements share no corner, one corner, or exactly two corners, which are then a side of both.
+ * Where two meet otherwise the list is refused: two triangles back to back, (1,2,3) and (1,3,2), or two
+ * quadrilaterals with the same diagonal.
+ *
  *   V2e  n entries            the border half-edge that leaves the vertex; for a vertex that is on no
  *                             border, its least side; 0 for a vertex that belongs to no element
  *   E2e  columns * m entries  what lies opposite each side: a side or a border half-edge
@@ -47,7 +51,8 @@ extern "C" {
 #define BORZHANU_MAX_ELEMENTS 1000000u
 #define BORZHANU_MAX_BORDERS 4000000u
 
-/* Why a call refused. Checks are made in this order, each over the whole list before the next. */
+/* Why a call refused. Checks are made in this order, 18 after 8 and before 9, each over the whole list
+   before the next. */
 enum {
     /* The call has answered. */
     BORZHANU_ANSWERED = 0,
@@ -73,10 +78,13 @@ enum {
     /* The elements at a vertex aren't one fan: they touch at this point alone.
        Place: the least such vertex, 0. */
     BORZHANU_FAN_BROKEN = 8,
+    /* Two elements meet otherwise than at one corner or one edge: the least such pair, lower number
+       first. */
+    BORZHANU_ELEMENTS_CLASH = 18,
     /* B2e is too short. Place: k, the length that it needs, 0. */
     BORZHANU_BORDER_SHORT = 9,
-    /* No element list of m elements has exactly this V2e and this E2e. A list of triangles has its E2e
-       in three columns alone: four columns of it give this. */
+    /* No element list of m elements that building accepts has exactly this V2e and this E2e. A list of
+       triangles has its E2e in three columns alone: four columns of it give this. */
     BORZHANU_NO_LIST = 10,
     /* There is no such vertex, border or half-edge, or the question makes no sense for it. */
     BORZHANU_NOT_THERE = 11,
@@ -138,6 +146,8 @@ static inline const char *borzhanu_refusal_text(uint32_t refusal) {
         return "two elements run along an edge in the same direction";
     case BORZHANU_FAN_BROKEN:
         return "the elements at a vertex aren't one fan";
+    case BORZHANU_ELEMENTS_CLASH:
+        return "two elements meet otherwise than at one corner or one edge";
     case BORZHANU_BORDER_SHORT:
         return "B2e is shorter than k";
     case BORZHANU_NO_LIST:
@@ -217,8 +227,8 @@ uint64_t borzhanu_columns(uint32_t n, const uint32_t *elements, size_t elements_
  *   work      at least n + 16 * m entries
  *
  * After an answer v2e, e2e and the first k entries of b2e are the tables; the rest of b2e is as it
- * was. After a refusal, 1 to 4 or 6 to 9, all three are as they were. What they and work hold before
- * doesn't matter. After 1 and 2 work is as it was; after everything else it is all zero.
+ * was. After a refusal, 1 to 4, 6 to 9 or 18, all three are as they were. What they and work hold
+ * before doesn't matter. After 1 and 2 work is as it was; after everything else it is all zero.
  */
 uint64_t borzhanu_build(uint32_t n,
                         const uint32_t *elements, size_t elements_len,
@@ -240,8 +250,9 @@ uint64_t borzhanu_build(uint32_t n,
  * After an answer elements is the list; after a refusal, 1, 2 or 10, it is as it was. Nothing is
  * repaired: 10 means that no list of m elements has these tables, as where V2e has 0 for a vertex that
  * the other entries give a side, or a half-edge for a vertex that they give none, or where E2e has
- * four columns and no quadrilateral. After 1 and 2 work is as it was; after everything else it is all
- * zero.
+ * four columns and no quadrilateral. A list that building refuses has no tables, so 10 comes too where
+ * the only list that these could belong to is refused with 18. After 1 and 2 work is as it was; after
+ * everything else it is all zero.
  */
 uint64_t borzhanu_recover(uint32_t n, uint32_t m,
                           const uint32_t *v2e, size_t v2e_len,

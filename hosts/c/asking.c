@@ -211,7 +211,7 @@ int built(const struct list *list, struct mesh *t) {
     return 1;
 }
 
-/* Refusals 3 to 8 come before 9. */
+/* Refusals 3 to 8 and 18 come before 9. */
 static void build_without_room(const struct list *list) {
     struct call call = build_of(list, 0);
     compare(&call, NULL);
@@ -226,11 +226,31 @@ void build_with_other_room(const struct list *list, size_t k) {
     build_without_room(list);
 }
 
+/* With a work buffer of the least length, and with a longer one. */
+static void recover_with(const struct mesh *t, uint32_t refusal) {
+    struct call call = recovery_of(t);
+    compare_with(&call, refusal, 0);
+    call.given[WORK].len += 5;
+    compare_with(&call, refusal, 0);
+}
+
 void recover(const struct mesh *t) {
     struct call call = recovery_of(t);
     compare(&call, NULL);
     call.given[WORK].len += 5;
     compare(&call, NULL);
+}
+
+int tried_building(const struct list *list, struct mesh *t) {
+    struct slice rows = {list->rows, 4 * list->m};
+    int accepted = built(list, t);
+    if (!accepted && !tables_but_for_18(list->n, rows, t)) {
+        build_without_room(list);
+        return 0;
+    }
+    build_with_other_room(list, t->b2e.len);
+    recover_with(t, accepted ? 0 : 10);
+    return 1;
 }
 
 /* The border half-edge that ends at a vertex; 0: there is none. */
@@ -346,12 +366,8 @@ void try_small_list(const struct list *list, struct dice *dice) {
     struct call look = look_at(list);
     struct mesh t;
     compare(&look, NULL);
-    if (!built(list, &t)) {
-        build_without_room(list);
+    if (!tried_building(list, &t))
         return;
-    }
-    build_with_other_room(list, t.b2e.len);
-    recover(&t);
     recover_in_other_columns(&t);
     recover_damaged(&t, dice);
     recover_any_claimed(&t, dice);
@@ -365,12 +381,8 @@ void try_list(const struct list *list, struct dice *dice, int times) {
     struct call look = look_at(list);
     struct mesh t;
     compare(&look, NULL);
-    if (!built(list, &t)) {
-        build_without_room(list);
+    if (!tried_building(list, &t))
         return;
-    }
-    build_with_other_room(list, t.b2e.len);
-    recover(&t);
     recover_in_other_columns(&t);
     ask_something(&t, dice, times);
     for (int i = 0; i <= times / 4; i++) {

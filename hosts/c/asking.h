@@ -43,6 +43,9 @@ int built(const struct list *list, struct mesh *t);
 /* B2e of other lengths, and more work space than needed. */
 void build_with_other_room(const struct list *list, size_t k);
 void recover(const struct mesh *t);
+/* Builds with room and without, and recovers the tables, which the caller drops. Of a list that only 18 refuses they
+   are those that it would have otherwise, and no list comes back. Returns 0 where there are none. */
+int tried_building(const struct list *list, struct mesh *t);
 /* A vertex with elements whose V2e entry is put to 0: what is asked of it and of the border that ends there, and
    recovery. */
 void try_zeroed(const struct mesh *t, uint32_t v);

@@ -305,10 +305,14 @@ struct answer compare(const struct call *call, struct slice *results) {
     return want;
 }
 
-void compare_with(const struct call *call, uint32_t refusal, uint32_t first) {
-    struct answer known = {refusal, first, 0}, answer = compare(call, NULL);
+void compare_answer(const struct call *call, struct answer known) {
+    struct answer answer = compare(call, NULL);
     if (memcmp(&known, &answer, sizeof known) != 0)
         fail_answer(known, answer);
+}
+
+void compare_with(const struct call *call, uint32_t refusal, uint32_t first) {
+    compare_answer(call, (struct answer){refusal, first, 0});
 }
 
 /* ---- time ---- */

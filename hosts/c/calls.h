@@ -53,7 +53,8 @@ size_t room_of(enum role role);
    nothing. A mismatch is printed and ends the program. */
 struct answer compare(const struct call *call, struct slice *results);
 
-/* Compares a call whose answer is known beforehand. */
+/* Compares a call whose answer is known beforehand; where its second number isn't named, it is 0. */
+void compare_answer(const struct call *call, struct answer known);
 void compare_with(const struct call *call, uint32_t refusal, uint32_t first);
 
 /* Makes a call on the kernel alone, so many times, for its processor time. Where they take more than `allowed` seconds

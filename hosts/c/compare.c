@@ -11,6 +11,8 @@
 #include "borzhanu.h"
 #include "columns.h"
 #include "header.h"
+#include "meeting.h"
+#include "pillows.h"
 #include "printed.h"
 #include "spare.h"
 
@@ -97,6 +99,19 @@ static void two_rows(struct dice *dice) {
     }
 }
 
+/* A triangle and a quadrilateral, each beside every fit row on six vertices: all ways in which two elements share two
+   corners or more. */
+static void every_second_row(struct dice *dice) {
+    static const uint32_t rows[2][4] = {{1, 2, 3, 0}, {1, 2, 3, 4}};
+    static uint32_t fit[512][4];
+    uint32_t count = fit_rows(6, fit, COUNT(fit));
+    for (uint32_t i = 0; i < 2 * count; i++)
+        if (below(dice, 2) == 0)
+            two_rows_of(6, rows[i % 2], fit[i / 2], dice);
+        else
+            two_rows_of(6, fit[i / 2], rows[i % 2], dice);
+}
+
 /* Every content of V2e and of E2e of one element on three vertices, out of the codes that could be meant. */
 static void small_tables_of(uint32_t columns) {
     static const uint32_t codes[] = {0, 8, 16, 24, 32, 9};
@@ -119,51 +134,48 @@ static void small_tables(struct dice *dice) {
     small_tables_of(4);
 }
 
-/* Recovery of every content of V2e on n vertices, out of the codes that could be meant, beside one E2e. */
-static void every_v2e(uint32_t n, struct slice e2e, size_t m) {
-    static const uint32_t codes[] = {0, 8, 16, 24, 32, 9, 17};
+enum { CODES = 7 };
+
+/* Recovery of every content of V2e on n vertices, out of codes that could be meant, beside one E2e. */
+static void every_v2e(uint32_t n, const uint32_t *codes, struct slice e2e, size_t m) {
     uint32_t v2e[5], all = 1;
     for (uint32_t v = 0; v < n; v++)
-        all *= COUNT(codes);
+        all *= CODES;
     for (uint32_t number = 0; number < all; number++) {
         uint32_t rest = number;
-        for (uint32_t v = 0; v < n; v++, rest /= COUNT(codes))
-            v2e[v] = codes[rest % COUNT(codes)];
+        for (uint32_t v = 0; v < n; v++, rest /= CODES)
+            v2e[v] = codes[rest % CODES];
         struct mesh t = {n, 0, noise_of(ELEMENTS, 4 * m), {v2e, n}, e2e, noise_of(B2E, 0)};
         struct call call = recovery_of(&t);
         compare(&call, NULL);
     }
 }
 
-/* E2e of no element, of one triangle, of one quadrilateral, of two triangles back to back and of the listing: on up to
-   five vertices some are spare, and any of them can be. Of the listing in four columns too. */
+/* E2e of no element, of one triangle, of one quadrilateral, of the listing, also in four columns, of four triangles
+   about a solid, and of two triangles back to back: on up to five vertices some are spare, and any of them can be. */
 static void small_spare_tables(struct dice *dice) {
+    static const uint32_t of_open[CODES] = {0, 8, 16, 24, 32, 9, 17}, of_closed[CODES] = {0, 9, 10, 11, 18, 17, 8};
     static struct {
+        const uint32_t *codes;
         size_t m, columns;
-        uint32_t e2e[8];
+        uint32_t e2e[12];
     } tables[] = {
-        {0, 3, {0}},
-        {1, 3, {8, 16, 24}},
-        {1, 4, {8, 16, 24, 32}},
-        {2, 3, {19, 18, 17, 11, 10, 9}},
-        {2, 3, {8, 16, 17, 11, 24, 32}},
-        {2, 4, {8, 16, 17, 0, 11, 24, 32, 0}},
+        {of_open, 0, 3, {0}},
+        {of_open, 1, 3, {8, 16, 24}},
+        {of_open, 1, 4, {8, 16, 24, 32}},
+        {of_open, 2, 3, {8, 16, 17, 11, 24, 32}},
+        {of_open, 2, 4, {8, 16, 17, 0, 11, 24, 32, 0}},
+        {of_closed, 4, 3, {19, 27, 35, 34, 25, 9, 18, 33, 10, 26, 17, 11}},
+        {of_closed, 2, 3, {19, 18, 17, 11, 10, 9}},
     };
     (void)dice;
     for (size_t i = 0; i < COUNT(tables); i++)
         for (uint32_t n = 0; n <= 5; n++)
-            every_v2e(n, (struct slice){tables[i].e2e, tables[i].columns * tables[i].m}, tables[i].m);
+            every_v2e(n, tables[i].codes, (struct slice){tables[i].e2e, tables[i].columns * tables[i].m}, tables[i].m);
 }
 
 static void prepare_any(struct list *list, struct dice *dice) {
-    if (below(dice, 2) == 0)
-        renumber_vertices(list, dice);
-    if (below(dice, 2) == 0)
-        shuffle_rows(list, dice);
-    if (below(dice, 2) == 0)
-        rotate_rows(list, dice);
-    if (below(dice, 4) == 0)
-        turn_over(list);
+    disguise(list, dice);
     if (below(dice, 3) == 0)
         for (uint32_t times = 1 + below(dice, 3); times > 0; times--)
             damage_list(list, dice);
@@ -265,20 +277,26 @@ static void try_lengths(const struct call *call, const int *roles, int count, lo
             }
 }
 
+/* Of build and of recovery; the tables are those that the list has, or would have but for 18. */
+static void try_list_lengths(const struct list *list, const struct mesh *t, struct dice *dice) {
+    static const int of_build[] = {ELEMENTS, V2E, E2E, B2E, WORK}, of_recovery[] = {V2E, E2E, ELEMENTS, WORK};
+    struct call call = build_of(list, t->b2e.len);
+    try_lengths(&call, of_build, COUNT(of_build), (long)list->m, dice);
+    call = recovery_of(t);
+    try_lengths(&call, of_recovery, COUNT(of_recovery), (long)list->m, dice);
+}
+
 static void lengths(struct dice *dice) {
-    static const int of_build[] = {ELEMENTS, V2E, E2E, B2E, WORK}, of_recovery[] = {V2E, E2E, ELEMENTS, WORK},
-                     of_query[] = {ELEMENTS, V2E, E2E, B2E};
+    static const int of_query[] = {ELEMENTS, V2E, E2E, B2E};
     for (int i = 0; i < 12; i++) {
         struct list list = sheet(1 + below(dice, 3), 1 + below(dice, 3), 0, 0, (enum kinds)(i % 3), dice);
         add_spare(&list, below(dice, list.n + 1), (uint32_t)i % 4 * 30);
         long m = (long)list.m;
         struct mesh t;
+        struct call call;
         if (!built(&list, &t))
             exit(2);
-        struct call call = build_of(&list, t.b2e.len);
-        try_lengths(&call, of_build, COUNT(of_build), m, dice);
-        call = recovery_of(&t);
-        try_lengths(&call, of_recovery, COUNT(of_recovery), m, dice);
+        try_list_lengths(&list, &t, dice);
         const struct exported *queries[] = {&code_calls[i % CODE_CALLS], &vertex_test, &vertex_lists[i % VERTEX_LISTS],
                                             &border_list, &start_call, &step_call};
         for (size_t j = 0; j < COUNT(queries); j++) {
@@ -290,6 +308,20 @@ static void lengths(struct dice *dice) {
         call.given[RECORD] = (struct slice){ring_over, RECORD_LENGTH};
         try_lengths(&call, of_query, COUNT(of_query), m, dice);
         drop_tables(&t);
+        drop_list(&list);
+    }
+}
+
+/* Slices, most of which clash, with borders and without. */
+static void lengths_of_clashes(struct dice *dice) {
+    static const char *const patterns[] = {"TT", "WW", "WAW", "PLAAW", "WA"};
+    for (size_t i = 0; i < 2 * COUNT(patterns); i++) {
+        struct list list = slices(patterns[i / 2], (int)(i % 2));
+        struct mesh t;
+        if (tried_building(&list, &t)) {
+            try_list_lengths(&list, &t, dice);
+            drop_tables(&t);
+        }
         drop_list(&list);
     }
 }
@@ -412,6 +444,7 @@ static const struct {
     {"queries of a mesh", mesh_functions},
     {"lengths", lengths},
     {"empty buffers", empty_buffers},
+    {"time of meeting", time_of_meeting},
     {"small housings", small_housings},
     {"housings", housings},
     {"large housings", large_housings},
@@ -419,6 +452,9 @@ static const struct {
     {"time of told columns", time_of_told_columns},
     {"time of spare vertices", time_of_spare_vertices},
     {"many spare vertices", many_spare_vertices},
+    {"every second row", every_second_row},
+    {"elements that clash", elements_that_clash},
+    {"lengths of clashes", lengths_of_clashes},
 };
 
 static double seconds(void) {

@@ -18,7 +18,7 @@ static void check_names(const uint32_t *names, size_t count, const char *what) {
             fail_number(what, number);
 }
 
-/* The refusals, with 5, which no call gives, in its place; and what a vertex can be. */
+/* The refusals up to 14, with 5, which no call gives, in its place; 18; and what a vertex can be. */
 static void check_numbers(void) {
     static const uint32_t refusals[] = {
         BORZHANU_ANSWERED,     BORZHANU_SIZES,           BORZHANU_LENGTHS,
@@ -29,6 +29,8 @@ static void check_numbers(void) {
     };
     static const uint32_t vertices[] = {BORZHANU_INNER, BORZHANU_RIM, BORZHANU_UNUSED};
     check_names(refusals, sizeof refusals / sizeof *refusals, "another name for refusal");
+    if (BORZHANU_ELEMENTS_CLASH != 18)
+        fail_number("another name for refusal", 18);
     check_names(vertices, sizeof vertices / sizeof *vertices, "another name for a vertex that is");
 }
 
@@ -62,23 +64,30 @@ static const char *sentence(uint32_t number) {
     return text;
 }
 
-static int known(uint32_t number) {
-    return strcmp(sentence(number), sentence(UINT32_MAX)) != 0;
+static int same_sentence(uint32_t a, uint32_t b) {
+    return strcmp(sentence(a), sentence(b)) == 0;
 }
 
-/* The numbers that have a sentence of their own come first, without a gap; all others share one. */
+static int is_refusal(uint32_t number) {
+    return number <= BORZHANU_TEXT_UNFIT || number == BORZHANU_ELEMENTS_CLASH;
+}
+
+static void check_own_sentence(uint32_t number) {
+    if (same_sentence(number, UINT32_MAX))
+        fail_number("no sentence for refusal", number);
+    for (uint32_t other = 0; other < number; other++)
+        if (same_sentence(number, other))
+            fail_number("another number's sentence for refusal", number);
+}
+
+/* Each refusal has a sentence of its own; all other numbers share one. */
 static void check_sentences(void) {
     enum { NUMBERS = 256 };
-    uint32_t count = 0;
-    for (; known(count); count++)
-        for (uint32_t other = 0; other < count; other++)
-            if (strcmp(sentence(other), sentence(count)) == 0)
-                fail_number("another number's sentence for refusal", count);
-    if (count <= BORZHANU_TEXT_UNFIT)
-        fail_number("no sentence for refusal", count);
-    for (uint32_t number = count; number < NUMBERS; number++)
-        if (known(number))
-            fail_number("no sentence for a number before refusal", number);
+    for (uint32_t number = 0; number < NUMBERS; number++)
+        if (is_refusal(number))
+            check_own_sentence(number);
+        else if (!same_sentence(number, UINT32_MAX))
+            fail_number("a sentence for what is no refusal,", number);
 }
 
 static void check_words(uint32_t number, const char *words) {
@@ -99,6 +108,7 @@ void check_header(void) {
     check_sentences();
     check_words(1, "more than 1,000,000 vertices or elements, or an element list not in fours");
     check_words(2, "a buffer's length doesn't fit n, m and the columns, or the columns told aren't 0, 3 or 4");
+    check_words(18, "two elements meet otherwise than at one corner or one edge");
     check_lengths();
 }
 

@@ -203,11 +203,11 @@ void shuffle_rows(struct list *list, struct dice *dice) {
     }
 }
 
-static uint32_t corners_of(const uint32_t *row) {
+uint32_t corners_of(const uint32_t *row) {
     return row[3] == 0 ? 3 : 4;
 }
 
-static void rotate_row(uint32_t *row, uint32_t by) {
+void rotate_row(uint32_t *row, uint32_t by) {
     uint32_t old[4] = {row[0], row[1], row[2], row[3]}, count = corners_of(row);
     for (uint32_t i = 0; i < count; i++)
         row[i] = old[(i + by) % count];
@@ -229,13 +229,23 @@ void turn_over(struct list *list) {
         reverse_row(list->rows + 4 * f);
 }
 
-static void take_row_out(struct list *list, size_t f) {
+void disguise(struct list *list, struct dice *dice) {
+    if (below(dice, 2) == 0)
+        renumber_vertices(list, dice);
+    if (below(dice, 2) == 0)
+        shuffle_rows(list, dice);
+    if (below(dice, 2) == 0)
+        rotate_rows(list, dice);
+    if (below(dice, 4) == 0)
+        turn_over(list);
+}
+
+void take_row_out(struct list *list, size_t f) {
     memmove(list->rows + 4 * f, list->rows + 4 * (f + 1), 4 * (list->m - f - 1) * sizeof(uint32_t));
     list->m--;
 }
 
-/* Vertices without an element go, and the others close up. */
-static void close_numbering(struct list *list) {
+void close_numbering(struct list *list) {
     uint32_t *number = room_for((size_t)list->n + 1, sizeof *number), last = 0;
     for (size_t p = 0; p < 4 * list->m; p++)
         if (list->rows[p] <= list->n)

@@ -47,6 +47,17 @@ void renumber_vertices(struct list *list, struct dice *dice);
 void shuffle_rows(struct list *list, struct dice *dice);
 void rotate_rows(struct list *list, struct dice *dice);
 void turn_over(struct list *list);
+/* Some of these, chosen at random. */
+void disguise(struct list *list, struct dice *dice);
+
+/* 3 or 4 */
+uint32_t corners_of(const uint32_t *row);
+/* The row begins with the corner that was `by` places after the first. */
+void rotate_row(uint32_t *row, uint32_t by);
+/* The rows after it move up. */
+void take_row_out(struct list *list, size_t f);
+/* Vertices without an element go, and the others close up. */
+void close_numbering(struct list *list);
 
 /* One slip of a mesher, or one more spare vertex, chosen at random. */
 void damage_list(struct list *list, struct dice *dice);

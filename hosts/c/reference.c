@@ -1,5 +1,8 @@
 #include "reference.h"
 
+#include "clash.h"
+#include "sorting.h"
+
 #include <stdio.h>
 #include <stdlib.h>
 #include <string.h>
@@ -114,20 +117,6 @@ struct study {
     uint32_t k, side_total;
 };
 
-/* a side beside the two vertices that it joins, the lesser first */
-struct joint {
-    uint32_t lesser, greater, side;
-};
-
-static int by_vertices_then_code(const void *left, const void *right) {
-    const struct joint *a = left, *b = right;
-    if (a->lesser != b->lesser)
-        return a->lesser < b->lesser ? -1 : 1;
-    if (a->greater != b->greater)
-        return a->greater < b->greater ? -1 : 1;
-    return a->side < b->side ? -1 : a->side > b->side;
-}
-
 static struct answer check_corners(const struct study *s) {
     for (size_t p = 0; p < 4 * s->m; p++)
         if ((p % 4 < 3 && s->rows[p] == 0) || s->rows[p] > s->n)
@@ -139,26 +128,20 @@ static struct answer check_corners(const struct study *s) {
     return gives(0, 0);
 }
 
-static struct joint *sorted_joints(struct study *s) {
-    struct joint *joints = zeroed(4 * s->m, sizeof *joints);
+/* Each side beside the two vertices that it joins, the lesser first. */
+static uint64_t *sorted_joints(struct study *s) {
+    uint64_t *joints = zeroed(4 * s->m, sizeof *joints);
     size_t count = 0;
     for (size_t p = 0; p < 4 * s->m; p++) {
         uint32_t side = side_at(p);
         if (!is_side(s->rows, s->m, side))
             continue;
         uint32_t a = origin_of(s->rows, side), b = destination_of(s->rows, side);
-        joints[count++] = (struct joint){a < b ? a : b, a < b ? b : a, side};
+        joints[count++] = pair_of(a < b ? a : b, a < b ? b : a, side);
     }
     s->side_total = (uint32_t)count;
-    qsort(joints, count, sizeof *joints, by_vertices_then_code);
+    sort_pairs(joints, count);
     return joints;
-}
-
-static size_t group_end(const struct joint *joints, size_t count, size_t start) {
-    size_t end = start + 1;
-    while (end < count && joints[end].lesser == joints[start].lesser && joints[end].greater == joints[start].greater)
-        end++;
-    return end;
 }
 
 static uint32_t lesser_code(uint32_t a, uint32_t b) {
@@ -167,15 +150,15 @@ static uint32_t lesser_code(uint32_t a, uint32_t b) {
 
 /* Pairs the sides, or finds the least side of three or more (6) or of two that run alike (7). */
 static struct answer pair_sides(struct study *s) {
-    struct joint *joints = sorted_joints(s);
+    uint64_t *joints = sorted_joints(s);
     uint32_t crowded = 0, alike = 0;
-    for (size_t start = 0, end; start < s->side_total; start = end) {
-        end = group_end(joints, s->side_total, start);
-        uint32_t first = joints[start].side;
-        if (end - start >= 3) {
+    for (size_t start = 0, run; start < s->side_total; start += run) {
+        run = run_of_pairs(joints + start, s->side_total - start);
+        uint32_t first = beside_of(joints[start]);
+        if (run >= 3) {
             crowded = lesser_code(crowded, first);
-        } else if (end - start == 2) {
-            uint32_t second = joints[start + 1].side;
+        } else if (run == 2) {
+            uint32_t second = beside_of(joints[start + 1]);
             if (origin_of(s->rows, first) == origin_of(s->rows, second))
                 alike = lesser_code(alike, first);
             s->partner[place_of(first)] = second;
@@ -254,13 +237,40 @@ static void write_tables(struct study *s) {
         s->v2e[destination_of(s->rows, s->b2e[b - 1]) - 1] = 8 * b;
 }
 
-/* Checks 3 to 8 in their order, but for 5, which is reserved; then the tables, k and the number of edges. */
-static struct answer examine(struct study *s) {
+/* Checks 3 to 8 in their order, but for 5, which is reserved. */
+static struct answer check_sides(struct study *s) {
     struct answer answer = check_corners(s);
     if (answer.refusal == 0)
         answer = pair_sides(s);
     if (answer.refusal == 0)
         answer = check_turn_orders(s);
+    return answer;
+}
+
+/* A look at every two elements must come to the same as sorting. */
+static void check_clash(const struct study *s, struct clash sorted) {
+    struct clash looked = clash_by_pairs(s->rows, s->m);
+    if (looked.lower == sorted.lower && looked.higher == sorted.higher)
+        return;
+    fprintf(stderr, "reference: a look at every two elements finds %u,%u to clash, sorting %u,%u\n", looked.lower,
+            looked.higher, sorted.lower, sorted.higher);
+    exit(2);
+}
+
+/* Check 18, in both ways where the list is short. */
+static struct answer check_meeting(const struct study *s) {
+    enum { SHORT = 60 };
+    struct clash clash = clash_by_sorting(s->rows, s->m);
+    if (s->m <= SHORT)
+        check_clash(s, clash);
+    return clash.lower == 0 ? gives(0, 0) : refused(18, clash.lower, clash.higher);
+}
+
+/* Checks 3 to 8 and then 18; then the tables, k and the number of edges. */
+static struct answer examine(struct study *s) {
+    struct answer answer = check_sides(s);
+    if (answer.refusal == 0)
+        answer = check_meeting(s);
     if (answer.refusal != 0)
         return answer;
     write_tables(s);
@@ -324,6 +334,20 @@ struct answer reference_build(const struct mesh *mesh, struct slice work) {
     drop_study(&s);
     clear_entries(work);
     return answer;
+}
+
+int tables_but_for_18(uint32_t n, struct slice elements, struct mesh *t) {
+    struct study s = study_of(n, elements);
+    if (check_sides(&s).refusal != 0) {
+        drop_study(&s);
+        return 0;
+    }
+    write_tables(&s);
+    uint32_t *rows = zeroed(elements.len, sizeof *rows);
+    copy_entries(rows, elements.at, elements.len);
+    free(s.partner);
+    *t = (struct mesh){n, 0, {rows, elements.len}, {s.v2e, n}, {s.e2e, s.columns * s.m}, {s.b2e, s.k}};
+    return 1;
 }
 
 /* ---- recovery ---- */

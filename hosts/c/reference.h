@@ -33,6 +33,10 @@ struct record {
 /* 3 where no whole row of an element list has a fourth entry other than 0, else 4 */
 uint32_t columns_of(struct slice elements);
 
+/* The tables that a list of fit length would have if its elements could meet in any way, in buffers that are the
+   caller's. Returns 0 where one of checks 3 to 8 refuses the list. */
+int tables_but_for_18(uint32_t n, struct slice elements, struct mesh *t);
+
 struct answer reference_build(const struct mesh *mesh, struct slice work);
 struct answer reference_columns(uint32_t n, struct slice elements);
 struct answer reference_recover(const struct mesh *mesh, uint32_t m, struct slice work);

@@ -10,10 +10,10 @@ enum { MOST = BORZHANU_MAX_VERTICES, MIDDLE = MOST / 2, THIRD = MOST / 3 };
 
 #define COUNT(array) (sizeof(array) / sizeof *(array))
 
-/* A list of up to three elements on all the vertices, and what building answers. */
+/* A list of up to four elements on all the vertices, and what building answers. */
 struct few {
     const char *name;
-    uint32_t m, rows[3][4];
+    uint32_t m, rows[4][4];
     uint32_t refusal, first, second;
 };
 
@@ -23,7 +23,8 @@ static const struct few accepted[] = {
     {"a triangle of the last vertices", 1, {{MOST - 1, MOST, MOST - 2, 0}}, 0, 3, 3},
     {"a triangle of vertices far apart", 1, {{MIDDLE, MOST, 1, 0}}, 0, 3, 3},
     {"a quadrilateral of vertices far apart", 1, {{1, THIRD, MIDDLE, MOST}}, 0, 4, 4},
-    {"two triangles back to back", 2, {{1, MIDDLE, MOST, 0}, {1, MOST, MIDDLE, 0}}, 0, 0, 3},
+    {"four triangles about a solid", 4,
+     {{1, MIDDLE, MOST, 0}, {1, THIRD, MIDDLE, 0}, {MIDDLE, THIRD, MOST, 0}, {MOST, THIRD, 1, 0}}, 0, 0, 6},
 };
 
 static const struct few unfit[] = {
@@ -34,6 +35,8 @@ static const struct few unfit[] = {
     {"sides alike", 2, {{1, MIDDLE, MOST, 0}, {2, MIDDLE, MOST, 0}}, 7, 1, 2},
     {"two fans at the last vertex", 2, {{MOST, 1, 2, 0}, {MOST, MIDDLE, 3, 0}}, 8, MOST, 0},
     {"two fans between spare vertices", 2, {{MIDDLE, 1, 2, 0}, {MIDDLE, MOST, 3, 0}}, 8, MIDDLE, 0},
+    {"two triangles back to back", 2, {{1, MIDDLE, MOST, 0}, {1, MOST, MIDDLE, 0}}, 18, 1, 2},
+    {"a diagonal along a side", 3, {{3, 2, MOST, 0}, {1, 2, 3, 0}, {1, 3, MIDDLE, 2}}, 18, 1, 3},
 };
 
 static void fail_few(const struct few *few, const char *what) {
@@ -95,6 +98,15 @@ static int is_corner(const struct few *few, uint32_t v) {
     return 0;
 }
 
+/* Does something for each vertex that an element uses, once: at the first row that has it. */
+static void for_corners(const struct few *few, const struct mesh *t, void (*act)(const struct mesh *t, uint32_t v)) {
+    struct few before = *few;
+    for (before.m = 0; before.m < few->m; before.m++)
+        for (int i = 0; i < 4; i++)
+            if (few->rows[before.m][i] != 0 && !is_corner(&before, few->rows[before.m][i]))
+                act(t, few->rows[before.m][i]);
+}
+
 /* the first vertex from v on that no element uses */
 static uint32_t spare_from(const struct few *few, uint32_t v) {
     while (is_corner(few, v))
@@ -111,9 +123,7 @@ static void check_entries(const struct few *few, const struct mesh *t) {
 
 static void ask_vertices(const struct few *few, const struct mesh *t) {
     const uint32_t others[] = {0, spare_from(few, 1), spare_from(few, MIDDLE), MOST, MOST + 1};
-    for (uint32_t f = 0; f < few->m; f++)
-        for (int i = 0; i < 4; i++)
-            ask_vertex(t, few->rows[f][i]);
+    for_corners(few, t, ask_vertex);
     for (size_t i = 0; i < COUNT(others); i++)
         ask_vertex(t, others[i]);
 }
@@ -129,10 +139,7 @@ static void ask_half_edges(const struct mesh *t) {
 
 /* An entry of 0 for a vertex with elements, and other entries for vertices without. */
 static void try_changed(const struct few *few, const struct mesh *t) {
-    for (uint32_t f = 0; f < few->m; f++)
-        for (int i = 0; i < 4; i++)
-            if (few->rows[f][i] != 0)
-                try_zeroed(t, few->rows[f][i]);
+    for_corners(few, t, try_zeroed);
     recover_claimed(t, spare_from(few, 1), borzhanu_border(1));
     recover_claimed(t, spare_from(few, MIDDLE), borzhanu_side(1, 1));
     recover_claimed(t, spare_from(few, MOST - 3), UINT32_MAX);

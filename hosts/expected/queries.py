@@ -8,13 +8,20 @@ def ref(k,a=0,b=0): raise R(k,a,b)
 
 def columns(rows): return 4 if any(r[3] for r in rows) else 3
 def rowsof(L): return [L[i:i+4] for i in range(0,len(L),4)]
+def corners(r): return r[:3] if r[3]==0 else r[:]
+def well(r,q):
+    # whether two rows share no corner, one, or exactly two that are a side of both
+    s=set(corners(r))&set(corners(q))
+    joins=lambda cs: any({cs[i-1],cs[i]}==s for i in range(len(cs)))
+    return len(s)<2 or len(s)==2 and joins(corners(r)) and joins(corners(q))
 def build(n,rows):
     # accepted lists only
     m=len(rows)
+    assert all(well(r,q) for i,r in enumerate(rows) for q in rows[:i])
     sides={}
     order=[]
     for f,r in enumerate(rows,1):
-        cs=r[:3] if r[3]==0 else r[:]
+        cs=corners(r)
         for i in range(len(cs)):
             c=8*f+i+1
             sides[c]=(cs[i],cs[(i+1)%len(cs)])

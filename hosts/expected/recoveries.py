@@ -17,10 +17,17 @@ def fit(n,rows):
         nz=[x for x in r if x]
         if len(set(nz))!=len(nz): return False
     return True
+def well(r,q):
+    """whether two rows share no corner, one, or exactly two that are a side of both"""
+    s={x for x in r if x} & {x for x in q if x}
+    return len(s)<2 or len(s)==2 and all(any({a,b}==s for _,a,b in sides([t])) for t in (r,q))
 def nxt(rows,code):
     f,i=divmod(code,8); c=TRI(rows[f-1]); return 8*f+(i%c)+1
 def tables(n,rows):
     """(V2e,E2e,B2e) when accepted, else None; straight from the rules."""
+    return paired(n,rows) if all(well(r,q) for r,q in itertools.combinations(rows,2)) else None
+def paired(n,rows):
+    """the same, however elements meet: what pairing and turn orders give"""
     if not fit(n,rows): return None
     S=sides(rows)
     bypair={}
@@ -133,10 +140,13 @@ def change(T,n,p,kind):
     return T
 CASES=[("listing",4,"1230 1340"),("sample surface mesh",9,"1450 1520 2530 3560 6590 8950 7850 5470"),
  ("tetrahedron",4,"1230 1420 2430 3410"),("quadrilaterals and triangles",9,"1254 2365 4587 5690 5980"),
- ("back to back",3,"1230 1320"),
+ ("pyramid",5,"1432 1250 2350 3450 4150"),
  ("listing and a vertex",5,"1230 1340"),("vertex and tetrahedron",5,"2340 2530 3540 4520"),("vertices only",3,""),
  ("quadrilateral",4,"1234"),("quadrilateral last",6,"1230 2430 3456"),
  ("four triangles apart",12,"3120 6450 9780 cab0"),("three quadrilaterals apart",12,"4123 8567 c9ab")]
+# no two elements that meet otherwise than at one corner or one edge are in an accepted list
+CLASHES=[("back to back",3,"1230 1320"),("three corners in common",4,"1234 3210"),
+ ("a diagonal in common",6,"1234 1536 1450 3540")]
 full={}
 def sols(n,m,V,E):
     s=search(n,m,V,E)
@@ -149,9 +159,7 @@ def sols(n,m,V,E):
 FULL={(4,1),(4,2),(3,2),(5,2),(3,0)} | ({(4,4)} if len(sys.argv)>1 else set())
 out=[]
 def shown(s): return [",".join(["L"]+[str(x) for r in s[0] for x in r])] if s else ["R,10,0,0"]
-for name,n,s in CASES:
-    rows=parse(s); m=len(rows); V,E,B=tables(n,rows)
-    out.append(name); r=sols(n,m,V,E); assert r==[rows]; out+=shown(r)+["clean"]
+def each_changed(n,m,V,E):
     for k in "+0NS":
         a=b=0
         for p in range(len(V)+len(E)):
@@ -159,7 +167,15 @@ for name,n,s in CASES:
             if sols(n,m,T[:n],T[n:]): b+=1
             else: a+=1
         out.append(f"{k},{a},{b},0")
+for name,n,s in CASES:
+    rows=parse(s); m=len(rows); V,E,B=tables(n,rows)
+    out.append(name); r=sols(n,m,V,E); assert r==[rows]; out+=shown(r)+["clean"]
+    each_changed(n,m,V,E)
 assert tables(12,parse(CASES[-1][2]))[:2]==tables(12,parse(CASES[-2][2]))[:2]   # of the lists apart
+for name,n,s in CLASHES:
+    rows=parse(s); m=len(rows); V,E,B=paired(n,rows)
+    out.append(name); r=sols(n,m,V,E); assert r==[] and tables(n,rows) is None; out+=shown(r)+["clean"]
+    each_changed(n,m,V,E)
 V,E,B=tables(4,parse("1230 1340"))
 for name,W in (("V2e swapped",[8,32,16,24]),("V2e twice alike",[32,8,16,16])):
     out.append(name); out+=shown(sols(4,2,W,E))+["clean"]

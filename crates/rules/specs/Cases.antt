@@ -224,6 +224,7 @@ cases =
     -- "place the least pair, lower number first": the lower number, and the higher
     answers 5 (tri 3 2 5 ++ tri 1 2 3 ++ quad 1 3 4 2) (refused 18 1 3) ∷
     answers 9 (tri 7 8 9 ++ quad 1 2 3 4 ++ tri 3 2 1 ++ tri 4 3 5) (refused 18 2 3) ∷
+    answers 4 (quad 1 2 3 4 ++ tri 3 2 1 ++ tri 1 4 3) (refused 18 1 2) ∷
     -- "after 8, before 9": back to back beside two fans at a point, and with a B2e that has no room
     answers 8 (tri 1 2 3 ++ tri 1 3 2 ++ tri 4 5 6 ++ tri 4 7 8) (refused 8 4 0) ∷
     answersNarrow 4 threeCorners (refused 18 1 2) ∷

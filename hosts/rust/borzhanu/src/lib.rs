@@ -85,6 +85,10 @@
 //! assert_eq!(refusal, Refusal::SidesAlike { element: 1, side: 1 });
 //! assert_eq!((refusal.number(), refusal.place()), (7, (1, 1)));
 //! assert_eq!(refusal.to_string(), "two elements run along an edge in the same direction: element 1, side 1");
+//!
+//! // Elements meet at one corner or at one edge. These two have three corners in common.
+//! let refusal = Tables::build(4, &[[1, 2, 3, 4], [3, 2, 1, 0]]).unwrap_err();
+//! assert_eq!(refusal, Refusal::ElementsClash { first: 1, second: 2 });
 //! ```
 
 #![deny(missing_docs)]
@@ -155,7 +159,8 @@ pub fn columns(n: u32, elements: &[u32]) -> Result<u32, Refusal> {
     first_number(unsafe { exports::borzhanu_columns(n, elements.as_ptr(), elements.len()) })
 }
 
-/// Builds the three tables of an element list of m rows.
+/// Builds the three tables of an element list of m rows, of which any two share no corner, one corner, or exactly two
+/// that are a side of both.
 ///
 /// `v2e` has n entries, `e2e` [`columns`] × m, `b2e` at least k (n are always enough, and so are 4 × m) and `work` at
 /// least [`work_length`]. What they hold before doesn't matter. After an answer `v2e`, `e2e` and the first k
@@ -165,7 +170,7 @@ pub fn columns(n: u32, elements: &[u32]) -> Result<u32, Refusal> {
 ///
 /// # Errors
 ///
-/// Refusals 1 to 4 and 6 to 9.
+/// Refusals 1 to 4, 6 to 8, 18 and 9, in this order.
 pub fn build(
     n: u32,
     elements: &[u32],
@@ -203,7 +208,7 @@ pub fn build(
 ///
 /// # Errors
 ///
-/// Refusals 1, 2 and 10. Nothing is repaired: 10 means that no list of m rows has these tables.
+/// Refusals 1, 2 and 10. Nothing is repaired: 10 means that [`build`] gives these tables for no list of m rows.
 pub fn recover(
     n: u32,
     m: u32,

@@ -33,7 +33,7 @@ impl Tables {
     ///
     /// # Errors
     ///
-    /// Refusals 1, 3, 4 and 6 to 8, where these rows are no mesh.
+    /// Refusals 1, 3, 4, 6 to 8 and 18, where these rows are no mesh.
     pub fn build(n: u32, rows: &[[u32; 4]]) -> Result<Tables, Refusal> {
         // Numbers over their maximum are refused here, before memory is taken for them.
         let columns = columns(n, rows.as_flattened())?;

@@ -35,6 +35,9 @@ fn each_refusal_of_build_has_its_name_and_place() {
         (built(5, &[1, 2, 3, 0, 2, 1, 4, 0, 1, 2, 5, 0], 5), Refusal::EdgeCrowded { element: 1, side: 1 }, 6),
         (built(4, &[1, 2, 3, 0, 1, 2, 4, 0], 4), Refusal::SidesAlike { element: 1, side: 1 }, 7),
         (built(5, &[1, 2, 3, 0, 1, 4, 5, 0], 6), Refusal::FanBroken { vertex: 1 }, 8),
+        (built(4, &[1, 2, 3, 4, 3, 2, 1, 0], 4), Refusal::ElementsClash { first: 1, second: 2 }, 18),
+        // There is no room for k, 3: 18 comes before 9.
+        (built(4, &[1, 2, 3, 4, 3, 2, 1, 0], 0), Refusal::ElementsClash { first: 1, second: 2 }, 18),
         (built(3, &[1, 2, 3, 0], 2), Refusal::BorderShort { needed: 3 }, 9),
     ];
     for (answer, refusal, number) in refusals {
@@ -46,6 +49,41 @@ fn each_refusal_of_build_has_its_name_and_place() {
     assert_eq!(built(1, &[], 0), Ok(Counts { borders: 0, edges: 0 }));
     let reserved = Refusal::VertexUnused { vertex: 3 };
     assert_eq!((reserved.number(), reserved.place()), (5, (3, 0)));
+}
+
+#[test]
+fn elements_that_clash() {
+    let clash = |n, rows: &[[u32; 4]]| Tables::build(n, rows).map(|tables| tables.counts());
+    let pair = |first, second| Err(Refusal::ElementsClash { first, second });
+    assert_eq!(clash(3, &[[1, 2, 3, 0], [1, 3, 2, 0]]), pair(1, 2));
+    // Three corners in common.
+    assert_eq!(clash(9, &[[7, 8, 9, 0], [1, 2, 3, 4], [3, 2, 1, 0], [4, 3, 5, 0]]), pair(2, 3));
+    // A diagonal of both; a diagonal of one that is a side of the other.
+    assert_eq!(clash(6, &[[1, 2, 3, 4], [1, 5, 3, 6], [1, 4, 5, 0], [3, 5, 4, 0]]), pair(1, 2));
+    assert_eq!(clash(5, &[[3, 2, 5, 0], [1, 2, 3, 0], [1, 3, 4, 2]]), pair(1, 3));
+    // 8 comes first.
+    let two_fans = [[1, 2, 3, 0], [1, 3, 2, 0], [4, 5, 6, 0], [4, 7, 8, 0]];
+    assert_eq!(clash(8, &two_fans), Err(Refusal::FanBroken { vertex: 4 }));
+    // A pyramid: its base has two corners, a side, in common with each triangle.
+    let pyramid = [[1, 4, 3, 2], [1, 2, 5, 0], [2, 3, 5, 0], [3, 4, 5, 0], [4, 1, 5, 0]];
+    assert_eq!(clash(5, &pyramid), Ok(Counts { borders: 0, edges: 8 }));
+
+    let refusal = Refusal::ElementsClash { first: 1, second: 3 };
+    assert_eq!((refusal.number(), refusal.place()), (18, (1, 3)));
+    let shown = "two elements meet otherwise than at one corner or one edge: elements 1 and 3";
+    assert_eq!(refusal.to_string(), shown);
+}
+
+#[test]
+fn lists_that_clash_have_no_tables() {
+    let (mut elements, mut work) = ([7; 8], vec![7; work_length(4, 2)]);
+    // What the pairing would give for (1,2,3) and (1,3,2), and for (1,2,3,4) and (3,2,1).
+    let e2e = [19, 18, 17, 11, 10, 9];
+    assert_eq!(recover(3, 2, &[9, 10, 11], &e2e, &mut elements, &mut work), Err(Refusal::NoList));
+    let e2e = [18, 17, 8, 16, 10, 9, 24, 0];
+    assert_eq!(recover(4, 2, &[16, 10, 24, 8], &e2e, &mut elements, &mut work), Err(Refusal::NoList));
+    assert_eq!(elements, [7; 8]);
+    assert!(work.iter().all(|&entry| entry == 0));
 }
 
 #[test]

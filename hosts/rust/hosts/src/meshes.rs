@@ -91,6 +91,23 @@ impl List {
         self
     }
 
+    /// Numbered, ordered, begun and seen from either side by chance.
+    pub fn put_down_anyhow(mut self, dice: &mut Dice) -> List {
+        if dice.once_in(2) {
+            self = self.renumbered(dice);
+        }
+        if dice.once_in(2) {
+            self = self.shuffled(dice);
+        }
+        if dice.once_in(2) {
+            self = self.rotated(dice);
+        }
+        if dice.once_in(4) {
+            self = self.turned_over();
+        }
+        self
+    }
+
     /// So many vertices that no element uses, after vertex `after` or, for 0, in front.
     pub fn with_unused(mut self, after: u32, count: u32) -> List {
         self.rows.as_flattened_mut().iter_mut().filter(|v| **v > after).for_each(|v| *v += count);
@@ -103,6 +120,25 @@ impl List {
         let after = [0, dice.below(self.n), self.n][dice.below(3) as usize];
         let most = if dice.once_in(4) { 16 * self.rows.len().min(1000) as u32 } else { 3 };
         self.with_unused(after, 1 + dice.below(most))
+    }
+
+    /// Another list in place of an element: it and one of the other list go, and the rims that they leave become one.
+    /// Where the other list has no element with as many corners, it is put beside.
+    pub fn with_glued(self, other: List, dice: &mut Dice) -> List {
+        let m = self.rows.len();
+        let f = dice.index(&self.rows);
+        let corners = corners_of(&self.rows[f]);
+        let Some(g) = other.rows.iter().position(|row| corners_of(row) == corners) else { return self.beside(other) };
+        let mut list = self.beside(other);
+        let (rim, mut other_rim) = (list.rows[f], list.rows.remove(m + g));
+        list.rows.remove(f);
+        reverse(&mut other_rim);
+        for v in list.rows.as_flattened_mut().iter_mut().filter(|v| **v != 0) {
+            if let Some(at) = other_rim.iter().position(|gone| gone == v) {
+                *v = rim[at];
+            }
+        }
+        list.closed_up()
     }
 
     /// Vertices without an element go, and the others close up.
@@ -169,6 +205,18 @@ fn reverse(row: &mut [u32; 4]) {
     row[..corners].reverse();
 }
 
+/// A cell as one quadrilateral or as two triangles, on either diagonal where kinds are mixed.
+fn push_cell(rows: &mut Vec<[u32; 4]>, [a, b, c, d]: [u32; 4], kinds: Kinds, dice: &mut Dice) {
+    let mixed = kinds == Kinds::Mixed;
+    if kinds == Kinds::Quadrilaterals || (mixed && dice.once_in(2)) {
+        rows.push([a, b, c, d]);
+    } else if mixed && dice.once_in(2) {
+        rows.extend([[b, c, d, 0], [d, a, b, 0]]);
+    } else {
+        rows.extend([[a, b, c, 0], [a, c, d, 0]]);
+    }
+}
+
 /// A sheet of width × height cells. Closed in one direction it is a tube, in both it has no border.
 pub fn sheet(width: u32, height: u32, closed: (bool, bool), kinds: Kinds, dice: &mut Dice) -> List {
     let columns = width + !closed.0 as u32;
@@ -176,17 +224,87 @@ pub fn sheet(width: u32, height: u32, closed: (bool, bool), kinds: Kinds, dice: 
     let vertex = |x: u32, y: u32| 1 + x % columns + columns * (y % lines);
     let mut rows = Vec::new();
     for (y, x) in (0..height).flat_map(|y| (0..width).map(move |x| (y, x))) {
-        let [a, b, c, d] = [vertex(x, y), vertex(x + 1, y), vertex(x + 1, y + 1), vertex(x, y + 1)];
-        let mixed = kinds == Kinds::Mixed;
-        if kinds == Kinds::Quadrilaterals || (mixed && dice.once_in(2)) {
-            rows.push([a, b, c, d]);
-        } else if mixed && dice.once_in(2) {
-            rows.extend([[b, c, d, 0], [d, a, b, 0]]);
-        } else {
-            rows.extend([[a, b, c, 0], [a, c, d, 0]]);
-        }
+        let cell = [vertex(x, y), vertex(x + 1, y), vertex(x + 1, y + 1), vertex(x, y + 1)];
+        push_cell(&mut rows, cell, kinds, dice);
     }
     List { n: columns * lines, rows }
+}
+
+/// Two sheets with the whole rim in common: the second is the first seen from behind, with inner vertices of its own.
+/// Quadrilaterals clash at the rim's corners, triangles nowhere. A sheet is one cell, or at least two wide and high:
+/// otherwise the two would have inner edges in common too.
+pub fn pillow(width: u32, height: u32, kinds: Kinds, dice: &mut Dice) -> List {
+    let List { n, rows: front } = sheet(width, height, (false, false), kinds, dice);
+    let columns = width + 1;
+    let behind = |v: u32| {
+        let (x, y) = (width - (v - 1) % columns, (v - 1) / columns);
+        let on_rim = x == 0 || x == width || y == 0 || y == height;
+        1 + x + columns * y + if on_rim { 0 } else { n }
+    };
+    let back: Vec<[u32; 4]> = front.iter().map(|row| row.map(|v| if v == 0 { 0 } else { behind(v) })).collect();
+    List { n: 2 * n, rows: [front, back].concat() }.closed_up()
+}
+
+/// A strip of cells wound to a tube, so many around it; closed, it runs on into its own start. Quadrilaterals two
+/// around clash, and others do where the strip is closed and short.
+pub fn wound(around: u32, count: u32, closed: bool, kinds: Kinds, dice: &mut Dice) -> List {
+    let n = if closed { count } else { count + around + 1 };
+    let vertex = |i: u32| 1 + i % n;
+    let mut rows = Vec::new();
+    for i in 0..count {
+        let cell = [vertex(i), vertex(i + 1), vertex(i + around + 1), vertex(i + around)];
+        push_cell(&mut rows, cell, kinds, dice);
+    }
+    List { n, rows }
+}
+
+/// What lies between two meridians of a globe.
+#[derive(Clone, Copy)]
+pub enum Sector {
+    /// one quadrilateral, with a diagonal from pole to pole
+    Whole,
+    /// two triangles on an edge from pole to pole
+    SplitAlong,
+    /// two triangles on an edge of the equator
+    SplitAcross,
+    /// four triangles about a vertex of its own
+    Star,
+}
+
+/// Sectors from pole to pole, vertices 1 and 2, all around or with a gap. An element that is a whole sector clashes
+/// with every other element that has both poles.
+pub fn globe(sectors: &[Sector], closed: bool) -> List {
+    let meridians = sectors.len() as u32 + !closed as u32;
+    let mut list = List { n: 2 + meridians, rows: Vec::new() };
+    for (i, sector) in (0..).zip(sectors) {
+        let (a, b) = (3 + i, 3 + (i + 1) % meridians);
+        match sector {
+            Sector::Whole => list.rows.push([1, a, 2, b]),
+            Sector::SplitAlong => list.rows.extend([[1, a, 2, 0], [1, 2, b, 0]]),
+            Sector::SplitAcross => list.rows.extend([[1, a, b, 0], [2, b, a, 0]]),
+            Sector::Star => {
+                list.n += 1;
+                let v = list.n;
+                list.rows.extend([[1, a, v, 0], [a, 2, v, 0], [2, b, v, 0], [b, 1, v, 0]]);
+            }
+        }
+    }
+    list
+}
+
+/// A globe with whole sectors here and there, or with hardly any.
+pub fn any_globe(dice: &mut Dice, size: u32) -> List {
+    let count = 2 + dice.below(size / 3);
+    let rarity = [3, count][dice.below(2) as usize];
+    let mut any_sector = || {
+        if dice.once_in(rarity) {
+            [Sector::Whole, Sector::Whole, Sector::SplitAlong][dice.below(3) as usize]
+        } else {
+            [Sector::SplitAcross, Sector::Star][dice.below(2) as usize]
+        }
+    };
+    let sectors: Vec<Sector> = (0..count).map(|_| any_sector()).collect();
+    globe(&sectors, dice.once_in(2))
 }
 
 /// Triangles about vertex 1; a closed fan has no border there.
@@ -213,36 +331,28 @@ fn one_housing(dice: &mut Dice, size: u32) -> List {
     let width = 1 + dice.below(1 + size / 3);
     let height = 1 + dice.below(1 + size / (2 * width));
     let kinds = [Kinds::Triangles, Kinds::Quadrilaterals, Kinds::Mixed][dice.below(3) as usize];
-    match dice.below(7) {
+    match dice.below(10) {
         0 => fan(1 + dice.below(size), false),
         1 => fan(3 + dice.below(size), true),
         2 => bipyramid(3 + dice.below(size / 2)),
         3 => book(3 + dice.below(size), 1 + dice.below(size)),
         4 => sheet(2 + width, height, (true, false), kinds, dice),
         5 => sheet(2 + width, 2 + height, (true, true), kinds, dice),
+        6 => pillow(2 + width / 2, 2 + height / 2, kinds, dice),
+        7 => wound(2 + dice.below(3), 1 + dice.below(size), dice.once_in(2), kinds, dice),
+        8 => any_globe(dice, size),
         _ => sheet(width, height, (false, false), kinds, dice),
     }
 }
 
-/// A housing of up to about `size` elements or of none, perhaps another beside it, numbered anyhow, one in three
+/// A housing of up to about `size` elements or of none, perhaps another beside it, put down anyhow, one in three
 /// damaged, one in three with unused vertices.
 pub fn any_housing(dice: &mut Dice, size: u32) -> List {
     let mut list = if dice.once_in(15) { List::new(dice.below(size), &[]) } else { one_housing(dice, size) };
     if dice.once_in(4) {
         list = list.beside(one_housing(dice, size));
     }
-    if dice.once_in(2) {
-        list = list.renumbered(dice);
-    }
-    if dice.once_in(2) {
-        list = list.shuffled(dice);
-    }
-    if dice.once_in(2) {
-        list = list.rotated(dice);
-    }
-    if dice.once_in(4) {
-        list = list.turned_over();
-    }
+    list = list.put_down_anyhow(dice);
     if dice.once_in(3) {
         for _ in 0..1 + dice.below(3) {
             list = list.damaged(dice);

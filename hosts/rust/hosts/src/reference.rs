@@ -6,6 +6,8 @@ use std::collections::HashMap;
 
 const MAX_VERTICES: u32 = 1_000_000;
 const MAX_ELEMENTS: usize = 1_000_000;
+/// In lists of up to so many elements each two are looked at.
+const FEW: u32 = 40;
 
 /// A refusal's number and the two numbers of its place.
 pub type Refused = (u32, u32, u32);
@@ -108,6 +110,16 @@ impl<'a> Rows<'a> {
 
     fn destination(self, s: Side) -> u32 {
         self.origin(self.next(s))
+    }
+
+    fn corners(self, f: u32) -> &'a [u32] {
+        &self.0[4 * f as usize - 4..][..self.sides_of(f) as usize]
+    }
+
+    /// Whether a side of the element joins these two vertices, in either direction.
+    fn joins(self, f: u32, a: u32, b: u32) -> bool {
+        let mut sides = (1..=self.sides_of(f)).map(|i| Side { f, i });
+        sides.any(|s| [(a, b), (b, a)].contains(&(self.origin(s), self.destination(s))))
     }
 }
 
@@ -254,8 +266,63 @@ fn tables_of(rows: Rows, partners: &[Option<Side>], by_origin: &[Vec<Side>]) -> 
     built
 }
 
-/// Checks 3, 4 and 6 to 8, and the tables of an accepted list.
-fn tables(n: u32, elements: &[u32]) -> Result<Built, Refused> {
+/// Whether two elements share no corner, one corner, or exactly two that are a side of both.
+fn meet_well(rows: Rows, f: u32, g: u32) -> bool {
+    let others = rows.corners(g);
+    let shared: Vec<u32> = rows.corners(f).iter().copied().filter(|v| others.contains(v)).collect();
+    match shared[..] {
+        [] | [_] => true,
+        [a, b] => rows.joins(f, a, b) && rows.joins(g, a, b),
+        _ => false,
+    }
+}
+
+/// The least pair of elements that don't meet well, lower number first.
+fn clash_of_all(rows: Rows) -> Option<(u32, u32)> {
+    let m = rows.elements();
+    let mut pairs = (1..=m).flat_map(|f| (f + 1..=m).map(move |g| (f, g)));
+    pairs.find(|&(f, g)| !meet_well(rows, f, g))
+}
+
+/// The same among elements with two corners in common, where at most two sides join the same two vertices. Of three
+/// elements with the same two corners one then has no side there and clashes with both others. So the least of all that
+/// have these corners clashes with one of the next two, and only pairs with it need a look.
+fn clash_by_corners(rows: Rows, by_origin: &[Vec<Side>]) -> Option<(u32, u32)> {
+    // For each vertex the lower vertex that it was last seen with in an element, and the least such element.
+    let mut seen = vec![(0, 0); by_origin.len() + 1];
+    let mut clashes = None;
+    for (a, sides) in (1..).zip(by_origin) {
+        for &Side { f, .. } in sides {
+            for &b in rows.corners(f).iter().filter(|&&b| a < b) {
+                let (with, least) = seen[b as usize];
+                if with != a {
+                    seen[b as usize] = (a, f);
+                } else if !meet_well(rows, least, f) {
+                    clashes = clashes.into_iter().chain([(least, f)]).min();
+                }
+            }
+        }
+    }
+    clashes
+}
+
+/// Where there are few elements, two searches for the same.
+fn clash(rows: Rows, by_origin: &[Vec<Side>]) -> Option<(u32, u32)> {
+    let clash = clash_by_corners(rows, by_origin);
+    if rows.elements() <= FEW {
+        assert_eq!(clash, clash_of_all(rows), "the reference's two searches differ");
+    }
+    clash
+}
+
+/// The partner of each side, by slots, and the sides with each vertex as origin.
+struct Paired {
+    partners: Vec<Option<Side>>,
+    by_origin: Vec<Vec<Side>>,
+}
+
+/// Checks 3, 4 and 6 to 8.
+fn paired(n: u32, elements: &[u32]) -> Result<Paired, Refused> {
     check_corners(n, elements)?;
     let rows = Rows(elements);
     let partners = pair(rows)?;
@@ -263,7 +330,23 @@ fn tables(n: u32, elements: &[u32]) -> Result<Built, Refused> {
     if let Some(v) = by_origin.iter().position(|sides| !has_turn_order(rows, &partners, sides)) {
         return Err((8, v as u32 + 1, 0));
     }
-    Ok(tables_of(rows, &partners, &by_origin))
+    Ok(Paired { partners, by_origin })
+}
+
+/// What the pairing of a list gives, whether its elements clash or not.
+pub fn tables_by_pairing(n: u32, elements: &[u32]) -> Result<Built, Refused> {
+    let Paired { partners, by_origin } = paired(n, elements)?;
+    Ok(tables_of(Rows(elements), &partners, &by_origin))
+}
+
+/// Checks 3, 4, 6 to 8 and 18, and the tables of an accepted list.
+fn tables(n: u32, elements: &[u32]) -> Result<Built, Refused> {
+    let rows = Rows(elements);
+    let Paired { partners, by_origin } = paired(n, elements)?;
+    match clash(rows, &by_origin) {
+        Some((f, g)) => Err((18, f, g)),
+        None => Ok(tables_of(rows, &partners, &by_origin)),
+    }
 }
 
 pub fn build(n: u32, elements: &[u32], lengths: Lengths) -> Result<Built, Refused> {

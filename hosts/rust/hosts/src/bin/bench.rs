@@ -1,6 +1,6 @@
 //! Times building, recovery and rings, and a hash-map build beside them, and prints tables in Markdown.
 //!
-//!     bench [FOLDER]    with a folder, also writes the lists of the first table there, for other programs
+//!     bench [FOLDER]    with a folder, also writes the first table's lists of triangles there, for other programs
 //!
 //! Runs are interleaved and medians reported, so that a slow moment of the machine meets every candidate.
 //! All buffers are allocated and touched before the first run and used again in every run.
@@ -205,7 +205,7 @@ fn open_sheet(width: u32, height: u32, dice: &mut Dice) -> List {
     sheet(width, height, (false, false), Kinds::Triangles, dice)
 }
 
-fn lists_of_100_000(dice: &mut Dice) -> Vec<(&'static str, List)> {
+fn triangles_100_000(dice: &mut Dice) -> Vec<(&'static str, List)> {
     let closed = sheet(250, 200, (true, true), Kinds::Triangles, dice);
     let rims = sheet(250, 200, (true, false), Kinds::Triangles, dice);
     vec![
@@ -216,6 +216,11 @@ fn lists_of_100_000(dice: &mut Dice) -> Vec<(&'static str, List)> {
     ]
 }
 
+fn quadrilaterals_100_000(dice: &mut Dice) -> Vec<(&'static str, List)> {
+    let grid = sheet(400, 250, (false, false), Kinds::Quadrilaterals, dice);
+    vec![("grid of quadrilaterals, in order", grid.clone()), ("grid of quadrilaterals, shuffled", shuffled(grid, dice))]
+}
+
 /// n, m and the entries, as 32-bit numbers of this machine.
 fn write_list(list: &List, at: &Path) -> io::Result<()> {
     let numbers = [&[list.n, list.rows.len() as u32], list.entries()].concat();
@@ -223,7 +228,8 @@ fn write_list(list: &List, at: &Path) -> io::Result<()> {
 }
 
 fn print_hundred_thousand(lists: &[(&str, List)]) {
-    println!("## 100,000 triangles\n");
+    println!("## 100,000 elements\n");
+    println!("Triangles, closed and with rims, and an open grid of quadrilaterals, 400 by 250.\n");
     println!("Milliseconds of processor time, medians of {ROUNDS} interleaved runs on buffers that hold what the run");
     println!("before left. The hash map needs V2e and E2e cleared first, and its time includes that. The kernel needs");
     println!("nothing cleared; its time includes clearing its work buffer at the end, and all its checks.\n");
@@ -393,13 +399,13 @@ fn print_unused(dice: &mut Dice) {
 
 fn main() -> io::Result<()> {
     let mut dice = Dice::new(SEED);
-    let lists = lists_of_100_000(&mut dice);
+    let triangles = triangles_100_000(&mut dice);
     if let Some(folder) = env::args().nth(1) {
-        for (name, list) in &lists {
+        for (name, list) in &triangles {
             write_list(list, &Path::new(&folder).join(format!("{name}.list")))?;
         }
     }
-    print_hundred_thousand(&lists);
+    print_hundred_thousand(&[triangles, quadrilaterals_100_000(&mut dice)].concat());
     print_growth(&mut dice);
     print_extremes(&mut dice);
     print_told(&mut dice);

@@ -1,10 +1,10 @@
 //! Tables to ask about, and what is asked of them and of lists.
 
-use crate::call::{fail, watch, Call, Memory, Outcome, Query, Question, Situation, Way};
+use crate::call::{fail, watch, Call, Left, Memory, Outcome, Query, Question, Situation, Way};
 use borzhanu::{work_length, WalkerRecord};
 use hosts::guarded::{Placement, PLACEMENTS};
 use hosts::meshes::{damage, Dice, List};
-use hosts::reference::columns_of;
+use hosts::reference::{self, columns_of, Built, Refused};
 use std::mem;
 use std::ptr;
 
@@ -29,6 +29,10 @@ pub struct Tables {
 }
 
 impl Tables {
+    fn of(list: &List, v2e: Vec<u32>, e2e: Vec<u32>, b2e: Vec<u32>) -> Tables {
+        Tables { n: list.n, elements: list.entries().to_vec(), v2e, e2e, b2e, told: None }
+    }
+
     pub fn elements_count(&self) -> u32 {
         (self.elements.len() / 4) as u32
     }
@@ -124,10 +128,15 @@ impl Host {
     }
 
     fn compare_build(&mut self, list: &List, b2e_len: usize, work_extra: usize) -> Outcome {
+        self.build_to(list, b2e_len, work_extra, None)
+    }
+
+    /// Builds to an outcome that is known, or else to what the reference expects.
+    fn build_to(&mut self, list: &List, b2e_len: usize, work_extra: usize, known: Option<Outcome>) -> Outcome {
         let noise = mem::take(&mut self.noise);
         let (entries, m) = (list.entries(), list.rows.len());
         let e2e_len = columns_of(entries) as usize * m;
-        let want = self.compare(&Call {
+        let call = Call {
             what: Question::Build,
             n: list.n,
             elements: entries,
@@ -136,7 +145,9 @@ impl Host {
             b2e: &noise[..b2e_len],
             work: &noise[..work_length(list.n, m) + work_extra],
             out: &[],
-        });
+        };
+        let want = known.unwrap_or_else(|| call.expected());
+        self.check(&call, &want);
         self.noise = noise;
         want
     }
@@ -185,8 +196,38 @@ impl Host {
     /// Builds with room in B2e; the tables where the list is accepted.
     pub fn build(&mut self, list: &List) -> Option<Tables> {
         let left = self.compare_build(list, list.n as usize + 3, 0).left;
-        let (v2e, e2e, b2e) = (left.v2e?, left.e2e?, left.b2e?);
-        Some(Tables { n: list.n, elements: list.entries().to_vec(), v2e, e2e, b2e, told: None })
+        Some(Tables::of(list, left.v2e?, left.e2e?, left.b2e?))
+    }
+
+    /// The tables that the pairing gives for a list that only 18 refuses. They aren't its own: recovery gives 10.
+    pub fn tables_by_pairing(&mut self, list: &List) -> Option<Tables> {
+        let Built { v2e, e2e, b2e, .. } = reference::tables_by_pairing(list.n, list.entries()).ok()?;
+        let recovery = self.compare_recovery(list.n, list.rows.len() as u32, &v2e, &e2e, 0);
+        assert_eq!(recovery.answer, Err((10, 0, 0)), "the reference recovers a list that it doesn't accept");
+        Some(Tables::of(list, v2e, e2e, b2e))
+    }
+
+    /// Building with less room and more, and recovery; tables to ask about, also for a list that only 18 refuses.
+    pub fn build_and_recover(&mut self, list: &List) -> Option<Tables> {
+        self.compare_columns(list);
+        // Refusals 3 to 8 and 18 come before 9, so a refused list is tried without room too.
+        self.compare_build(list, 0, 0);
+        let tables = self.build(list).or_else(|| self.tables_by_pairing(list))?;
+        self.build_with_other_room(list, tables.b2e.len());
+        self.recover(&tables);
+        Some(tables)
+    }
+
+    /// Builds a list of which the answer is known; the reference has to find it too.
+    pub fn build_known(&mut self, list: &List, answer: Result<(u32, u32), Refused>) {
+        let want = self.compare_build(list, list.n as usize, 0);
+        assert_eq!(want.answer, answer, "the reference, on {} elements", list.rows.len());
+    }
+
+    /// Builds a list that is known to be refused after checks 1 and 2; the reference, slow on large lists, isn't asked.
+    pub fn build_refused(&mut self, list: &List, refused: Refused) {
+        let left = Left { work_cleared: true, ..Left::default() };
+        self.build_to(list, list.n as usize, 0, Some(Outcome { answer: Err(refused), left }));
     }
 
     fn build_with_other_room(&mut self, list: &List, k: usize) {
@@ -418,12 +459,7 @@ impl Host {
     }
 
     pub fn try_small_list(&mut self, list: &List) {
-        self.compare_columns(list);
-        // Refusals 3 to 8 come before 9, so a refused list is tried without room too.
-        self.compare_build(list, 0, 0);
-        let Some(tables) = self.build(list) else { return };
-        self.build_with_other_room(list, tables.b2e.len());
-        self.recover(&tables);
+        let Some(tables) = self.build_and_recover(list) else { return };
         self.recover_damaged(&tables);
         self.try_other_uses(&tables);
         self.ask_everything(&tables);
@@ -435,12 +471,7 @@ impl Host {
     }
 
     pub fn try_list(&mut self, list: &List, times: u32) {
-        self.compare_columns(list);
-        // Refusals 3 to 8 come before 9, so a refused list is tried without room too.
-        self.compare_build(list, 0, 0);
-        let Some(tables) = self.build(list) else { return };
-        self.build_with_other_room(list, tables.b2e.len());
-        self.recover(&tables);
+        let Some(tables) = self.build_and_recover(list) else { return };
         self.try_other_uses(&tables);
         self.ask_something(&tables, times);
         self.ask_something(&tables.relaid(), times / 4);

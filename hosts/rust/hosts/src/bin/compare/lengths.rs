@@ -3,6 +3,7 @@
 use crate::call::{Call, Query, Question};
 use crate::host::Host;
 use borzhanu::{work_length, WalkerRecord, MAX_ELEMENTS, MAX_VERTICES};
+use hosts::meshes::List;
 use std::mem;
 
 const AT_START: WalkerRecord = WalkerRecord { start: 9, next: 9, count: 0 };
@@ -63,6 +64,23 @@ pub fn lengths(host: &mut Host) {
                     host.compare(&Call { what, n, elements: &rows[..lens[0]], v2e, e2e, b2e, work, out: &small[..9] });
                 }
             }
+        }
+    }
+}
+
+/// Building of a list that clashes, and recovery from what its pairing gives, with one buffer longer or shorter: 1 and
+/// 2 come before 18, and 9 doesn't.
+pub fn lengths_about(host: &mut Host, list: &List) {
+    let (n, m) = (list.n, list.rows.len());
+    let tables = host.tables_by_pairing(list).expect("only 18 refuses the list");
+    let work = host.noise[..work_length(n, m)].to_vec();
+    let fit = [tables.elements, tables.v2e, tables.e2e, tables.b2e, work];
+    for (at, change) in (0..5).flat_map(|at| [-4, -1, 1, 4].map(|change| (at, change))) {
+        let mut buffers = fit.clone();
+        buffers[at].resize(fit[at].len().saturating_add_signed(change), 7);
+        let [elements, v2e, e2e, b2e, work] = &buffers;
+        for what in [Question::Build, Question::Recover(m as u32)] {
+            host.compare(&Call { what, n, elements, v2e, e2e, b2e, work, out: &[] });
         }
     }
 }

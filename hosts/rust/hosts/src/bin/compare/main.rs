@@ -6,13 +6,15 @@
 //!     compare [SEED]
 
 mod call;
+mod clashes;
 mod host;
 mod lengths;
 
 use borzhanu::{MAX_ELEMENTS, MAX_VERTICES};
 use call::Query;
+use clashes::{clashes, large_clashes};
 use host::{Host, Tables};
-use hosts::meshes::{any_housing, book, damage, fan, sheet, Kinds, List};
+use hosts::meshes::{any_housing, book, damage, fan, pillow, sheet, Kinds, List};
 use lengths::{about_the_largest, lengths};
 use std::env;
 use std::mem;
@@ -164,6 +166,9 @@ fn large_housings(host: &mut Host) {
     host.try_list(&list, 1);
     let list = list.damaged(&mut host.dice);
     host.try_list(&list, 1);
+    let dice = &mut host.dice;
+    let list = pillow(100, 50, Kinds::Mixed, dice).shuffled(dice).renumbered(dice).rotated(dice);
+    host.try_list(&list, 1);
 }
 
 /// B2e may have four entries to an element, in three columns too, and no more.
@@ -218,6 +223,7 @@ fn largest(host: &mut Host) {
     largest_sheet(host);
     largest_fan(host);
     host.build(&book(most, most));
+    large_clashes(host);
     mostly_unused(host);
     about_the_largest(host);
 }
@@ -227,7 +233,7 @@ fn main() {
     let start = Instant::now();
     let mut host = Host::new(seed);
     println!("seed {seed}");
-    let families: [Family; 11] = [
+    let families: [Family; 12] = [
         ("lists of one row", one_row),
         ("lists of two rows", two_rows),
         ("unused vertices", unused_vertices),
@@ -235,6 +241,7 @@ fn main() {
         ("tables in common", tables_in_common),
         ("tables of noise", noise_tables),
         ("lengths", lengths),
+        ("elements that clash", clashes),
         ("small housings", small_housings),
         ("housings", housings),
         ("large housings", large_housings),
