@@ -1,7 +1,7 @@
 // What the listing program prints for many texts, one after the other; `stdout` has what document 01 says of each.
 //
 // A case in `stdin` is a line with its label; the text, byte for byte; and, in no text, the byte `#` and a newline. Cases come in this
-// order: accepted, the rows of document 01 and others worked out by its rules; refused by build's checks 3 to 8; a bad line 1; a bad line 2
+// order: accepted, the rows of document 01 and others worked out by its rules; refused by build's checks 3 to 8 and 18; a bad line 1; a bad line 2
 // or 3 among four; a bad last line, a missing one, and bytes after it.
 ghost use Prim.Native.Nat.{_≤_, _<_};
 ghost use lib.ListN.{length};

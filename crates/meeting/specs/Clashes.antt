@@ -1,7 +1,7 @@
 -- The least element that doesn't meet another well is the lesser of two: the least with a link that crosses another, and the least that is
 -- folded.
 -- Assumes nothing.
-use mathlib.Core.Path.{_≡_, refl, ap, sym, subst, _∙_}
+use mathlib.Core.Path.{_≡_, refl, ap, sym, _∙_}
 use mathlib.Core.Bool.{Bool, not}
 use mathlib.Core.Logic.{_⊎_, inl, inr}
 use mathlib.Core.List.{List}
@@ -9,7 +9,7 @@ use Prim.Native.Nat.{ℕ, _+_, _*_, _/_, _%_, _≤_, _<_}
 use native.Mathlib.Omega.{arith}
 use lib.Dec.{T, ltb, eqb, not-T, T-not}
 use Rattle.lists.specs.Tests.{both}
-use Rattle.lists.specs.TestLaws.{Test, pass, fail, test, Means, decide, means-itself, passes, both-pass, means-both, means-not, means-eq, means-lt}
+use Rattle.lists.specs.TestLaws.{Means, decide, means-itself, passes, both-pass, means-both, means-not, means-eq, means-lt}
 use Rattle.lists.specs.SearchLaws.{le-not-lt}
 use Rattle.rules.specs.Elements.{elements, element, sides, Side, origin, destination, next, firstNumber}
 use Rattle.rules.specs.Pairing.{isCorner, meetWell, Element}

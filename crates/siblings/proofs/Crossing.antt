@@ -7,7 +7,7 @@ use Prim.Native.Nat.{ℕ, _+_, _/_, _%_, _≤_, _<_}
 use native.Mathlib.Omega.{arith}
 use Rattle.lists.specs.SearchLaws.{lt-or-eq, le-not-lt, le-or-lt}
 use Rattle.lists.specs.Search.{at}
-use Rattle.rules.specs.Elements.{Side, slot}
+use Rattle.rules.specs.Elements.{slot}
 use Rattle.theory.specs.Sides.{side-facts}
 use Rattle.theory.specs.Links.{Spans, link-facts, link-side}
 use Rattle.siblings.specs.Siblings.{Between}

@@ -3,20 +3,19 @@
 -- Assumes nothing.
 use mathlib.Core.Path.{_≡_, sym, _∙_}
 use mathlib.Core.Bool.{Bool}
-use mathlib.Core.Logic.{_⊎_, inl, inr}
 use mathlib.Core.List.{List}
 use Prim.Native.Nat.{ℕ, _≤_, _<_}
 use native.Mathlib.Omega.{arith}
 use lib.Dec.{T, ltb, eqb, T-not}
 use Rattle.lists.specs.Tests.{both}
-use Rattle.lists.specs.TestLaws.{Test, pass, fail, test, Means, means-itself, decide, means-both, means-not, means-eq, means-lt}
+use Rattle.lists.specs.TestLaws.{Test, pass, fail, test, Means, means-itself, means-both, means-not, means-eq, means-lt}
 use Rattle.lists.specs.SearchLaws.{le-not-lt}
-use Rattle.rules.specs.Elements.{Side, origin, firstSide}
-use Rattle.rules.specs.Pairing.{alike, opposed, joins}
+use Rattle.rules.specs.Elements.{Side, firstSide}
+use Rattle.rules.specs.Pairing.{joins}
 use Rattle.theory.specs.Sides.{side-facts, side-positive}
 use Rattle.theory.specs.Least.{First, nobody, somebody, first-side}
-use Rattle.theory.specs.Links.{lesser, greater, beyond, side, Spans, low-side, high-side}
-use Rattle.theory.specs.Pairings.{means-alike, means-opposed, means-joins}
+use Rattle.theory.specs.Links.{beyond, side, Spans, low-side, high-side}
+use Rattle.theory.specs.Meeting.{means-joined}
 use Rattle.siblings.specs.Siblings.{sibling, Between}
 use Rattle.siblings.specs.Rings.{Next, rises, returns}
 
@@ -33,21 +32,6 @@ module _ (L : List ℕ) where
   pub side-beyond : (s : ℕ) → Side L s → s < beyond L
   side-beyond s a = let f = side-facts L s a in omega arith
 
-  pub means-between : (s t : ℕ) → Means (joins L s t) ((lesser L s ≡ lesser L t) × (greater L s ≡ greater L t))
-  unfolding lesser greater
-  means-between s t = record { says = λ x. says (means-joins L s t .says x); shows = λ x. means-joins L s t .shows (shows x) }
-    where
-      says : T (alike L s t) ⊎ T (opposed L s t) → (lesser L s ≡ lesser L t) × (greater L s ≡ greater L t)
-      says (inl x) = let (p, q) = means-alike L s t .says x in ((omega arith), (omega arith))
-      says (inr x) = let (p, q) = means-opposed L s t .says x in ((omega arith), (omega arith))
-
-      shows : (lesser L s ≡ lesser L t) × (greater L s ≡ greater L t) → T (alike L s t) ⊎ T (opposed L s t)
-      shows (p, q) = go (decide (means-eq (origin L s) (origin L t)))
-        where
-          go : (origin L s ≡ origin L t) ⊎ (origin L s ≡ origin L t → ⊥) → T (alike L s t) ⊎ T (opposed L s t)
-          go (inl e) = inl (means-alike L s t .shows (e, (omega arith)))
-          go (inr d) = inr (means-opposed L s t .shows ((omega arith), (omega arith)))
-
   higher : ℕ → ℕ → Bool
   higher s t = both (ltb s t) (joins L s t)
 
@@ -59,10 +43,10 @@ module _ (L : List ℕ) where
     -- what joins the vertices of a side between u and v is between u and v
     pub joins-between : (s t : ℕ) → Between L u v s → Side L t → T (joins L s t) → Between L u v t
     joins-between s t b a x =
-        let (p, q) = means-between s t .says x in record { side = a; low = sym p ∙ b .low; high = sym q ∙ b .high }
+        let (p, q) = means-joined L s t .says x in record { side = a; low = sym p ∙ b .low; high = sym q ∙ b .high }
 
     pub between-joins : (s t : ℕ) → Between L u v s → Between L u v t → T (joins L s t)
-    between-joins s t b c = means-between s t .shows (b .low ∙ sym (c .low), b .high ∙ sym (c .high))
+    between-joins s t b c = means-joined L s t .shows (b .low ∙ sym (c .low), b .high ∙ sym (c .high))
 
     -- only one side follows another
     pub next-one : {c t x y : ℕ} → Next L u v c t x → Next L u v c t y → x ≡ y

@@ -396,11 +396,6 @@ module _ (n : ℕ) (L : List ℕ) (fit : Fit n L) where
         → T (isCorner L g (corner L f k)) → T (meetWell L f g) → ⊥
     three-clash i j k o p q r x y z = not-three L f g (three-at i j k o p q r x y z .0)
 
-    pub doubled-clashes : Doubled L f g → T (meetWell L f g) → ⊥
-    doubled-clashes d =
-        three-clash 1 2 3 (omega arith) (omega arith) (omega arith) (omega (arith, d .mine-three)) (d .corners 1 (omega arith) (omega arith))
-        (d .corners 2 (omega arith) (omega arith)) (d .corners 3 (omega arith) (omega arith))
-
     -- two triangles with the same corners: a side of f joins the same two vertices as some side of g
     pub doubled-joins : Doubled L f g → (i : ℕ) → 1 ≤ i → i ≤ 3 → (t : ℕ) × Side L t × (t / 8 ≡ g) × T (joins L (8 * f + i) t)
     doubled-joins d i p q =

@@ -1,12 +1,11 @@
 -- `meeting::clash_of` meets its contract. No element up to g is above f and clashes with f.
 -- Assumes nothing.
-use mathlib.Core.Path.{_≡_, sym, ap, _∙_}
-use mathlib.Core.Bool.{Bool, true, false, not}
+use mathlib.Core.Path.{_≡_, _∙_}
+use mathlib.Core.Bool.{Bool, not}
 use Prim.Native.Nat.{ℕ, _+_, _-_, _≤_}
 use native.Mathlib.Omega.{arith}
-use lib.Dec.{T, ltb, not-T}
+use lib.Dec.{ltb, not-T}
 use borrow.Author.Needs.{needs}
-use borrow.Author.Tests.{not-true, not-false}
 use Rattle.lists.specs.Tests.{both}
 use Rattle.lists.specs.TestLaws.{passes, true-of, means-lt}
 use Rattle.rules.specs.Elements.{elements}

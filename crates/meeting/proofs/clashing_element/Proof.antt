@@ -1,9 +1,6 @@
 -- `meeting::clashing_element` meets its contract.
 -- Assumes nothing.
-use mathlib.Core.Path.{_≡_}
-use Prim.Native.Nat.{ℕ}
 use borrow.Author.Needs.{needs}
-use Rattle.meeting.specs.Folds.{LesserOf}
 use Rattle.meeting.specs.Clashes.{clashing-is}
 use Rattle.meeting.proofs.clashing_element.Statement.{statement}
 use Rattle.meeting.proofs.clashing_element.Tie as tie

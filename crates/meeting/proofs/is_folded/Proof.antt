@@ -1,12 +1,11 @@
 -- `meeting::is_folded` meets its contract. The entries of sides 1 and 2 stand side by side.
 -- Assumes nothing.
 use mathlib.Core.Path.{_≡_, ap, sym, _∙_}
-use Prim.Native.Nat.{ℕ, _+_, _*_, _<_}
+use Prim.Native.Nat.{_+_, _*_, _<_}
 use native.Mathlib.Omega.{arith}
 use lib.Dec.{eqb}
 use lib.ListN.{length}
 use borrow.Author.Needs.{needs}
-use Rattle.lists.specs.Search.{at}
 use Rattle.lists.specs.TestLaws.{true-of, false-of, means-eq, means-not}
 use Rattle.rules.specs.Elements.{element}
 use Rattle.siblings.specs.Siblings.{sibling}

@@ -1,7 +1,6 @@
 -- `meeting::is_joined` meets its contract.
 -- Assumes nothing.
-use mathlib.Core.Path.{_≡_, sym, _∙_}
-use mathlib.Core.Bool.{true}
+use mathlib.Core.Path.{_≡_, sym}
 use borrow.Author.Needs.{needs}
 use Rattle.rules.specs.Pairing.{alike, opposed, joins}
 use Rattle.meeting.proofs.is_joined.Statement.{statement}
