@@ -7,7 +7,7 @@ use mathlib.Core.List.{List}
 use Prim.Native.Nat.{ℕ, _+_, _*_, _-_, _/_, _%_, _≤_, _<_, min, max}
 use native.Mathlib.Omega.{arith}
 use lib.Dec.{leb}
-use Rattle.lists.specs.TestLaws.{Test, pass, fail, test, means-le, means-not}
+use Rattle.lists.specs.TestLaws.{true-of, false-of, means-le, means-not}
 use Rattle.lists.specs.Search.{at}
 use Rattle.rules.specs.Elements.{elements, element, number, corner, sides, Side, slot, origin, destination, next}
 use Rattle.theory.specs.Sides.{side-facts, side-of}
@@ -78,42 +78,30 @@ module _ (L : List ℕ) (c : ℕ) where
   link-diagonal (side a) h = absurd (omega (arith, side-facts L c a .number-four))
   link-diagonal (diagonal d) h = d
 
+  -- its ends are those of a side, or the two corners of a diagonal
   module _ (a : Side L c) where
-    few : c % 8 ≤ 4
-    few = side-facts L c a .number-four
+    few : leb (number c) 4 ≡ true
+    few = true-of (leb (number c) 4) (means-le (number c) 4 .shows (side-facts L c a .number-four))
 
     pub low-side : low L c ≡ lesser L c
     unfolding low
-    low-side = go (test (leb (number c) 4))
-      where
-        go : Test (leb (number c) 4) → low L c ≡ lesser L c
-        go (pass t e) = rw (e, low)
-        go (fail t e) = absurd (means-not (means-le (number c) 4) .says t few)
+    low-side = rw (few, low)
 
     pub high-side : high L c ≡ greater L c
     unfolding high
-    high-side = go (test (leb (number c) 4))
-      where
-        go : Test (leb (number c) 4) → high L c ≡ greater L c
-        go (pass t e) = rw (e, high)
-        go (fail t e) = absurd (means-not (means-le (number c) 4) .says t few)
+    high-side = rw (few, high)
 
-  module _ (many : 4 < c % 8) where
+  module _ (more : 4 < c % 8) where
+    many : leb (number c) 4 ≡ false
+    many = false-of (leb (number c) 4) (means-not (means-le (number c) 4) .shows (λ h. omega arith))
+
     pub low-diagonal : low L c ≡ min (corner L (element c) (number c - 4)) (corner L (element c) (number c - 2))
     unfolding low
-    low-diagonal = go (test (leb (number c) 4))
-      where
-        go : Test (leb (number c) 4) → low L c ≡ min (corner L (element c) (number c - 4)) (corner L (element c) (number c - 2))
-        go (fail t e) = rw (e, low)
-        go (pass t e) = absurd (omega (arith, means-le (number c) 4 .says t))
+    low-diagonal = rw (many, low)
 
     pub high-diagonal : high L c ≡ max (corner L (element c) (number c - 4)) (corner L (element c) (number c - 2))
     unfolding high
-    high-diagonal = go (test (leb (number c) 4))
-      where
-        go : Test (leb (number c) 4) → high L c ≡ max (corner L (element c) (number c - 4)) (corner L (element c) (number c - 2))
-        go (fail t e) = rw (e, high)
-        go (pass t e) = absurd (omega (arith, means-le (number c) 4 .says t))
+    high-diagonal = rw (many, high)
 
 -- corner i of element f is the origin of side i
 pub record AtCorner (L : List ℕ) (f i : ℕ) : Type 0 where

@@ -18,7 +18,8 @@ use Rattle.theory.specs.Sides.{three, four, sides-by, side-facts}
 use Rattle.theory.specs.Least.{means-some-number}
 use Rattle.theory.specs.Steps.{wraps, grows, next-number, next-in, next-numbered}
 use Rattle.theory.specs.FitRows.{Fit}
-use Rattle.theory.specs.Links.{lesser, greater, Link, side, diagonal, low, high, link-facts, link-side, link-diagonal, low-side, high-side, low-diagonal, high-diagonal, at-corner, link-ends, Spans, spans-fit}
+use Rattle.theory.specs.Links.{lesser, greater, Link, side, diagonal, low, high, link-facts, link-side, link-diagonal, link-ends}
+use Rattle.theory.specs.Links.{low-side, high-side, low-diagonal, high-diagonal, at-corner, Spans, spans-fit}
 use Rattle.theory.specs.Pairings.{means-alike, means-opposed, means-joins}
 
 -- a link of f and a link of g join the same two vertices, and they aren't both sides
