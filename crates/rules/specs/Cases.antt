@@ -15,6 +15,7 @@ use Rattle.rules.specs.Tables.{partner, isBorder, b2e, borderNumber, bor
 use Rattle.rules.specs.Recovery.{columnsBy, widened, sideOfBorder, walkStart, turnBy, trace, walkTo, walk}
 use Rattle.rules.specs.Refusals.{Answer, gives, refused, crowdedSide, alikeSide, missed, unorderedVertex, clashOf, clashing, checkFound, listAnswer, accepts}
 use Rattle.rules.specs.Refusals.{Buffers, callLengths, buildLengths, lengthChecks, roomCheck, buildAnswer, after, onto, buildLeaves, recoverLengths, recovers, recoverAnswer, recoverList}
+use Rattle.rules.specs.Siblings.{sibling, siblingEntry, sibhe, v2he, SiblingBuffers, siblingLengths, siblingsAnswer, siblingsLeaves}
 use Rattle.rules.specs.Queries.{Mesh, seen, told, columnsAnswer, queryLengths, asked, defined, found, listed, listLeaves, andThen, prepend, readAll, follow, over, isBorderCode, isHalfEdge, isEntry, isVertex}
 use Rattle.rules.specs.Queries.{readOpposite, readBorderSide, readVertexEntry, readOrigin, readDestination, opposite, oppositeAnswer, borderNext, vertexBorderAnswer, startSide, onward, ringSides}
 use Rattle.rules.specs.Queries.{ring, neighbours, loopNext, borderLoop, listedAnswer}
@@ -51,6 +52,10 @@ left n L = buildLeaves n L (room n L)
 unfoldable pub built : ℕ → List ℕ → Mesh
 built n L = let w = left n L in told n 0 L (w .vertices) (w .opposites) (w .border)
 
+-- buffers for the siblings of n vertices and the list L, with a map of this length
+unfoldable pub siblingRoom : ℕ → List ℕ → ℕ → SiblingBuffers
+siblingRoom n L long = record { vertices = blank n; siblings = blank long; work = blank (n + 16 * elements L) }
+
 -- a row: what is asked of n vertices and a list, and the outcome
 pub data Case : Type 0 where
   -- build's answer
@@ -70,6 +75,9 @@ pub data Case : Type 0 where
   answersNarrow : ℕ → List ℕ → Answer → Case
   -- of n, the columns told, the list and this E2e, what opposite answers of the code
   oppositeIs : ℕ → ℕ → List ℕ → List ℕ → ℕ → Answer → Case
+  -- the vertices' sides and the map of siblings; with a map of this length, their answer
+  siblingsAre : ℕ → List ℕ → List ℕ → List ℕ → Case
+  siblingsWith : ℕ → List ℕ → ℕ → Answer → Case
 
 unfoldable pub sameAnswer : Answer → Answer → Bool
 sameAnswer (gives a b) (gives c d) = both (eqb a c) (eqb b d)
@@ -108,6 +116,11 @@ holds (answersNarrow n L a) =
     sameAnswer (buildAnswer n L (record { vertices = w .vertices; opposites = w .opposites; border = []; work = w .work })) a
 holds (oppositeIs n c L E2e s a) =
     let w = left n L in sameAnswer (oppositeAnswer (told n c L (w .vertices) E2e (w .border)) s) a
+holds (siblingsAre n L V2he Sibhe) =
+    let w = siblingRoom n L (4 * elements L) in
+    let left = siblingsLeaves n L w in
+    both (sameAnswer (siblingsAnswer n L w) (gives 0 0)) (both (same (left .vertices) V2he) (same (left .siblings) Sibhe))
+holds (siblingsWith n L long a) = sameAnswer (siblingsAnswer n L (siblingRoom n L long)) a
 
 unfoldable pub every : (Case → Bool) → List Case → Bool
 every p [] = true
@@ -231,6 +244,20 @@ cases =
     answersNarrow 4 listing (refused 9 4 0) ∷
     -- "Existence in building and recovery is read over this narrower list": the tables of the two back to back
     recovered 3 2 (9 ∷ 10 ∷ 11 ∷ []) (three 19 18 17 ++ three 11 10 9) none ∷
+    -- document 02, point 12: "each side maps to the next higher side that joins the same two vertices, in either direction, the last to the
+    -- first, a lone side to itself", and "a triangle's fourth entry 0"
+    siblingsAre 0 [] [] [] ∷
+    siblingsAre 4 listing (9 ∷ 10 ∷ 11 ∷ 19 ∷ []) (quad 9 10 17 0 ++ quad 11 18 19 0) ∷
+    siblingsAre 5 (tri 1 2 3 ++ tri 2 1 4 ++ tri 1 2 5) (9 ∷ 10 ∷ 11 ∷ 19 ∷ 27 ∷ []) (quad 17 10 11 0 ++ quad 25 18 19 0 ++ quad 9 26 27 0) ∷
+    siblingsAre 4 (tri 1 2 3 ++ tri 1 2 4) (9 ∷ 10 ∷ 11 ∷ 19 ∷ []) (quad 17 10 11 0 ++ quad 9 18 19 0) ∷
+    siblingsAre 3 (tri 1 2 3 ++ tri 1 3 2) (9 ∷ 10 ∷ 11 ∷ []) (quad 19 18 17 0 ++ quad 11 10 9 0) ∷
+    -- "Vertices map to the least side starting there, or 0"
+    siblingsAre 6 (quad 5 2 3 4 ++ tri 3 2 1 ++ quad 2 3 4 1) (19 ∷ 10 ∷ 11 ∷ 12 ∷ 9 ∷ 0 ∷ []) (quad 9 17 26 12 ++ quad 25 28 19 0 ++ quad 10 11 27 18) ∷
+    -- "Only checks 1 to 4 apply", the map in four columns
+    siblingsWith 2 (tri 1 2 3) 4 (refused 3 1 3) ∷
+    siblingsWith 2 (tri 1 2 2) 4 (refused 4 1 3) ∷
+    siblingsWith 2 (tri 1 2 3) 3 (refused 2 0 0) ∷
+    siblingsWith 2 (1 ∷ 2 ∷ 3 ∷ []) 4 (refused 1 0 0) ∷
     []
 
 -- the rules give every row of the table
@@ -245,4 +272,5 @@ unfolding three quad tri blank room left built sameAnswer gave holds every listi
     andThen prepend readAll follow over isBorderCode isHalfEdge isEntry isVertex readOpposite readBorderSide readVertexEntry readOrigin
     readDestination opposite oppositeAnswer borderNext vertexBorderAnswer startSide onward ringSides ring neighbours loopNext borderLoop listedAnswer ringAnswer ringLeaves
     neighboursAnswer neighboursLeaves borderLoopAnswer borderLoopLeaves
+    siblingRoom sibling siblingEntry sibhe v2he siblingLengths siblingsAnswer siblingsLeaves
 cases-hold = tt

@@ -3,5 +3,6 @@ pub mod Pairing
 pub mod Tables
 pub mod Recovery
 pub mod Refusals
+pub mod Siblings
 pub mod Queries
 pub mod Cases

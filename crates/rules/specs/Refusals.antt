@@ -57,16 +57,19 @@ vertexCheck r v rest = checkFound v (refused r v 0) rest
 abbrev pub pairCheck : ℕ → ℕ → ℕ → Answer → Answer
 pairCheck r f g rest = checkFound f (refused r f g) rest
 
+-- checks 3 and 4, before what the later ones say
+abbrev pub rowChecks : ℕ → List ℕ → Answer → Answer
+rowChecks n L rest = sideCheck 3 (unfitCorner n L) (sideCheck 4 (repeatedCorner L) rest)
+
 -- checks 3 to 8, "in order, each over the whole list before the next", and 18 "after 8, before 9"; then k and the number of edges
 unfoldable pub listAnswer : ℕ → List ℕ → Answer
 listAnswer n L =
-    sideCheck 3 (unfitCorner n L)
-    (sideCheck 4 (repeatedCorner L)
+    rowChecks n L
     (sideCheck 6 (crowdedSide L)
     (sideCheck 7 (alikeSide L)
     (vertexCheck 8 (unorderedVertex n L)
     (pairCheck 18 (clashing L) (clashOf L (clashing L))
-    (gives (borders L) (edges L)))))))
+    (gives (borders L) (edges L))))))
 
 -- an accepted list, as a test
 unfoldable pub accepts : ℕ → List ℕ → Bool

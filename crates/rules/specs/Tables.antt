@@ -62,10 +62,13 @@ wide L = tab (4 * elements L) (λ p. e2eEntry L (sideAt p))
 unfoldable pub borderInto : List ℕ → ℕ → ℕ
 borderInto L v = firstSide L (λ s. both (isBorder L s) (eqb (destination L s) v))
 
+abbrev pub leastSide : List ℕ → ℕ → ℕ
+leastSide L v = firstSide L (λ s. eqb (origin L s) v)
+
 unfoldable pub v2eEntry : List ℕ → ℕ → ℕ
 v2eEntry L v =
     elim (eqb (borderInto L v) 0)
-    [ true ↦ firstSide L (λ s. eqb (origin L s) v) | false ↦ 8 * borderNumber L (borderInto L v) ]
+    [ true ↦ leastSide L v | false ↦ 8 * borderNumber L (borderInto L v) ]
 
 unfoldable pub v2e : ℕ → List ℕ → List ℕ
 v2e n L = tab n (λ i. v2eEntry L (i + 1))
