@@ -1,7 +1,10 @@
 // What the public calls answer, and the one 64-bit number in which a host gets it.
 ghost use mathlib.Core.Path.{_≡_};
+ghost use Rattle.rules.specs.Elements.{element, number};
 ghost use Rattle.rules.specs.Refusals.{gives, refused};
 ghost use Rattle.answer.specs.Numbers.{numbers, packed, packedAnswer};
+use halfedge::element_of;
+use halfedge::number_of;
 
 // An answer's two numbers; or a refusal with its number and the two numbers of its place.
 pub enum Answer {
@@ -44,6 +47,13 @@ pub fn refuse_at(number: u32, first: u32, second: u32) -> Answer
         first,
         second,
     }
+}
+
+// A refusal at the side, or the corner where it begins, with this code.
+pub fn refuse_side(refusal: u32, code: u32) -> Answer
+    ensures { λ r. ⌜ numbers r ≡ refused refusal (element code) (number code) ⌝ }
+{
+    refuse_at(refusal, element_of(code), number_of(code))
 }
 
 fn wide(x: u32) -> u64

@@ -17,7 +17,7 @@ use Rattle.rules.specs.Pairing.{alike}
 use Rattle.rules.specs.Refusals.{alikeSide}
 use Rattle.theory.specs.Sides.{slot-below}
 use Rattle.theory.specs.Least.{means-none}
-use Rattle.siblings.specs.Uses.{means-sibling-alike, partner-sibling, partner-none}
+use Rattle.theory.specs.SiblingUses.{means-sibling-alike, partner-sibling, partner-none}
 use Rattle.checks.specs.Maps.{two-by-two}
 use Rattle.borders.specs.Numbers.{Ready, Matched, inner, Numbering}
 

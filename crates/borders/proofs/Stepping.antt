@@ -17,12 +17,12 @@ use Rattle.lists.specs.Changes.{at-snoc-other}
 use Rattle.lists.specs.Stores.{at-same, at-other}
 use Rattle.rules.specs.Elements.{maxElement, isSide, Side, slot, origin, destination, next, sideAt, sideWith, firstSide}
 use Rattle.rules.specs.Tables.{partner, isBorder, borderNumber, wide}
+use Rattle.rules.specs.Siblings.{sibling}
 use Rattle.theory.specs.Sides.{side-facts, side-positive, sideAt-slot, slot-sideAt, slot-below}
 use Rattle.theory.specs.Least.{First, nobody, somebody, first-side}
 use Rattle.theory.specs.Steps.{next-side}
 use Rattle.theory.specs.Entries.{means-border, wide-paired, wide-border, wide-empty}
-use Rattle.siblings.specs.Siblings.{sibling}
-use Rattle.siblings.specs.Uses.{sibling-side}
+use Rattle.theory.specs.SiblingUses.{sibling-side}
 use Rattle.borders.specs.Numbers.{Matched, Into, Entry, rim, inner, Numbering, Put, kept, put, entered}
 
 pub put-length : {i x : ℕ} {w w′ : List ℕ} → Put i x w w′ → length w′ ≡ length w

@@ -11,8 +11,8 @@ use Rattle.lists.specs.Parts.{part}
 use Rattle.rules.specs.Elements.{elements, Side, slot, origin, destination, sideAt, sideWith, firstSide, countSides}
 use Rattle.rules.specs.Tables.{partner, isBorder, b2e, borderNumber, borders, wide, v2e}
 use Rattle.rules.specs.Refusals.{crowdedSide, alikeSide}
+use Rattle.rules.specs.Siblings.{sibling}
 use Rattle.theory.specs.FitRows.{Fit}
-use Rattle.siblings.specs.Siblings.{sibling}
 use Rattle.checks.specs.Maps.{Mapped}
 use Rattle.checks.specs.Firsts.{Firsts}
 use Rattle.walk.specs.Layout.{Linked, v2eIn, e2eIn}

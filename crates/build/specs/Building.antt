@@ -1,27 +1,26 @@
 -- What build leaves in the tables.
 -- Assumes nothing.
 use mathlib.Core.Path.{_≡_, refl, ap, sym, subst, _∙_}
-use mathlib.Core.Bool.{Bool, true, false}
+use mathlib.Core.Bool.{true, false}
 use mathlib.Core.Logic.{_⊎_}
 use mathlib.Core.List.{List, _++_}
 use Prim.Native.Nat.{ℕ, _+_, _*_, _-_, _≤_, _<_}
 use native.Mathlib.Omega.{arith}
-use lib.Dec.{T, leb, eqb}
+use lib.Dec.{T, eqb}
 use lib.ListN.{length, take, drop, replicate, length-take, length-append, length-drop}
 use lib.Seq.{take-append-seam}
-use Rattle.lists.specs.Tests.{both}
-use Rattle.lists.specs.TestLaws.{passes, means-eq, means-le}
+use Rattle.lists.specs.TestLaws.{means-eq}
 use Rattle.lists.specs.Search.{at}
 use Rattle.lists.specs.Parts.{part, part-take}
 use Rattle.rules.specs.Elements.{maxVertex, maxElement, elements}
 use Rattle.rules.specs.Pairing.{sizesFit, unfitCorner, repeatedCorner}
 use Rattle.rules.specs.Tables.{borders, edges, b2e, columns, e2e, v2e}
-use Rattle.rules.specs.Refusals.{Answer, gives, refused, Buffers, callLengths, buildLengths, lengthChecks, workAfter, buildAnswer, buildLeaves}
+use Rattle.rules.specs.Refusals.{Answer, gives, refused, Buffers, buildLengths, lengthChecks, workAfter, buildAnswer, buildLeaves}
 use Rattle.rules.specs.Refusals.{roomCheck, listAnswer, after, onto, crowdedSide, alikeSide, unorderedVertex, clashing}
 use Rattle.theory.specs.FitRows.{means-sizes}
 use Rattle.theory.specs.Columns.{three-or-four, narrowed, narrow-wide}
 use Rattle.theory.specs.Built.{borders-bound}
-use Rattle.theory.specs.Answers.{room-enough, room-short, past-check}
+use Rattle.theory.specs.Answers.{lengths-known, room-enough, room-short, past-check}
 use Rattle.buffers.specs.Whole.{onto-full}
 use Rattle.tabulate.specs.Results.{Sized, Holds, Tabulated}
 
@@ -74,15 +73,6 @@ module _ (n c m k : ℕ) (w V2e E2e B2e : List ℕ) (long : Lengths n c m k w V2
         opposites = y ∙ ap (λ (i : ℕ). narrowed c (take i (drop n w))) four;
         border = part-copied (n + 4 * m) (n + 4 * m + k) k w B2e B2e′ refl z;
       }
-
--- what check 2 says of a call with a work buffer
-pub lengths-known : (n m : ℕ) (others : Bool) (V2e work : List ℕ) → callLengths n m others V2e work ≡ true
-    → (length V2e ≡ n) × T others × (n + 16 * m ≤ length work)
-unfolding callLengths
-lengths-known n m others V2e work e =
-    let (a, t) = passes (eqb (length V2e) n) (both others (leb (n + 16 * m) (length work))) (rw e tt) in
-    let (b, c) = passes others (leb (n + 16 * m) (length work)) t in
-    (means-eq (length V2e) n .says a, b, means-le (n + 16 * m) (length work) .says c)
 
 -- the scratch buffer is the front of the work buffer
 pub holds-front : (n : ℕ) (L w r : List ℕ) → length w ≡ n + 12 * elements L → borders L ≤ 4 * elements L → Holds n L w → Holds n L (w ++ r)

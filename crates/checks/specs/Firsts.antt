@@ -11,8 +11,9 @@ use Rattle.lists.specs.TestLaws.{decide, means-eq}
 use Rattle.lists.specs.Search.{at}
 use Rattle.lists.specs.SearchLaws.{lt-or-eq}
 use Rattle.lists.specs.Stores.{at-same, at-other}
-use Rattle.rules.specs.Elements.{Side, slot, origin, sideAt, firstSide}
+use Rattle.rules.specs.Elements.{Side, slot, origin, sideAt}
 use Rattle.rules.specs.Pairing.{SideAt}
+use Rattle.rules.specs.Tables.{leastSide}
 use Rattle.theory.specs.Sides.{sideAt-slot, slot-sideAt, slot-below, slot-less}
 use Rattle.theory.specs.Least.{First, first-is}
 use Rattle.theory.specs.FitRows.{Fit, side-at, entry-at, no-side-at}
@@ -27,7 +28,7 @@ FirstsFrom n L p w = (v : ℕ) → 1 ≤ v → v ≤ n → FirstFrom L p v (at w
 
 -- at each vertex the least side with that origin
 abbrev pub Firsts : ℕ → List ℕ → List ℕ → Type 0
-Firsts n L w = (v : ℕ) → 1 ≤ v → v ≤ n → at w (v - 1) ≡ firstSide L (λ s. eqb (origin L s) v)
+Firsts n L w = (v : ℕ) → 1 ≤ v → v ≤ n → at w (v - 1) ≡ leastSide L v
 
 pub firsts-none : (n : ℕ) (L w : List ℕ) → ((i : ℕ) → i < n → at w i ≡ 0) → FirstsFrom n L (length L) w
 firsts-none n L w f v a b = none (f (v - 1) (omega arith)) (λ s (c, o) h. omega (arith, slot-below L s c))

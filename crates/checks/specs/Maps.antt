@@ -14,11 +14,11 @@ use Rattle.lists.specs.Search.{at}
 use Rattle.rules.specs.Elements.{isSide, Side, slot, origin, sideAt, firstSide, countSides}
 use Rattle.rules.specs.Pairing.{alike, joins}
 use Rattle.rules.specs.Refusals.{crowdedSide, alikeSide}
+use Rattle.rules.specs.Siblings.{sibling}
 use Rattle.theory.specs.Sides.{side-positive, slot-sideAt, slot-below}
 use Rattle.theory.specs.Least.{found-at, found-nowhere, found-later, means-none}
 use Rattle.theory.specs.FitRows.{Fit}
-use Rattle.siblings.specs.Siblings.{sibling}
-use Rattle.siblings.specs.Uses.{sibling-side, crowded, means-sibling-alike}
+use Rattle.theory.specs.SiblingUses.{sibling-side, crowded, means-sibling-alike}
 
 -- from place n on the sibling of each side, and 0 where no side stands
 pub record Mapped (n : ℕ) (L w : List ℕ) : Type 0 where

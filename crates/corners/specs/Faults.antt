@@ -1,17 +1,14 @@
--- The faults of a row and of a list of rows.
+-- The faults of a row.
 -- Assumes nothing.
 use mathlib.Core.Path.{_≡_}
-use mathlib.Core.Bool.{Bool, true, false, not}
+use mathlib.Core.Bool.{Bool, not}
 use mathlib.Core.List.{List}
 use Prim.Native.Nat.{ℕ, _+_, _-_}
 use lib.Dec.{eqb, ltb}
 use Rattle.lists.specs.Tests.{either}
 use Rattle.lists.specs.Search.{at}
 use Rattle.rules.specs.Elements.{sidesBy, sideAt, firstNumber}
-use Rattle.rules.specs.Pairing.{unfitCorner, repeatedCorner}
 use Rattle.theory.specs.Least.{FirstNumber}
-use Rattle.corners.specs.declared.Fault.{Fault}
-use Rattle.corners.specs.declared.Fault.the-variants.{Unfit, Repeated, Nothing}
 
 -- a corner x is no vertex
 abbrev pub noVertex : ℕ → ℕ → Bool
@@ -33,11 +30,3 @@ pub data Repeating (a : ℕ) (row : List ℕ) (found r : ℕ) : Type 0 where
   kept : (found ≡ 0 → ⊥) → r ≡ found → Repeating a row found r
   none : found ≡ 0 → RepeatedIn row 0 → r ≡ 0 → Repeating a row found r
   new : (i : ℕ) → found ≡ 0 → (i ≡ 0 → ⊥) → RepeatedIn row i → r ≡ sideAt (a + i - 1) → Repeating a row found r
-
--- what checks 3 and 4 find in a list
-unfoldable pub faultOf : ℕ → List ℕ → Fault
-faultOf n L =
-    elim (eqb (unfitCorner n L) 0) [
-      | true ↦ elim (eqb (repeatedCorner L) 0) [ true ↦ Nothing | false ↦ Repeated (repeatedCorner L) ]
-      | false ↦ Unfit (unfitCorner n L)
-    ]

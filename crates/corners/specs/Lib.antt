@@ -1,4 +1,3 @@
 pub mod Faults
 pub mod RowLaws
 pub mod Scan
-pub mod Found

@@ -1,25 +1,26 @@
 -- The first fault of a list, found row by row.
 -- Assumes nothing.
 use mathlib.Core.Path.{_≡_, refl, ap, sym, _∙_}
-use mathlib.Core.Bool.{Bool, true, false, not}
+use mathlib.Core.Bool.{Bool, not}
 use mathlib.Core.Logic.{_⊎_, inl, inr}
 use mathlib.Core.List.{List}
 use Prim.Native.Nat.{ℕ, _+_, _*_, _-_, _/_, _%_, _≤_, _<_}
 use native.Mathlib.Omega.{arith}
-use lib.Dec.{T, eqb, T-not, not-T}
+use lib.Dec.{T, T-not, not-T}
 use lib.ListN.{length, take, drop}
-use Rattle.lists.specs.TestLaws.{means-eq, means-not, true-of, false-of}
+use Rattle.lists.specs.TestLaws.{means-eq}
 use Rattle.lists.specs.Search.{at}
 use Rattle.lists.specs.SearchLaws.{le-or-lt}
-use Rattle.rules.specs.Elements.{corner, sidesBy, sides, Side, slot, origin, sideAt}
+use Rattle.rules.specs.Elements.{element, number, corner, sidesBy, sides, Side, slot, origin, sideAt}
 use Rattle.rules.specs.Pairing.{unfitCorner, repeatedCorner}
+use Rattle.rules.specs.Refusals.{gives, refused, rowChecks}
 use Rattle.theory.specs.Sides.{SidesBy, three, four, sides-by, side-facts, side-of, sideAt-slot, slot-sideAt, slot-below, slot-less}
 use Rattle.theory.specs.Least.{First, FirstNumber, first-is}
 use Rattle.theory.specs.FitRows.{unfit, earlier, repeated, means-unfit, means-earlier, means-repeated}
+use Rattle.theory.specs.Answers.{check-clear, check-refuses, rows-clear}
 use Rattle.halfedge.specs.Rows.{rowOf, part-at}
-use Rattle.corners.specs.Faults.{noVertex, repeats, UnfitIn, Repeating, kept, none, new, faultOf}
+use Rattle.corners.specs.Faults.{noVertex, repeats, UnfitIn, Repeating, kept, none, new}
 use Rattle.corners.specs.RowLaws.{means-repeats}
-use Rattle.corners.specs.declared.Fault.the-variants.{Unfit, Repeated, Nothing}
 
 pub first-le-four : (fourth : ℕ) {t : ℕ → Bool} {r : ℕ} → FirstNumber (sidesBy fourth) t r → r ≤ 4
 first-le-four fourth {t} {r} x = go x (sides-by fourth)
@@ -144,16 +145,16 @@ module _ {n : ℕ} {L : List ℕ} {a r e : ℕ} (k : Scanned n L a r) (end : e �
   unfit-same i from to = ap (noVertex n) (corner-of i from (at-most-four i to))
 
   -- an unfit corner of the row is the list's first
-  pub scan-unfit : {i j x : ℕ} → UnfitIn n (rowAt L a e) i → (i ≡ 0 → ⊥) → j ≡ i → x ≡ sideAt (a + j - 1) → Unfit x ≡ faultOf n L
-  unfolding faultOf unfitCorner unfit
+  pub scan-unfit : {i j x : ℕ} → UnfitIn n (rowAt L a e) i → (i ≡ 0 → ⊥) → j ≡ i → x ≡ sideAt (a + j - 1) →
+      refused 3 (element x) (number x) ≡ rowChecks n L (gives 0 0)
+  unfolding unfitCorner unfit
   scan-unfit {i} {j} {x} y d same code =
       let is : x ≡ sideAt (a + i - 1) = code ∙ ap (λ (j : ℕ). sideAt (a + j - 1)) same in
       let f = row-found L a e (k .aligned) end inside (unfit n L) (λ j. noVertex n (at (rowAt L a e) (j - 1)))
       (λ j from to t. rw (← unfit-same j from to) t) (λ j from to t. rw (unfit-same j from to) t) (k .fit) i d y in
       let g : unfitCorner n L ≡ sideAt (a + i - 1) = first-is L (unfit n L) (sideAt (a + i - 1)) f in
       let positive : unfitCorner n L ≡ 0 → ⊥ = λ w. sideAt-positive (a + i - 1) (sym g ∙ w) in
-      let z : eqb (unfitCorner n L) 0 ≡ false = false-of (eqb (unfitCorner n L) 0) (means-not (means-eq (unfitCorner n L) 0) .shows positive) in
-      rw (z, faultOf) (ap Unfit (is ∙ sym g))
+      ap (λ (s : ℕ). refused 3 (element s) (number s)) (is ∙ sym g) ∙ sym (check-refuses (unfitCorner n L) _ _ positive)
 
   module _ (x : UnfitIn n (rowAt L a e) 0) where
     -- a row without an unfit corner adds none
@@ -222,12 +223,9 @@ module _ {n : ℕ} {L : List ℕ} {a r e : ℕ} (k : Scanned n L a r) (end : e �
 
 module _ {n : ℕ} {L : List ℕ} {a r : ℕ} (k : Scanned n L a r) (all : length L ≤ a) where
   -- after the last row no corner is unfit
-  no-unfit : eqb (unfitCorner n L) 0 ≡ true
+  no-unfit : unfitCorner n L ≡ 0
   unfolding unfitCorner unfit
-  no-unfit =
-      true-of (eqb (unfitCorner n L) 0)
-      (means-eq (unfitCorner n L) 0 .shows
-      (first-is L (unfit n L) 0 (First.nobody refl (λ s b. k .fit s b (omega (arith, slot-below L s b))))))
+  no-unfit = first-is L (unfit n L) 0 (First.nobody refl (λ s b. k .fit s b (omega (arith, slot-below L s b))))
 
   repeated-is : repeatedCorner L ≡ r
   unfolding repeatedCorner repeated earlier
@@ -237,15 +235,10 @@ module _ {n : ℕ} {L : List ℕ} {a r : ℕ} (k : Scanned n L a r) (all : lengt
       go (nobody e f) = first-is L (repeated n L) r (First.nobody e (λ s b. f s b (omega (arith, slot-below L s b))))
       go (somebody f d) = first-is L (repeated n L) r f
 
-  pub scan-repeated : (r ≡ 0 → ⊥) → Repeated r ≡ faultOf n L
-  unfolding faultOf
+  pub scan-repeated : (r ≡ 0 → ⊥) → refused 4 (element r) (number r) ≡ rowChecks n L (gives 0 0)
   scan-repeated d =
-      let z : eqb (repeatedCorner L) 0 ≡ false =
-      false-of (eqb (repeatedCorner L) 0) (means-not (means-eq (repeatedCorner L) 0) .shows (λ w. d (sym repeated-is ∙ w))) in
-      rw (no-unfit, faultOf) (rw z (ap Repeated (sym repeated-is)))
+      ap (λ (s : ℕ). refused 4 (element s) (number s)) (sym repeated-is)
+      ∙ sym (check-clear _ _ _ no-unfit ∙ check-refuses (repeatedCorner L) _ _ (λ w. d (sym repeated-is ∙ w)))
 
-  pub scan-nothing : r ≡ 0 → Nothing ≡ faultOf n L
-  unfolding faultOf
-  scan-nothing e =
-      let z : eqb (repeatedCorner L) 0 ≡ true = true-of (eqb (repeatedCorner L) 0) (means-eq (repeatedCorner L) 0 .shows (repeated-is ∙ e)) in
-      rw (no-unfit, faultOf) (rw z)
+  pub scan-nothing : r ≡ 0 → gives 0 0 ≡ rowChecks n L (gives 0 0)
+  scan-nothing e = sym (rows-clear n L _ no-unfit (repeated-is ∙ e))

@@ -3,15 +3,13 @@ ghost use mathlib.Core.Path.{_≡_};
 ghost use Prim.Native.Nat.{_+_, _*_, _≤_};
 ghost use lib.ListN.{length};
 ghost use Rattle.rules.specs.Elements.{elements, maxElement};
-ghost use Rattle.corners.specs.Faults.{noVertex, UnfitIn, RepeatedIn, Repeating, faultOf};
+ghost use Rattle.rules.specs.Refusals.{gives, rowChecks};
+ghost use Rattle.answer.specs.Numbers.{numbers};
+ghost use Rattle.corners.specs.Faults.{noVertex, UnfitIn, RepeatedIn, Repeating};
+use answer::Answer;
+use answer::give_two;
+use answer::refuse_side;
 use halfedge::wide;
-
-// The first fault of a list; its corner as the code of the side that begins there.
-pub enum Fault {
-    Unfit(u32),
-    Repeated(u32),
-    Nothing,
-}
 
 fn no_vertex(n: u32, x: u32) -> bool
     ensures { λ r. ⌜ r ≡ noVertex n x ⌝ }
@@ -84,10 +82,10 @@ fn first_repeated(found: u32, a: usize, row: [u32; 4]) -> u32
     halfedge::code_at(a + wide(i) - 1)
 }
 
-// What checks 3 and 4 find, in one pass.
-pub fn first_fault(n: u32, list: &[u32]) -> Fault
+// What checks 3 and 4 say, in one pass; 0, 0 where they find nothing.
+pub fn check_rows(n: u32, list: &[u32]) -> Answer
     requires { ⌜ (length (now list) ≡ 4 * elements (now list)) × (elements (now list) ≤ maxElement) ⌝ }
-    ensures { λ r. ⌜ r ≡ faultOf n (now (list .entry)) ⌝ }
+    ensures { λ r. ⌜ numbers r ≡ rowChecks n (now (list .entry)) (gives 0 0) ⌝ }
 {
     let mut repeated: u32 = 0;
     let mut a: usize = 0;
@@ -96,13 +94,13 @@ pub fn first_fault(n: u32, list: &[u32]) -> Fault
         let row = halfedge::row(&list[a..e]);
         let i = unfit_in(n, row);
         if i != 0 {
-            return Fault::Unfit(halfedge::code_at(a + wide(i) - 1));
+            return refuse_side(3, halfedge::code_at(a + wide(i) - 1));
         }
         repeated = first_repeated(repeated, a, row);
         a = e;
     }
     if repeated != 0 {
-        return Fault::Repeated(repeated);
+        return refuse_side(4, repeated);
     }
-    Fault::Nothing
+    give_two(0, 0)
 }

@@ -155,6 +155,16 @@ count-find p (suc n) k h = go (test (p n)) (λ g. count-find p n k g)
         elim (lt-or-eq k (count p n) (omega (arith, count-pass p n t)))
         [ inl g ↦ let (i, l, u, q) = r g in (i, (omega arith), u, q) | inr g ↦ (n, (omega arith), t, sym g) ]
 
+-- where nothing passes from a to b, nothing more is counted
+pub count-gap : (p : ℕ → Bool) (a b : ℕ) → a ≤ b → ((i : ℕ) → a ≤ i → i < b → T (p i) → ⊥) → count p b ≡ count p a
+count-gap p a b h f =
+    let more : count p a ≤ count p b = count-le p a b h in
+    let less : count p b ≤ count p a =
+    le-not-lt (count p b) (count p a) (λ l.
+    let (i, k, t, e) = count-find p b (count p a) l in
+    f i (le-not-lt a i (λ m. omega (arith, count-lt p i a m t))) k t) in
+    omega arith
+
 -- tests that agree below n count alike and list alike
 pub count-same : (p q : ℕ → Bool) (n : ℕ) → ((i : ℕ) → i < n → p i ≡ q i) → count p n ≡ count q n
 unfolding count

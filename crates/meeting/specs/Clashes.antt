@@ -14,14 +14,14 @@ use Rattle.lists.specs.SearchLaws.{le-not-lt}
 use Rattle.rules.specs.Elements.{elements, element, sides, Side, origin, destination, next, firstNumber}
 use Rattle.rules.specs.Pairing.{isCorner, meetWell, Element}
 use Rattle.rules.specs.Refusals.{crowdedSide, clashOf, clashing}
+use Rattle.rules.specs.Siblings.{sibling}
 use Rattle.theory.specs.Sides.{side-facts}
 use Rattle.theory.specs.Least.{FirstNumber, first-number, number-is, means-some-number}
 use Rattle.theory.specs.FitRows.{Fit}
 use Rattle.theory.specs.Steps.{wraps, grows, next-number}
 use Rattle.theory.specs.Links.{link-facts, AtCorner, at-corner}
 use Rattle.theory.specs.Meeting.{Crossing, Doubled, one-link, clash-crosses, crossing-clashes, three-clash, doubled-joins, meet-either-way, few, joined-corners}
-use Rattle.siblings.specs.Siblings.{sibling}
-use Rattle.siblings.specs.Uses.{sibling-side, sibling-joins, sibling-other}
+use Rattle.theory.specs.SiblingUses.{sibling-side, sibling-joins, sibling-other}
 use Rattle.siblings.specs.Crossings.{Cross, FirstCrossed}
 use Rattle.checks.specs.Maps.{two-by-two}
 use Rattle.meeting.specs.Folds.{isFolded, foldedElement, LesserOf}

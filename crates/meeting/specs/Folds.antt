@@ -8,7 +8,7 @@ use Prim.Native.Nat.{ℕ, _+_, _*_, _≤_}
 use lib.Dec.{eqb}
 use Rattle.lists.specs.Tests.{both}
 use Rattle.rules.specs.Elements.{elements, element, firstNumber}
-use Rattle.siblings.specs.Siblings.{sibling}
+use Rattle.rules.specs.Siblings.{sibling}
 
 unfoldable pub isFolded : List ℕ → ℕ → Bool
 isFolded L f =

@@ -8,9 +8,9 @@ use lib.ListN.{length}
 use Rattle.lists.specs.Search.{at}
 use Rattle.rules.specs.Elements.{slot}
 use Rattle.rules.specs.Pairing.{Element}
+use Rattle.rules.specs.Siblings.{sibling}
 use Rattle.theory.specs.Links.{at-corner}
 use Rattle.theory.specs.Meeting.{few}
-use Rattle.siblings.specs.Siblings.{sibling}
 use Rattle.checks.specs.Maps.{Mapped}
 
 module _ {n : ℕ} {L w : List ℕ} (g : Mapped n L w) (f : ℕ) (a : Element L f) {s i : ℕ} (code : s ≡ 8 * f + 1) (place : i ≡ slot s) where

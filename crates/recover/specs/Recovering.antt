@@ -18,7 +18,7 @@ use Rattle.rules.specs.Tables.{borders, columns, e2e, v2e}
 use Rattle.rules.specs.Recovery.{widened, walkTo, walk}
 use Rattle.rules.specs.Refusals.{Answer, gives, refused, crowdedSide, alikeSide, unorderedVertex, clashing, listAnswer, accepts}
 use Rattle.rules.specs.Refusals.{recovers, recoverLengths, lengthChecks, workAfter, after, onto, recoverAnswer, recoverList, recoverWork}
-use Rattle.theory.specs.Answers.{past-check, accepted-answer}
+use Rattle.theory.specs.Answers.{lengths-known, past-check, accepted-answer}
 use Rattle.theory.specs.FitRows.{means-call-sizes, means-sizes}
 use Rattle.theory.specs.Deciding.{means-accepted}
 use Rattle.theory.specs.Columns.{three-or-four, length-widened, narrowed, narrow-wide}
@@ -27,7 +27,7 @@ use Rattle.walk.specs.Layout.{Sizes, Walking}
 use Rattle.links.specs.Links.{LinkedBy}
 use Rattle.tabulate.specs.Results.{Sized, Tabulated}
 use Rattle.buffers.specs.Whole.{onto-full}
-use Rattle.build.specs.Building.{holds-front, lengths-known}
+use Rattle.build.specs.Building.{holds-front}
 
 -- E2e has three columns or four
 abbrev pub EitherLong : ℕ → List ℕ → Type 0

@@ -10,9 +10,7 @@ use Rattle.lists.specs.Search.{at}
 use Rattle.rules.specs.Elements.{slot}
 use Rattle.theory.specs.Sides.{side-facts}
 use Rattle.theory.specs.Links.{Spans, link-facts, link-side}
-use Rattle.siblings.specs.Siblings.{Between}
-use Rattle.siblings.specs.SiblingLaws.{between-spans, spans-between}
-use Rattle.siblings.specs.Rings.{Next, rises, returns}
+use Rattle.theory.specs.Siblings.{Between, between-spans, spans-between, Next, rises, returns}
 use Rattle.siblings.proofs.Inserting.{Knows, nobody, side-last, diagonal-first}
 use Rattle.siblings.specs.Crossings.{Cross, Met, Seen, LeastCrossed, First, itself, ringed, Lesser, new, old, With, beside, across}
 

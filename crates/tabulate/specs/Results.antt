@@ -9,22 +9,21 @@ use lib.Dec.{T, eqb}
 use lib.ListN.{length, take, drop}
 use Rattle.lists.specs.Search.{at}
 use Rattle.lists.specs.SearchLaws.{count-bound}
-use Rattle.lists.specs.TestLaws.{both-pass, means-eq}
 use Rattle.lists.specs.Parts.{part, part-take}
 use Rattle.lists.specs.Stores.{Kept}
 use Rattle.rules.specs.Elements.{maxElement, elements, element, number, sideAt, slot, sideWith, firstNumber, countSides}
-use Rattle.rules.specs.Pairing.{sizesFit, unfitCorner, repeatedCorner, rowsFit, Element}
+use Rattle.rules.specs.Pairing.{sizesFit, Element}
 use Rattle.rules.specs.Tables.{borders, edges, b2e, wide, v2e}
 use Rattle.rules.specs.Recovery.{walkTo, walk}
-use Rattle.rules.specs.Refusals.{Answer, gives, refused, crowdedSide, alikeSide, missed, unorderedVertex, clashOf, clashing, sideCheck, vertexCheck, pairCheck, listAnswer}
+use Rattle.rules.specs.Refusals.{Answer, gives, refused, crowdedSide, alikeSide, missed, unorderedVertex, clashOf, clashing, sideCheck, vertexCheck, pairCheck, rowChecks, listAnswer}
 use Rattle.theory.specs.Sides.{sideAt-slot}
 use Rattle.theory.specs.Least.{FirstNumber, first-number}
-use Rattle.theory.specs.FitRows.{Fit, means-fit, no-side-at}
+use Rattle.theory.specs.FitRows.{Fit, no-side-at}
 use Rattle.theory.specs.Pairings.{the-pairing}
 use Rattle.theory.specs.Entries.{length-v2e}
 use Rattle.theory.specs.Built.{borders-bound}
 use Rattle.theory.specs.Walking.{walk-walked}
-use Rattle.theory.specs.Answers.{check-clear, check-refuses}
+use Rattle.theory.specs.Answers.{check-clear, check-refuses, rows-clear, rows-passed, rows-refused, fit-passed}
 use Rattle.walk.specs.Layout.{written, e2eIn, Walking}
 use Rattle.unordered.specs.Missed.{Walked}
 use Rattle.siblings.specs.Siblings.{Grouped, Room}
@@ -233,30 +232,15 @@ module _ {n a : ℕ} {L w₀ w : List ℕ} (p : Prepared n a L w₀ w) where
       pub fit-on : {r : Answer} {w′ : List ℕ} → Tabulated n L (pairedAnswer n L) r w w′ → Tabulated n L (fitAnswer n L) r w₀ w′
       fit-on x = restated (check-clear _ _ _ uncrowded ∙ check-clear _ _ _ apart) (p .same) x
 
--- checks 3 and 4, each by the corner that the search found
-module _ {n : ℕ} {L w : List ℕ} {r : Answer} where
-  pub refuses-3 : {s : ℕ} → (unfitCorner n L ≡ 0 → ⊥) × (unfitCorner n L ≡ s) → r ≡ refused 3 (element s) (number s) → Tabulated n L (listAnswer n L) r w w
+-- checks 3 and 4 refused, or the others follow
+module _ {n : ℕ} {L w : List ℕ} {rows : Answer} (checked : rows ≡ rowChecks n L (gives 0 0)) where
+  pub rows-refuse : {r p q : ℕ} → rows ≡ refused r p q → Tabulated n L (listAnswer n L) rows w w
   unfolding listAnswer
-  refuses-3 (d, e) f =
-      refuses f (check-refuses (unfitCorner n L) _ _ d ∙ ap (λ (s : ℕ). refused 3 (element s) (number s)) e) refl
+  rows-refuse e = refuses e (rows-refused n L (fitAnswer n L) (sym checked ∙ e)) refl
 
-  pub refuses-4 : {s : ℕ} → (unfitCorner n L ≡ 0) × (repeatedCorner L ≡ 0 → ⊥) × (repeatedCorner L ≡ s) → r ≡ refused 4 (element s) (number s) → Tabulated n L (listAnswer n L) r w w
+  pub rows-fit : {k e : ℕ} → rows ≡ gives k e → Sized n L w → Fit n L × (length w ≡ n + 12 * elements L)
+  rows-fit g s = (fit-passed n L (gives 0 0) (s .sizes) (sym checked ∙ g), s .long)
+
+  pub list-on : {k e : ℕ} {r : Answer} {w′ : List ℕ} → rows ≡ gives k e → Tabulated n L (fitAnswer n L) r w w′ → Tabulated n L (listAnswer n L) r w w′
   unfolding listAnswer
-  refuses-4 (z, d, e) f =
-      refuses f
-      (check-clear _ _ _ z ∙ check-refuses (repeatedCorner L) _ _ d ∙ ap (λ (s : ℕ). refused 4 (element s) (number s)) e)
-      refl
-
-  pub list-on : {w′ : List ℕ} → (unfitCorner n L ≡ 0) × (repeatedCorner L ≡ 0) → Tabulated n L (fitAnswer n L) r w w′ → Tabulated n L (listAnswer n L) r w w′
-  unfolding listAnswer
-  list-on (y, z) x = restated (check-clear _ _ _ y ∙ check-clear _ _ _ z) refl x
-
--- checks 3 and 4 found nothing: the rows are fit
-pub fit-rows : {n : ℕ} {L w : List ℕ} → Sized n L w → (unfitCorner n L ≡ 0) × (repeatedCorner L ≡ 0) → Fit n L × (length w ≡ n + 12 * elements L)
-unfolding rowsFit
-fit-rows {n} {L} s (e, f) = (
-  means-fit n L .says
-      (both-pass (sizesFit n L) _ (s .sizes)
-      (both-pass (eqb (unfitCorner n L) 0) (eqb (repeatedCorner L) 0) (means-eq (unfitCorner n L) 0 .shows e) (means-eq (repeatedCorner L) 0 .shows f))),
-  s .long,
-)
+  list-on g x = let (y, z, i) = rows-passed n L _ (sym checked ∙ g) in restated (rows-clear n L _ y z) refl x

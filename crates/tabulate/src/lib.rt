@@ -2,8 +2,8 @@
 ghost use mathlib.Core.Path.{_≡_};
 ghost use Prim.Native.Nat.{_+_, _*_};
 ghost use lib.ListN.{length};
-ghost use Rattle.rules.specs.Elements.{elements, element, number};
-ghost use Rattle.rules.specs.Refusals.{refused, clashing, listAnswer};
+ghost use Rattle.rules.specs.Elements.{elements};
+ghost use Rattle.rules.specs.Refusals.{clashing, listAnswer};
 ghost use Rattle.theory.specs.FitRows.{Fit};
 ghost use Rattle.answer.specs.Numbers.{numbers};
 ghost use Rattle.borders.specs.Numbers.{Ready};
@@ -11,27 +11,18 @@ ghost use Rattle.tabulate.specs.Results.{Sized, fitAnswer, pairedAnswer,
 use answer::Answer;
 use answer::give_two;
 use answer::refuse_at;
+use answer::refuse_side;
 use borders::number_borders;
 use checks::alike_side;
 use checks::crowded_side;
 use checks::first_sides;
-use corners::Fault;
-use corners::first_fault;
-use halfedge::element_of;
-use halfedge::number_of;
+use corners::check_rows;
 use halfedge::wide;
 use meeting::clash_of;
 use meeting::clashing_element;
 use siblings::siblings;
 use unordered::unordered_vertex;
 use walk::walk;
-
-// A refusal at the side or corner with this code.
-fn refusal_at(refusal: u32, code: u32) -> Answer
-    ensures { λ r. ⌜ numbers r ≡ refused refusal (element code) (number code) ⌝ }
-{
-    refuse_at(refusal, element_of(code), number_of(code))
-}
 
 // The tables and checks 8 and 18, where checks 3 to 7 found nothing; f is the element that 18 finds, or 0.
 fn tabulate_paired(n: u32, list: &[u32], work: &mut [u32], f: u32) -> Answer
@@ -64,11 +55,11 @@ fn tabulate_fit(n: u32, list: &[u32], work: &mut [u32]) -> Answer
     first_sides(vertices, list, work);
     let s = crowded_side(vertices, list, work);
     if s != 0 {
-        return refusal_at(6, s);
+        return refuse_side(6, s);
     }
     let t = alike_side(vertices, list, work);
     if t != 0 {
-        return refusal_at(7, t);
+        return refuse_side(7, t);
     }
     let f = clashing_element(vertices, list, work, crossed);
     tabulate_paired(n, list, work, f)
@@ -78,10 +69,13 @@ pub fn tabulate(n: u32, list: &[u32], work: &mut [u32]) -> Answer
     requires { ⌜ Sized n (now list) (now work) ⌝ }
     ensures { λ r. ⌜ Tabulated n (now (list .entry)) (listAnswer n (now (list .entry))) (numbers r) (now (work .entry)) (now (work .exit)) ⌝ }
 {
-    let fault = first_fault(n, list);
-    match fault {
-        Fault::Unfit(c) => refusal_at(3, c),
-        Fault::Repeated(c) => refusal_at(4, c),
-        Fault::Nothing => tabulate_fit(n, list, work),
-    }
+    let rows = check_rows(n, list);
+    let Answer::Gives {
+        first: _,
+        second: _,
+    } = rows
+    else {
+        return rows;
+    };
+    tabulate_fit(n, list, work)
 }

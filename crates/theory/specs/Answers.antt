@@ -5,17 +5,18 @@ use mathlib.Core.Path.{_≡_, refl, ap, sym, subst, _∙_}
 use mathlib.Core.Bool.{Bool, true, false}
 use mathlib.Core.Logic.{_⊎_, inl, inr, _↔_}
 use mathlib.Core.List.{List}
-use Prim.Native.Nat.{ℕ, _≤_, _<_}
+use Prim.Native.Nat.{ℕ, _+_, _*_, _≤_, _<_}
 use native.Mathlib.Omega.{arith}
 use lib.Dec.{T, leb, eqb, not-T}
 use lib.ListN.{length}
-use Rattle.lists.specs.TestLaws.{true-of, false-of, passes, means-not, means-eq, means-le, zero-or}
+use Rattle.lists.specs.Tests.{both}
+use Rattle.lists.specs.TestLaws.{true-of, false-of, passes, both-pass, means-not, means-eq, means-le, zero-or}
 use Rattle.lists.specs.SearchLaws.{le-or-lt}
 use Rattle.rules.specs.Pairing.{Accepted, unfitCorner, repeatedCorner, rowsFit, sizesFit}
 use Rattle.rules.specs.Tables.{partner, borders, edges}
-use Rattle.rules.specs.Refusals.{Answer, gives, refused, crowdedSide, alikeSide, unorderedVertex, clashing, sideCheck, checkFound, listAnswer, Buffers}
-use Rattle.rules.specs.Refusals.{buildLengths, lengthChecks, roomCheck, buildAnswer}
-use Rattle.theory.specs.FitRows.{means-fit}
+use Rattle.rules.specs.Refusals.{Answer, gives, refused, crowdedSide, alikeSide, unorderedVertex, clashing, checkFound, rowChecks, listAnswer, Buffers}
+use Rattle.rules.specs.Refusals.{callLengths, buildLengths, lengthChecks, roomCheck, buildAnswer}
+use Rattle.theory.specs.FitRows.{Fit, means-fit}
 use Rattle.theory.specs.Pairings.{pairing-exists, the-pairing}
 use Rattle.theory.specs.Orders.{good, accepted-of}
 use Rattle.theory.specs.Deciding.{means-ordered, means-conformal}
@@ -29,6 +30,15 @@ module _ (x : ℕ) (refusal rest : Answer) where
   pub check-refuses : (x ≡ 0 → ⊥) → checkFound x refusal rest ≡ refusal
   unfolding checkFound
   check-refuses d = rw (false-of (eqb x 0) (means-not (means-eq x 0) .shows d), checkFound)
+
+-- what check 2 says of a call with a work buffer
+pub lengths-known : (n m : ℕ) (others : Bool) (V2e work : List ℕ) → callLengths n m others V2e work ≡ true
+    → (length V2e ≡ n) × T others × (n + 16 * m ≤ length work)
+unfolding callLengths
+lengths-known n m others V2e work e =
+    let (a, t) = passes (eqb (length V2e) n) (both others (leb (n + 16 * m) (length work))) (rw e tt) in
+    let (b, c) = passes others (leb (n + 16 * m) (length work)) t in
+    (means-eq (length V2e) n .says a, b, means-le (n + 16 * m) (length work) .says c)
 
 -- B2e holds k entries, or 9 comes
 pub room-enough : (room k e : ℕ) → k ≤ room → roomCheck room (gives k e) ≡ gives k e
@@ -62,6 +72,34 @@ past-check x k e r p q rest g = go (zero-or x)
     go (inl z) = (z, sym (check-clear x (refused r p q) rest z) ∙ g)
     go (inr d) = let h = check-refuses x (refused r p q) rest d in let z : _≡_ {A = ℕ} 0 1 = cc in absurd (omega arith)
 
+-- checks 3 and 4: what they say by themselves they say before any later check
+module _ (n : ℕ) (L : List ℕ) where
+  pub rows-clear : (rest : Answer) → unfitCorner n L ≡ 0 → repeatedCorner L ≡ 0 → rowChecks n L rest ≡ rest
+  rows-clear rest e f = check-clear _ _ _ e ∙ check-clear _ _ _ f
+
+  pub rows-passed : {k e : ℕ} (rest : Answer) → rowChecks n L rest ≡ gives k e → (unfitCorner n L ≡ 0) × (repeatedCorner L ≡ 0) × (rest ≡ gives k e)
+  rows-passed rest g =
+      let (x, h) = past-check (unfitCorner n L) _ _ _ _ _ _ g in
+      let (y, i) = past-check (repeatedCorner L) _ _ _ _ _ _ h in (x, y, i)
+
+  -- past them, with fit sizes, the rows are fit
+  pub fit-passed : {k e : ℕ} (rest : Answer) → T (sizesFit n L) → rowChecks n L rest ≡ gives k e → Fit n L
+  unfolding rowsFit
+  fit-passed rest sizes g =
+      let (x, y, i) = rows-passed rest g in
+      means-fit n L .says
+      (both-pass (sizesFit n L) _ sizes
+      (both-pass (eqb (unfitCorner n L) 0) (eqb (repeatedCorner L) 0) (means-eq _ 0 .shows x) (means-eq _ 0 .shows y)))
+
+  pub rows-refused : {r p q : ℕ} (rest : Answer) → rowChecks n L (gives 0 0) ≡ refused r p q → rowChecks n L rest ≡ refused r p q
+  rows-refused {r} {p} {q} rest g = go (zero-or (unfitCorner n L)) (zero-or (repeatedCorner L))
+    where
+      go : (unfitCorner n L ≡ 0) ⊎ (unfitCorner n L ≡ 0 → ⊥) → (repeatedCorner L ≡ 0) ⊎ (repeatedCorner L ≡ 0 → ⊥) → rowChecks n L rest ≡ refused r p q
+      go (inr d) y = check-refuses _ _ _ d ∙ sym (check-refuses _ _ _ d) ∙ g
+      go (inl x) (inr d) = check-clear _ _ _ x ∙ check-refuses _ _ _ d ∙ sym (check-clear _ _ _ x ∙ check-refuses _ _ _ d) ∙ g
+      go (inl x) (inl y) =
+          let f = sym (rows-clear (gives 0 0) x y) ∙ g in let z : _≡_ {A = ℕ} 0 1 = cc in absurd (omega arith)
+
 -- one of the refusals 6 to 8 and 18
 abbrev pub LateNumber : ℕ → Type 0
 LateNumber r = ((6 ≤ r) × (r ≤ 8)) ⊎ (r ≡ 18)
@@ -78,13 +116,12 @@ late-check x r p q rest late f = go (zero-or x)
 
 module _ (n : ℕ) (L : List ℕ) (rows : T (rowsFit n L)) where
   -- with fit rows checks 3 and 4 find nothing
-  rows-clear : (rest : Answer) → sideCheck 3 (unfitCorner n L) (sideCheck 4 (repeatedCorner L) rest) ≡ rest
+  pub fit-rows-clear : (rest : Answer) → rowChecks n L rest ≡ rest
   unfolding rowsFit
-  rows-clear rest =
+  fit-rows-clear rest =
       let (a, t) = passes (sizesFit n L) _ rows in
       let (b, c) = passes (eqb (unfitCorner n L) 0) (eqb (repeatedCorner L) 0) t in
-      check-clear (unfitCorner n L) _ _ (means-eq (unfitCorner n L) 0 .says b)
-      ∙ check-clear (repeatedCorner L) _ rest (means-eq (repeatedCorner L) 0 .says c)
+      rows-clear n L rest (means-eq (unfitCorner n L) 0 .says b) (means-eq (repeatedCorner L) 0 .says c)
 
   -- of an accepted list checks 3 to 8 and 18 find nothing
   pub accepted-answer : Accepted n L → listAnswer n L ≡ gives (borders L) (edges L)
@@ -92,7 +129,7 @@ module _ (n : ℕ) (L : List ℕ) (rows : T (rowsFit n L)) where
   accepted-answer x =
       let g = good n L x in
       let (c, d) = pairing-exists n L (g .fit) .0 (partner L, g .pairing) in
-      rows-clear _
+      fit-rows-clear _
       ∙ check-clear (crowdedSide L) _ _ c
       ∙ check-clear (alikeSide L) _ _ d
       ∙ check-clear (unorderedVertex n L) _ _ (means-eq (unorderedVertex n L) 0 .says (means-ordered n L (g .pairing) .shows (g .orders)))
@@ -103,7 +140,7 @@ module _ (n : ℕ) (L : List ℕ) (rows : T (rowsFit n L)) where
   unfolding listAnswer
   unaccepted-answer none =
       let fit = means-fit n L .says rows in
-      subst Late (sym (rows-clear _))
+      subst Late (sym (fit-rows-clear _))
       (late-check (crowdedSide L) 6 _ _ _ (inl (omega arith, omega arith))
       (λ c.
       late-check (alikeSide L) 7 _ _ _ (inl (omega arith, omega arith))

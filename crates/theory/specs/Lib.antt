@@ -5,6 +5,9 @@ pub mod FitRows
 pub mod Links
 pub mod Pairings
 pub mod Meeting
+pub mod Siblings
+pub mod SiblingUses
+pub mod Rounds
 pub mod Entries
 pub mod Columns
 pub mod Turns

@@ -84,6 +84,10 @@ module _ (L : List ℕ) where
   unfolding slot
   slot-less s t a b h = omega (arith, side-facts s a, side-facts t b)
 
+  pub less-slot : (s t : ℕ) → Side L s → Side L t → slot s < slot t → s < t
+  unfolding slot
+  less-slot s t a b h = omega (arith, side-facts s a, side-facts t b)
+
 -- a place of the list where no side stands is a triangle's fourth, and holds 0
 pub no-side-zero : (L : List ℕ) (q : ℕ) → q < 4 * elements L → T (not (isSide L (sideAt q))) → at L q ≡ 0
 unfolding sideAt

@@ -72,14 +72,13 @@ pub record FirstBack (x k : ℕ) (xs : ℕ → ℕ) : Type 0 where
   pub sooner : (j : ℕ) → 1 ≤ j → j < k → xs j ≡ x → ⊥
 
 -- j steps of next from side i of k count on from i, and after k from 1 again
-data Ahead (k i j r : ℕ) : Type 0 where
+pub data Ahead (k i j r : ℕ) : Type 0 where
   on : i + j ≤ k → r ≡ i + j → Ahead k i j r
   round : k < i + j → r + k ≡ i + j → Ahead k i j r
 
--- so from side i of k, next first comes back after exactly k steps
 module _ (k i : ℕ) (ns : ℕ → ℕ) (from : 1 ≤ i) (to : i ≤ k) (begins : ns 0 ≡ i)
     (steps : (j : ℕ) → 1 ≤ ns j → ns j ≤ k → ns (suc j) ≡ nextNumber k (ns j)) where
-  ahead : (j : ℕ) → j ≤ k → Ahead k i j (ns j)
+  pub ahead : (j : ℕ) → j ≤ k → Ahead k i j (ns j)
   ahead zero h = on (omega arith) (omega arith)
   ahead (suc j) h = go (ahead j (omega arith)) (next-number k (ns j))
     where
@@ -89,6 +88,7 @@ module _ (k i : ℕ) (ns : ℕ → ℕ) (from : 1 ≤ i) (to : i ≤ k) (begins 
       go (round a e) (wraps f g) = absurd (omega arith)
       go (round a e) (grows f g) = let s = steps j (omega arith) (omega arith) in round (omega arith) (omega arith)
 
+  -- so next first comes back after exactly k steps
   pub next-first-back : FirstBack i k ns
   next-first-back = record { back = go (ahead k (omega arith)); sooner = λ j l h. went j l h (ahead j (omega arith)) }
     where

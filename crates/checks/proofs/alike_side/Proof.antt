@@ -7,7 +7,7 @@ use borrow.Author.Needs.{needs}
 use lib.Dec.{T-not}
 use lib.ListN.{length}
 use Rattle.rules.specs.Elements.{Side}
-use Rattle.siblings.specs.Siblings.{sibling}
+use Rattle.rules.specs.Siblings.{sibling}
 use Rattle.checks.specs.Maps.{alike-found, alike-later, alike-nowhere, NotAlike, two-by-two}
 use Rattle.checks.proofs.alike_side.Statement.{statement}
 use Rattle.checks.proofs.alike_side.Tie as tie

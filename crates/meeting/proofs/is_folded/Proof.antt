@@ -8,7 +8,7 @@ use lib.ListN.{length}
 use borrow.Author.Needs.{needs}
 use Rattle.lists.specs.TestLaws.{true-of, false-of, means-eq, means-not}
 use Rattle.rules.specs.Elements.{element}
-use Rattle.siblings.specs.Siblings.{sibling}
+use Rattle.rules.specs.Siblings.{sibling}
 use Rattle.meeting.specs.Folds.{isFolded}
 use Rattle.meeting.specs.Places.{first-place, second-place, places-below}
 use Rattle.meeting.proofs.is_folded.Statement.{statement}

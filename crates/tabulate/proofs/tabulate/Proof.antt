@@ -1,71 +1,52 @@
 -- `tabulate::tabulate` meets its contract.
 -- Assumes nothing.
-use mathlib.Core.Path.{_≡_}
+use mathlib.Core.Path.{ap}
 use borrow.Author.Needs.{needs}
-use Rattle.rules.specs.Pairing.{unfitCorner, repeatedCorner}
 use Rattle.theory.specs.FitRows.{means-sizes}
-use Rattle.corners.specs.Found.{found-unfit, found-repeated, found-nothing}
-use Rattle.tabulate.specs.Results.{fit-rows, refuses-3, refuses-4, list-on}
+use Rattle.answer.specs.Numbers.{numbers}
+use Rattle.tabulate.specs.Results.{rows-refuse, rows-fit, list-on}
 use Rattle.tabulate.proofs.tabulate.Statement.{statement}
 use Rattle.tabulate.proofs.tabulate.Tie as tie
 
-abbrev begun : tie.After-first-fault → tie.Start
-begun c = c .before .before .before
+-- where the rows were checked, before they were found fit
+abbrev asked : tie.After-enum-told → tie.After-check-rows
+asked c = c .before .before
 
-nothing : (c : tie.After-enum-told) → let a = begun (c .before .before) .args in (unfitCorner (a .n) (a .list .now) ≡ 0) × (repeatedCorner (a .list .now) ≡ 0)
-nothing c = let asked = c .before .before in found-nothing _ _ _ (asked .first-fault .ensures) (c .enum-told .given .1)
-
-first-fault-requires : tie.Need-first-fault-requires
-first-fault-requires c κs = let (a, (b, d)) = means-sizes _ _ .says (c .before .before .pre .sizes) in (d, b)
-
-enum-known-fault : tie.Need-enum-known-fault
-enum-known-fault c = search needs
-
-refusal-at-requires : tie.Need-refusal-at-requires
-refusal-at-requires c κs = search needs
-
-enum-known-fault-2 : tie.Need-enum-known-fault-2
-enum-known-fault-2 c = search needs
-
-refusal-at-requires-2 : tie.Need-refusal-at-requires-2
-refusal-at-requires-2 c κs = search needs
+check-rows-requires : tie.Need-check-rows-requires
+check-rows-requires c κs = let (a, (b, d)) = means-sizes _ _ .says (c .before .before .pre .sizes) in (d, b)
 
 enum-told : tie.Need-enum-told
 enum-told c = search needs
 
-tabulate-fit-requires : tie.Need-tabulate-fit-requires
-tabulate-fit-requires c κs = let none = c .before in fit-rows (begun (none .before .before) .pre) (nothing none)
+enum-told-2 : tie.Need-enum-told-2
+enum-told-2 c = search needs
 
 returns : tie.Need-returns
-returns c =
-    let told = c .before .before in
-    let asked = told .before .before in
-    refuses-3 (found-unfit _ _ _ (asked .first-fault .ensures) _ (told .fault .given .1)) (c .refusal-at .ensures)
+returns c = rows-refuse (c .before .before .check-rows .ensures) (ap numbers (c .enum-told2 .given .1))
 
-returns-2 : tie.Need-returns-2
-returns-2 c =
-    let told = c .before .before in
-    let asked = told .before .before in
-    refuses-4 (found-repeated _ _ _ (asked .first-fault .ensures) _ (told .fault2 .given .1)) (c .refusal-at2 .ensures)
+tabulate-fit-requires : tie.Need-tabulate-fit-requires
+tabulate-fit-requires c κs =
+    let told = c .before in
+    let rows = asked told in
+    rows-fit (rows .check-rows .ensures) (ap numbers (told .enum-told .given .1)) (rows .before .before .before .pre)
 
 same-length : tie.Need-same-length
 same-length c = search needs
 
-returns-3 : tie.Need-returns-3
-returns-3 c = let done = c .before .before in list-on (nothing (done .before .before)) (done .tabulate-fit .ensures)
+returns-2 : tie.Need-returns-2
+returns-2 c =
+    let done = c .before .before in
+    let told = done .before .before in
+    list-on (asked told .check-rows .ensures) (ap numbers (told .enum-told .given .1)) (done .tabulate-fit .ensures)
 
 pub tabulate-spec : {M : Type 1} → statement M
 tabulate-spec =
     tie.close
     (tie.spec
-    first-fault-requires
-    enum-known-fault
-    refusal-at-requires
-    enum-known-fault-2
-    refusal-at-requires-2
+    check-rows-requires
     enum-told
-    tabulate-fit-requires
+    enum-told-2
     returns
-    returns-2
+    tabulate-fit-requires
     same-length
-    returns-3)
+    returns-2)

@@ -50,8 +50,8 @@ first-sides-requires c κs =
 crowded-side-requires : tie.Need-crowded-side-requires
 crowded-side-requires c κs = done (firsted c) .mapped
 
-refusal-at-requires : tie.Need-refusal-at-requires
-refusal-at-requires c κs = search needs
+refuse-side-requires : tie.Need-refuse-side-requires
+refuse-side-requires c κs = search needs
 
 same-length : tie.Need-same-length
 same-length c = search needs
@@ -59,13 +59,13 @@ same-length c = search needs
 returns : tie.Need-returns
 returns c =
     let found = c .before .before in
-    refuses-6 (done (at-6 found)) (found .crowded-side .ensures) (c .before .if1 .taken) (c .refusal-at .ensures)
+    refuses-6 (done (at-6 found)) (found .crowded-side .ensures) (c .before .if1 .taken) (c .refuse-side .ensures)
 
 alike-side-requires : tie.Need-alike-side-requires
 alike-side-requires c κs = (done (at-6 (c .before .before)) .mapped, uncrowded (c .before))
 
-refusal-at-requires-2 : tie.Need-refusal-at-requires-2
-refusal-at-requires-2 c κs = search needs
+refuse-side-requires-2 : tie.Need-refuse-side-requires-2
+refuse-side-requires-2 c κs = search needs
 
 same-length-2 : tie.Need-same-length-2
 same-length-2 c = search needs
@@ -74,7 +74,7 @@ returns-2 : tie.Need-returns-2
 returns-2 c =
     let found = c .before .before in
     let one = at-7 found in
-    refuses-7 (done (at-6 (one .before))) (uncrowded one) (found .alike-side .ensures) (c .before .if2 .taken) (c .refusal-at2 .ensures)
+    refuses-7 (done (at-6 (one .before))) (uncrowded one) (found .alike-side .ensures) (c .before .if2 .taken) (c .refuse-side2 .ensures)
 
 clashing-element-requires : tie.Need-clashing-element-requires
 clashing-element-requires c κs =
@@ -106,11 +106,11 @@ tabulate-fit-spec =
     siblings-requires
     first-sides-requires
     crowded-side-requires
-    refusal-at-requires
+    refuse-side-requires
     same-length
     returns
     alike-side-requires
-    refusal-at-requires-2
+    refuse-side-requires-2
     same-length-2
     returns-2
     clashing-element-requires

@@ -12,12 +12,26 @@ use Rattle.lists.specs.TestLaws.{Test, pass, fail, test, Means, means-itself, m
 use Rattle.lists.specs.SearchLaws.{le-not-lt}
 use Rattle.rules.specs.Elements.{Side, firstSide}
 use Rattle.rules.specs.Pairing.{joins}
+use Rattle.rules.specs.Siblings.{sibling}
 use Rattle.theory.specs.Sides.{side-facts, side-positive}
 use Rattle.theory.specs.Least.{First, nobody, somebody, first-side}
-use Rattle.theory.specs.Links.{beyond, side, Spans, low-side, high-side}
+use Rattle.theory.specs.Links.{lesser, greater, beyond, side, Spans, low-side, high-side}
 use Rattle.theory.specs.Meeting.{means-joined}
-use Rattle.siblings.specs.Siblings.{sibling, Between}
-use Rattle.siblings.specs.Rings.{Next, rises, returns}
+
+-- s is a side between u and v, and u is the lesser
+pub record Between (L : List ℕ) (u v s : ℕ) : Type 0 where
+  pub side : Side L s
+  pub low : lesser L s ≡ u
+  pub high : greater L s ≡ v
+
+-- x follows t in the ring of the sides between u and v with codes below c
+pub data Next (L : List ℕ) (u v c t x : ℕ) : Type 0 where
+  rises : Between L u v x → t < x → x < c → ((y : ℕ) → Between L u v y → t < y → y < x → ⊥) → Next L u v c t x
+  returns : Between L u v x → x ≤ t → ((y : ℕ) → Between L u v y → t < y → y < c → ⊥) → ((y : ℕ) → Between L u v y → y < x → ⊥) → Next L u v c t x
+
+pub next-between : {L : List ℕ} {u v c t x : ℕ} → Next L u v c t x → Between L u v x
+next-between (rises b h i f) = b
+next-between (returns b h f g) = b
 
 -- a side between two vertices is a link between them
 pub between-spans : {L : List ℕ} {u v s : ℕ} → Between L u v s → Spans L u v s

@@ -15,21 +15,16 @@ use Rattle.lists.specs.CountLaws.{Three, three, three-counted}
 use Rattle.rules.specs.Elements.{isSide, Side, slot, origin, sideAt, sideWith, firstSide, countSides}
 use Rattle.rules.specs.Pairing.{alike, opposed, joins}
 use Rattle.rules.specs.Tables.{partner}
+use Rattle.rules.specs.Siblings.{sibling}
 use Rattle.theory.specs.Sides.{slot-sideAt, sideAt-slot, slot-below, slot-inj}
 use Rattle.theory.specs.Least.{first-found, means-some}
 use Rattle.theory.specs.FitRows.{Fit, ends-differ}
 use Rattle.theory.specs.Links.{lesser, greater, beyond}
 use Rattle.theory.specs.Pairings.{means-alike, means-opposed, means-joins, partner-opposed}
-use Rattle.siblings.specs.Siblings.{sibling, Between}
-use Rattle.siblings.specs.SiblingLaws.{side-beyond, joins-between, between-joins, sibling-follows}
-use Rattle.siblings.specs.Rings.{Next, rises, returns}
+use Rattle.theory.specs.Siblings.{Between, side-beyond, joins-between, between-joins, sibling-follows, Next, rises, returns, next-between}
 
 -- a side and what follows it, and what follows that, in the ring of all sides between u and v
 module _ (L : List ℕ) {u v : ℕ} where
-  next-between : {c s x : ℕ} → Next L u v c s x → Between L u v x
-  next-between (rises b h i f) = b
-  next-between (returns b h f g) = b
-
   -- a side that follows itself is alone
   alone : (s : ℕ) → Next L u v (beyond L) s s → (t : ℕ) → Between L u v t → t ≡ s
   alone s (rises b h i f) t k = absurd (omega arith)
@@ -64,7 +59,7 @@ module _ (L : List ℕ) (s : ℕ) (a : Side L s) where
   follows = sibling-follows L s own
 
   between : Between L (lesser L s) (greater L s) (sibling L s)
-  between = next-between L follows
+  between = next-between follows
 
   -- the sibling is a side that joins the same two vertices
   pub sibling-side : Side L (sibling L s)
@@ -121,7 +116,7 @@ module _ (L : List ℕ) (s : ℕ) (a : Side L s) where
       counted d =
           let x = sibling L s in
           let y = sibling L x in
-          let third = next-between L again in
+          let third = next-between again in
           let first : s ≡ x → ⊥ = λ e. d (ap (sibling L) (sym e) ∙ sym e) in
           let second : x ≡ y → ⊥ = λ e. d (sym e ∙ sym (alone L x (rw (sym e) at again) s own)) in
           three-counted (sideWith L (joins L s)) (length L) (slot s) (slot x) (slot y)

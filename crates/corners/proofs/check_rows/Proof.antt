@@ -1,6 +1,6 @@
--- `corners::first_fault` meets its contract: row after row, the rows before hold no unfit corner.
+-- `corners::check_rows` meets its contract: row after row, the rows before hold no unfit corner.
 -- Assumes nothing.
-use mathlib.Core.Path.{refl}
+use mathlib.Core.Path.{refl, _∙_}
 use mathlib.Core.List.{List}
 use Prim.Native.Nat.{ℕ, _+_, _*_, _-_, _≤_}
 use native.Mathlib.Omega.{arith}
@@ -10,8 +10,8 @@ use Rattle.rules.specs.Elements.{maxElement}
 use Rattle.corners.specs.Faults.{UnfitIn}
 use Rattle.corners.specs.Scan.{rowAt, Scanned, scan-start, scan-unfit, scan-row, scan-repeated, scan-nothing, first-le-four}
 use borrow.Author.Needs.{needs}
-use Rattle.corners.proofs.first_fault.Statement.{statement}
-use Rattle.corners.proofs.first_fault.Tie as tie
+use Rattle.corners.proofs.check_rows.Statement.{statement}
+use Rattle.corners.proofs.check_rows.Tie as tie
 
 abbrev Inv-loop : tie.InvT-loop
 Inv-loop n list repeated₀ a₀ repeated a = Scanned n list a repeated
@@ -89,11 +89,16 @@ code-at-requires c κs =
     let read = c .before .before in
     let d = c .before .if1 .taken in omega (arith, fits (inside read), bound (inside read), small read)
 
+refuse-side-requires : tie.Need-refuse-side-requires Inv-loop μ-loop
+refuse-side-requires c κs = search needs
+
 returns : tie.Need-returns Inv-loop μ-loop
 returns c =
-    let found = c .before .before in
+    let coded = c .before in
+    let found = coded .before .before in
     let read = found .before in
-    scan-unfit (inside read .before .loop .inv) refl (fits (inside read)) (unfit-in read) (found .if1 .taken) (c .before .wide .ensures) (c .code-at .ensures)
+    c .refuse-side .ensures
+    ∙ scan-unfit (inside read .before .loop .inv) refl (fits (inside read)) (unfit-in read) (found .if1 .taken) (coded .before .wide .ensures) (coded .code-at .ensures)
 
 first-repeated-requires : tie.Need-first-repeated-requires Inv-loop μ-loop
 first-repeated-requires c κs = let i = inside (c .before) in omega (arith, fits i, bound i)
@@ -108,14 +113,24 @@ loop-again c =
     scan-row (inside read .before .loop .inv) refl (fits (inside read)) (rw (c .before .if1 .left, row-is) at (read .unfit-in .ensures))
     (rw row-is at (c .first-repeated .ensures))
 
+refuse-side-requires-2 : tie.Need-refuse-side-requires-2 Inv-loop μ-loop
+refuse-side-requires-2 c κs = search needs
+
 returns-2 : tie.Need-returns-2 Inv-loop μ-loop
-returns-2 c = scan-repeated (c .before .before .loop .inv) (omega arith) (c .if2 .taken)
+returns-2 c =
+    let all = c .before in
+    c .refuse-side2 .ensures ∙ scan-repeated (all .before .before .loop .inv) (omega arith) (all .if2 .taken)
+
+give-two-requires : tie.Need-give-two-requires Inv-loop μ-loop
+give-two-requires c κs = search needs
 
 returns-3 : tie.Need-returns-3 Inv-loop μ-loop
-returns-3 c = scan-nothing (c .before .before .loop .inv) (omega arith) (c .if2 .left)
+returns-3 c =
+    let all = c .before in
+    c .give-two .ensures ∙ scan-nothing (all .before .before .loop .inv) (omega arith) (all .if2 .left)
 
-pub first-fault-spec : {M : Type 1} → statement M
-first-fault-spec =
+pub check-rows-spec : {M : Type 1} → statement M
+check-rows-spec =
     tie.close
     (tie.spec
     Inv-loop
@@ -132,9 +147,12 @@ first-fault-spec =
     add-code-at
     sub-code-at
     code-at-requires
+    refuse-side-requires
     returns
     first-repeated-requires
     loop-less
     loop-again
+    refuse-side-requires-2
     returns-2
+    give-two-requires
     returns-3)

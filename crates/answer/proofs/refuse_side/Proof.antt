@@ -1,8 +1,8 @@
--- `tabulate::refusal_at` meets its contract.
+-- `answer::refuse_side` meets its contract.
 -- Assumes nothing.
 use borrow.Author.Needs.{needs}
-use Rattle.tabulate.proofs.refusal_at.Statement.{statement}
-use Rattle.tabulate.proofs.refusal_at.Tie as tie
+use Rattle.answer.proofs.refuse_side.Statement.{statement}
+use Rattle.answer.proofs.refuse_side.Tie as tie
 
 element-of-requires : tie.Need-element-of-requires
 element-of-requires c κs = search needs
@@ -16,6 +16,6 @@ refuse-at-requires c κs = search needs
 returns : tie.Need-returns
 returns c = rw (c .before .before .element-of .ensures, c .before .number-of .ensures) at (c .refuse-at .ensures)
 
-pub refusal-at-spec : {M : Type 1} → statement M
-refusal-at-spec =
+pub refuse-side-spec : {M : Type 1} → statement M
+refuse-side-spec =
     tie.close (tie.spec element-of-requires number-of-requires refuse-at-requires returns)
