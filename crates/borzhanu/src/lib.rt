@@ -7,7 +7,9 @@ ghost use Rattle.rules.specs.Refusals.{buildAnswer, buildLeaves, recoverAnswer,
 ghost use Rattle.rules.specs.Queries.{told, columnsAnswer, oppositeAnswer, nextAnswer, previousAnswer, elementAnswer, originAnswer, destinationAnswer, acrossAnswer};
 ghost use Rattle.rules.specs.Queries.{halfEdgeBorderAnswer, vertexBorderAnswer, ringAnswer, ringLeaves, neighboursAnswer, neighboursLeaves, borderLoopAnswer};
 ghost use Rattle.rules.specs.Queries.{borderLoopLeaves, walkerStart, walkerStep};
+ghost use Rattle.rules.specs.Siblings.{siblingsAnswer, siblingsLeaves};
 ghost use Rattle.build.specs.Building.{lent};
+ghost use Rattle.sibling_map.specs.Mapping.{lent as lentTo};
 ghost use Rattle.walker.specs.Walkers.{calledBy};
 ghost use Rattle.borzhanu.specs.Walkers.{walkerIn, entriesOf};
 
@@ -50,6 +52,21 @@ pub extern "C" fn borzhanu_recover(
     ensures { λ _. ⌜ now (work .exit) ≡ recoverWork n m (now (v2e .entry)) (now (e2e .entry)) (now (elements .entry)) (now (work .entry)) ⌝ }
 {
     answer::pack(recover::recover(n, m, v2e, e2e, elements, work))
+}
+
+// The next side of the same two vertices for each side, and the least side of each vertex.
+#[no_mangle]
+pub extern "C" fn borzhanu_siblings(
+    n: u32,
+    elements: &[u32],
+    v2e: &mut [u32],
+    siblings: &mut [u32],
+    work: &mut [u32],
+) -> u64
+    ensures { λ r. ⌜ r ≡ packedAnswer (siblingsAnswer n (now (elements .entry)) (lentTo (now (v2e .entry)) (now (siblings .entry)) (now (work .entry)))) ⌝ }
+    ensures { λ _. ⌜ lentTo (now (v2e .exit)) (now (siblings .exit)) (now (work .exit)) ≡ siblingsLeaves n (now (elements .entry)) (lentTo (now (v2e .entry)) (now (siblings .entry)) (now (work .entry))) ⌝ }
+{
+    answer::pack(sibling_map::siblings(n, elements, v2e, siblings, work))
 }
 
 // The half-edge that runs along the same edge the other way.

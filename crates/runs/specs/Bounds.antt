@@ -17,7 +17,8 @@ use Rattle.rules.specs.Elements.{firstNumber}
 use Rattle.rules.specs.Pairing.{callSizes, sizesFit, unfitCorner, repeatedCorner}
 use Rattle.rules.specs.Tables.{borders, columns, edges}
 use Rattle.rules.specs.Refusals.{clashOf, clashing, Answer, gives, refused, Buffers, crowdedSide, alikeSide, unorderedVertex, checkFound}
-use Rattle.rules.specs.Refusals.{listAnswer, lengthChecks, roomCheck, buildAnswer, recovers, recoverAnswer}
+use Rattle.rules.specs.Refusals.{rowChecks, listAnswer, lengthChecks, roomCheck, buildAnswer, recovers, recoverAnswer}
+use Rattle.rules.specs.Siblings.{SiblingBuffers, siblingsAnswer}
 use Rattle.rules.specs.Queries.{Mesh, columnsAnswer, queryLengths, asked, defined, found, listed, andThen, prepend, readAll, read, bySide, byEntry, follow, over, isBorderCode, isHalfEdge, isEntry}
 use Rattle.rules.specs.Queries.{isVertex, readOpposite, readBorderSide, readVertexEntry, readOrigin, readDestination, opposite, borderNext, startSide}
 use Rattle.rules.specs.Queries.{onward, ringSides, ring, neighbours, loopNext, borderLoop, listedAnswer, oppositeAnswer, nextAnswer, previousAnswer}
@@ -90,20 +91,29 @@ module _ (n : ℕ) (L : List ℕ) (z : Sized n L) where
     omega (arith, borders-bound L, count-bound (sideWith L (λ s. true)) (length L)),
   )
 
-  list-fits : Fits (listAnswer n L)
-  unfolding listAnswer unfitCorner repeatedCorner crowdedSide alikeSide unorderedVertex clashing clashOf
-  list-fits =
+  rows-fit : (rest : Answer) → Fits rest → Fits (rowChecks n L rest)
+  unfolding unfitCorner repeatedCorner
+  rows-fit rest f =
       check-fits _ _ _ (side-fits 3 _ (omega arith) (omega arith) (side _))
-      (check-fits _ _ _ (side-fits 4 _ (omega arith) (omega arith) (side _))
+      (check-fits _ _ rest (side-fits 4 _ (omega arith) (omega arith) (side _)) f)
+
+  list-fits : Fits (listAnswer n L)
+  unfolding listAnswer crowdedSide alikeSide unorderedVertex clashing clashOf
+  list-fits =
+      rows-fit _
       (check-fits _ _ _ (side-fits 6 _ (omega arith) (omega arith) (side _))
       (check-fits _ _ _ (side-fits 7 _ (omega arith) (omega arith) (side _))
       (check-fits _ _ _ (omega arith, omega arith, numbered n (z .0) _, omega arith)
-      (check-fits _ _ _ (omega arith, omega arith, numbered (elements L) (z .1 .0) _, numbered (elements L) (z .1 .0) _) counts-fit)))))
+      (check-fits _ _ _ (omega arith, omega arith, numbered (elements L) (z .1 .0) _, numbered (elements L) (z .1 .0) _) counts-fit))))
 
 pub build-fits : (n : ℕ) (L : List ℕ) (w : Buffers) → Fits (buildAnswer n L w)
 unfolding buildAnswer
 build-fits n L w =
     lengths-fit (sizesFit n L) _ _ (λ s l. room-fits (length (w .border)) (listAnswer n L) (list-fits n L (means-sizes n L .says s)))
+
+pub siblings-fits : (n : ℕ) (L : List ℕ) (w : SiblingBuffers) → Fits (siblingsAnswer n L w)
+unfolding siblingsAnswer
+siblings-fits n L w = lengths-fit (sizesFit n L) _ _ (λ s l. rows-fit n L (means-sizes n L .says s) _ (omega arith))
 
 pub columns-fits : (n : ℕ) (L : List ℕ) → Fits (columnsAnswer n L)
 unfolding columnsAnswer

@@ -22,6 +22,9 @@ use Rattle.columns.proofs.columns.Kinds as columns-kinds
 use Rattle.columns.proofs.columns.Reads as columns-reads
 use Rattle.recover.proofs.recover.Kinds as recover-kinds
 use Rattle.recover.proofs.recover.Reads as recover-reads
+use Rattle.sibling_map.specs.Mapping.{lent as lent-to}
+use Rattle.sibling_map.proofs.siblings.Kinds as siblings-kinds
+use Rattle.sibling_map.proofs.siblings.Reads as siblings-reads
 use Rattle.rings.proofs.ring.Kinds as ring-kinds
 use Rattle.rings.proofs.ring.Reads as ring-reads
 use Rattle.rings.proofs.neighbours.Reads as neighbours-reads
@@ -41,7 +44,7 @@ use Rattle.walker.specs.declared.Call.the-variants.{Start, Step}
 use Rattle.walker.specs.Walkers.{recordOf, movedOf, calledBy}
 use Rattle.walker.proofs.call_at.Kinds as call-at-kinds
 use Rattle.walker.proofs.call_at.Reads as call-at-reads
-use Rattle.runs.specs.Runs.{StartRun, StepRun, BuildRun, RecoverRun, RingRun, NeighboursRun, BorderLoopRun}
+use Rattle.runs.specs.Runs.{StartRun, StepRun, BuildRun, RecoverRun, SiblingsRun, RingRun, NeighboursRun, BorderLoopRun}
 
 -- next_side(row, i) and previous_side(row, i)
 module _ (κs : Lfts 0) (a : Dens κs next-side-kinds.ps) (r : resT next-side-kinds.r κs .Denot) (s : AtExit (endedOf 0 next-side-kinds.ps next-side-kinds.r) κs) where
@@ -68,6 +71,13 @@ module _ (κs : Lfts 4) (a : Dens κs recover-kinds.ps) (r : resT recover-kinds.
       → RecoverRun (a .0) (a .1 .0) (a .1 .1 .0 .now) (a .1 .1 .1 .0 .now) (a .1 .1 .1 .1 .0 .now) (a .1 .1 .1 .1 .1 .0 .now) (numbers r)
       (s .1 .1 .1 .1 .0 .now) (s .1 .1 .1 .1 .1 .0 .now)
   recover-run p = record { answer = p .0; leaves = p .1 .0; clears = p .1 .1 }
+
+-- siblings(n, list, v2e, sibhe, work)
+module _ (κs : Lfts 4) (a : Dens κs siblings-kinds.ps) (r : resT siblings-kinds.r κs .Denot) (s : AtExit (endedOf 4 siblings-kinds.ps siblings-kinds.r) κs) where
+  pub siblings-run : siblings-reads.Post κs a r s
+      → SiblingsRun (a .0) (a .1 .0 .now) (lent-to (a .1 .1 .0 .now) (a .1 .1 .1 .0 .now) (a .1 .1 .1 .1 .0 .now)) (numbers r)
+      (lent-to (s .1 .1 .0 .now) (s .1 .1 .1 .0 .now) (s .1 .1 .1 .1 .0 .now))
+  siblings-run p = record { answer = p .0; leaves = p .1 }
 
 -- columns(n, list)
 module _ (κs : Lfts 1) (a : Dens κs columns-kinds.ps) (r : resT columns-kinds.r κs .Denot) (s : AtExit (endedOf 1 columns-kinds.ps columns-kinds.r) κs) where

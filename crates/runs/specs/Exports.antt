@@ -5,6 +5,7 @@ use contract.Lifetimes.{Lfts}
 use borrow.Fn.Kinds.{Dens, resT, endedOf}
 use denote.Triple.Clauses.{AtExit}
 use Rattle.rules.specs.Refusals.{buildAnswer, recoverAnswer}
+use Rattle.rules.specs.Siblings.{siblingsAnswer}
 use Rattle.rules.specs.Queries.{told as mesh-of}
 use Rattle.rules.specs.Queries.{Mesh, columnsAnswer, oppositeAnswer, nextAnswer, previousAnswer, elementAnswer, originAnswer, destinationAnswer, acrossAnswer}
 use Rattle.rules.specs.Queries.{halfEdgeBorderAnswer, vertexBorderAnswer, ringAnswer, neighboursAnswer, borderLoopAnswer, walkerStart, walkerStep}
@@ -15,6 +16,8 @@ use Rattle.borzhanu.proofs.borzhanu_columns.Kinds as columns-kinds
 use Rattle.borzhanu.proofs.borzhanu_columns.Reads as columns-reads
 use Rattle.borzhanu.proofs.borzhanu_recover.Kinds as recover-kinds
 use Rattle.borzhanu.proofs.borzhanu_recover.Reads as recover-reads
+use Rattle.borzhanu.proofs.borzhanu_siblings.Kinds as siblings-kinds
+use Rattle.borzhanu.proofs.borzhanu_siblings.Reads as siblings-reads
 use Rattle.borzhanu.proofs.borzhanu_opposite.Kinds as opposite-kinds
 use Rattle.borzhanu.proofs.borzhanu_opposite.Reads as opposite-reads
 use Rattle.borzhanu.proofs.borzhanu_next.Reads as next-reads
@@ -33,10 +36,11 @@ use Rattle.borzhanu.proofs.borzhanu_walker_start.Kinds as start-kinds
 use Rattle.borzhanu.proofs.borzhanu_walker_start.Reads as start-reads
 use Rattle.borzhanu.proofs.borzhanu_walker_step.Kinds as step-kinds
 use Rattle.borzhanu.proofs.borzhanu_walker_step.Reads as step-reads
+use Rattle.sibling_map.specs.Mapping.{lent}
 use Rattle.borzhanu.specs.Walkers.{walkerIn}
 use Rattle.answer.specs.Packing.{told}
 use Rattle.runs.specs.Contracts.{buffers, of}
-use Rattle.runs.specs.Bounds.{build-fits, columns-fits, recover-fits, opposite-fits, next-fits, previous-fits, element-fits, origin-fits, destination-fits}
+use Rattle.runs.specs.Bounds.{build-fits, columns-fits, recover-fits, siblings-fits, opposite-fits, next-fits, previous-fits, element-fits, origin-fits, destination-fits}
 use Rattle.runs.specs.Bounds.{across-fits, half-edge-border-fits, vertex-border-fits, ring-fits, neighbours-fits, border-loop-fits, start-fits, step-fits}
 
 module _ (κs : Lfts 5) (a : Dens κs build-kinds.ps) (r : resT build-kinds.r κs .Denot) (s : AtExit (endedOf 5 build-kinds.ps build-kinds.r) κs) where
@@ -47,6 +51,11 @@ module _ (κs : Lfts 4) (a : Dens κs recover-kinds.ps) (r : resT recover-kinds.
   pub recover-told : recover-reads.Post κs a r s
       → unpacked r ≡ recoverAnswer (a .0) (a .1 .0) (a .1 .1 .0 .now) (a .1 .1 .1 .0 .now) (a .1 .1 .1 .1 .0 .now) (a .1 .1 .1 .1 .1 .0 .now)
   recover-told p = told _ (recover-fits _ _ _ _ _ _) r (p .0)
+
+module _ (κs : Lfts 4) (a : Dens κs siblings-kinds.ps) (r : resT siblings-kinds.r κs .Denot) (s : AtExit (endedOf 4 siblings-kinds.ps siblings-kinds.r) κs) where
+  pub siblings-told : siblings-reads.Post κs a r s
+      → unpacked r ≡ siblingsAnswer (a .0) (a .1 .0 .now) (lent (a .1 .1 .0 .now) (a .1 .1 .1 .0 .now) (a .1 .1 .1 .1 .0 .now))
+  siblings-told p = told _ (siblings-fits _ _ _) r (p .0)
 
 module _ (κs : Lfts 1) (a : Dens κs columns-kinds.ps) (r : resT columns-kinds.r κs .Denot) (s : AtExit (endedOf 1 columns-kinds.ps columns-kinds.r) κs) where
   pub columns-told : columns-reads.Post κs a r s → unpacked r ≡ columnsAnswer (a .0) (a .1 .0 .now)

@@ -4,6 +4,7 @@ pub mod Demand3
 pub mod OnBuilt
 pub mod Told
 pub mod Unused
+pub mod Siblings
 pub mod RoundTrip
 pub mod Bounds
 pub mod Exports

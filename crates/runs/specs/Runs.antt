@@ -6,6 +6,7 @@ use Prim.Native.Nat.{ℕ}
 use lib.ListN.{take}
 use Rattle.rules.specs.Tables.{columns}
 use Rattle.rules.specs.Refusals.{Answer, gives, refused, Buffers, buildAnswer, buildLeaves, recoverAnswer, recoverList, recoverWork}
+use Rattle.rules.specs.Siblings.{SiblingBuffers, siblingsAnswer, siblingsLeaves}
 use Rattle.rules.specs.Queries.{Mesh, oppositeAnswer, nextAnswer, previousAnswer, elementAnswer, originAnswer, destinationAnswer, acrossAnswer}
 use Rattle.rules.specs.Queries.{halfEdgeBorderAnswer, vertexBorderAnswer, ringAnswer, ringLeaves, neighboursAnswer, neighboursLeaves}
 use Rattle.rules.specs.Queries.{borderLoopAnswer, borderLoopLeaves, Walker, walked, walkerStart, walkerStep}
@@ -20,6 +21,11 @@ pub record RecoverRun (n m : ℕ) (V2e E2e list work : List ℕ) (a : Answer) (l
   pub answer : a ≡ recoverAnswer n m V2e E2e list work
   pub leaves : list′ ≡ recoverList n m V2e E2e list work
   pub clears : work′ ≡ recoverWork n m V2e E2e list work
+
+-- a run of the call that makes the siblings
+pub record SiblingsRun (n : ℕ) (L : List ℕ) (w : SiblingBuffers) (a : Answer) (w′ : SiblingBuffers) : Type 0 where
+  pub answer : a ≡ siblingsAnswer n L w
+  pub leaves : w′ ≡ siblingsLeaves n L w
 
 -- runs of the queries that write a list
 pub record RingRun (M : Mesh) (v : ℕ) (out : List ℕ) (a : Answer) (out′ : List ℕ) : Type 0 where

@@ -15,7 +15,7 @@ use Rattle.theory.specs.Sides.{side-positive}
 use Rattle.theory.specs.Built.{built, HalfEdge, side, border, by-side, by-border, means-half, read-paired, read-border, read-border-side}
 
 module _ (n : ℕ) (L : List ℕ) where
-  opposite-paired : (s : ℕ) → Side L s → (partner L s ≡ 0 → ⊥) → opposite (built n L) s ≡ some (partner L s)
+  pub opposite-paired : (s : ℕ) → Side L s → (partner L s ≡ 0 → ⊥) → opposite (built n L) s ≡ some (partner L s)
   unfolding opposite
   opposite-paired s a z = by-side L s _ _ a ∙ read-paired n L s a z
 

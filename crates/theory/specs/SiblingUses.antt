@@ -13,10 +13,10 @@ use Rattle.lists.specs.TestLaws.{Means, means-le, means-not, decide, passes, bo
 use Rattle.lists.specs.SearchLaws.{le-not-lt}
 use Rattle.lists.specs.CountLaws.{Three, three, three-counted}
 use Rattle.rules.specs.Elements.{isSide, Side, slot, origin, sideAt, sideWith, firstSide, countSides}
-use Rattle.rules.specs.Pairing.{alike, opposed, joins}
+use Rattle.rules.specs.Pairing.{alike, opposed, joins, Pairing}
 use Rattle.rules.specs.Tables.{partner}
 use Rattle.rules.specs.Siblings.{sibling}
-use Rattle.theory.specs.Sides.{slot-sideAt, sideAt-slot, slot-below, slot-inj}
+use Rattle.theory.specs.Sides.{side-positive, slot-sideAt, sideAt-slot, slot-below, slot-inj}
 use Rattle.theory.specs.Least.{first-found, means-some}
 use Rattle.theory.specs.FitRows.{Fit, ends-differ}
 use Rattle.theory.specs.Links.{lesser, greater, beyond}
@@ -185,3 +185,31 @@ module _ (L : List ℕ) (s : ℕ) (a : Side L s) where
           let (b, o) = partner-opposed L s d in
           let z = sibling-lone .0 e (partner L s) b (means-joins L s (partner L s) .shows (inr o)) in
           absurd (not-opposed n f (subst (λ (t : ℕ). T (opposed L s t)) z o))
+
+-- where sides are paired, the sibling of a paired side is its partner, and a border side is its own
+module _ (L : List ℕ) (p : Pairing L (partner L)) (s : ℕ) (a : Side L s) where
+  other-paired : (sibling L s ≡ s → ⊥) → partner L s ≡ sibling L s
+  other-paired d = p .paired s (sibling L s) a (sibling-side L s a) (λ e. d (sym e)) (sibling-joins L s a)
+
+  pub paired-sibling : (partner L s ≡ 0 → ⊥) → partner L s ≡ sibling L s
+  paired-sibling d =
+      let (b, e) = p .mutually s a d in
+      let (other, o) = p .opposite s a d in
+      other-paired (λ z. other (sibling-lone L s a .0 z (partner L s) b (means-joins L s (partner L s) .shows (inr o))))
+
+  pub own-border : (sibling L s ≡ s) ↔ (partner L s ≡ 0)
+  own-border = (alone, lone)
+    where
+      alone : sibling L s ≡ s → partner L s ≡ 0
+      alone e = go (zero-or (partner L s))
+        where
+          go : (partner L s ≡ 0) ⊎ (partner L s ≡ 0 → ⊥) → partner L s ≡ 0
+          go (inl z) = z
+          go (inr d) = absurd (p .opposite s a d .0 (paired-sibling d ∙ e))
+
+      lone : partner L s ≡ 0 → sibling L s ≡ s
+      lone z = go (decide (means-eq (sibling L s) s))
+        where
+          go : (sibling L s ≡ s) ⊎ (sibling L s ≡ s → ⊥) → sibling L s ≡ s
+          go (inl e) = e
+          go (inr d) = absurd (side-positive L (sibling L s) (sibling-side L s a) (sym (other-paired d) ∙ z))
