@@ -9,8 +9,9 @@
  * element, or with none.
  *
  * Any two elements share no corner, one corner, or exactly two corners, which are then a side of both.
- * Where two meet otherwise the list is refused: two triangles back to back, (1,2,3) and (1,3,2), or two
- * quadrilaterals with the same diagonal.
+ * Where two meet otherwise building refuses the list: two triangles back to back, (1,2,3) and (1,3,2), or
+ * two quadrilaterals with the same diagonal. Of lists in which elements meet in any way, three and more
+ * at an edge too, borzhanu_siblings says which sides meet.
  *
  *   V2e  n entries            the border half-edge that leaves the vertex; for a vertex that is on no
  *                             border, its least side; 0 for a vertex that belongs to no element
@@ -70,7 +71,8 @@ enum {
     /* Reserved, so that the numbers after it stay. No call gives it: vertices that belong to no
        element are accepted. */
     BORZHANU_VERTEX_UNUSED = 5,
-    /* Three or more elements meet at an edge. Place: element and side of the least such side. */
+    /* Three or more elements meet at an edge; borzhanu_siblings takes such a list.
+       Place: element and side of the least such side. */
     BORZHANU_EDGE_CROWDED = 6,
     /* Two elements run along an edge in the same direction: one of them is upside down, or is there
        twice. Place: element and side of the least such side. */
@@ -195,7 +197,7 @@ static inline uint32_t borzhanu_number_of(uint32_t code) {
     return code % 8u;
 }
 
-/* The least length of the work buffer of build and recovery, in entries. */
+/* The least length of the work buffer of build, recovery and siblings, in entries. */
 static inline size_t borzhanu_work_length(uint32_t n, size_t m) {
     return (size_t)n + 16u * m;
 }
@@ -259,6 +261,48 @@ uint64_t borzhanu_recover(uint32_t n, uint32_t m,
                           const uint32_t *e2e, size_t e2e_len,
                           uint32_t *elements, size_t elements_len,
                           uint32_t *work, size_t work_len);
+
+/*
+ * Writes which sides of an element list meet, also where three elements or more meet at an edge, as in a
+ * stiffened housing. Answers 0, 0. It refuses 1 to 4 as building does, and nothing else: lists that
+ * building refuses with 6, 7, 8 or 18 have an answer here.
+ *
+ *   elements  4 * m entries, only read
+ *   v2e       n entries
+ *   siblings  4 * m entries, also where no element is a quadrilateral
+ *   work      at least n + 16 * m entries
+ *
+ * After an answer the entry of side i of element f is siblings[4 * (f - 1) + (i - 1)]: of the sides that
+ * join the same two vertices, in either direction, the next higher one by its code; after the highest
+ * comes the lowest, and a side that is alone has itself. A triangle's fourth entry is 0. The entry of a
+ * vertex in v2e is the least side with its origin there, 0 where there is none. It is never a border
+ * half-edge, so this is not the V2e that the queries take.
+ *
+ * After a refusal v2e and siblings are as they were. What they and work hold before doesn't matter. After
+ * 1 and 2 work is as it was; after everything else it is all zero.
+ *
+ * Where building answers too, a side is its own sibling if a border half-edge lies opposite; if not, its
+ * sibling is what lies opposite.
+ */
+uint64_t borzhanu_siblings(uint32_t n,
+                           const uint32_t *elements, size_t elements_len,
+                           uint32_t *v2e, size_t v2e_len,
+                           uint32_t *siblings, size_t siblings_len,
+                           uint32_t *work, size_t work_len);
+
+/*
+ * The sibling of a side of the list, where siblings is what borzhanu_siblings wrote. The elements at the
+ * edge of a side, each once:
+ *
+ *     uint32_t at = side;
+ *     do {
+ *         printf(" %u", borzhanu_element_of(at));
+ *         at = borzhanu_sibling(siblings, at);
+ *     } while (at != side);
+ */
+static inline uint32_t borzhanu_sibling(const uint32_t *siblings, uint32_t side) {
+    return siblings[4u * (borzhanu_element_of(side) - 1u) + (borzhanu_number_of(side) - 1u)];
+}
 
 /*
  * The queries take a mesh: n, columns, an element list (4 * m entries), V2e (n), E2e (columns * m) and

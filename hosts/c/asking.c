@@ -1,5 +1,7 @@
 #include "asking.h"
 
+#include "rounds.h"
+
 #include <stdlib.h>
 #include <string.h>
 
@@ -87,6 +89,15 @@ struct call build_of(const struct list *list, size_t b2e_len) {
     call.given[V2E] = noise_of(V2E, list->n);
     call.given[E2E] = noise_of(E2E, columns_of(call.given[ELEMENTS]) * list->m);
     call.given[B2E] = noise_of(B2E, b2e_len);
+    call.given[WORK] = noise_of(WORK, list->n + 16 * list->m);
+    return call;
+}
+
+struct call siblings_of(const struct list *list) {
+    struct call call = empty_call(&siblings_call, list->n);
+    call.given[ELEMENTS] = (struct slice){list->rows, 4 * list->m};
+    call.given[V2E] = noise_of(V2E, list->n);
+    call.given[SIBLINGS] = noise_of(SIBLINGS, 4 * list->m);
     call.given[WORK] = noise_of(WORK, list->n + 16 * list->m);
     return call;
 }
@@ -200,14 +211,30 @@ void ask_something(const struct mesh *t, struct dice *dice, int times) {
 
 /* ---- what is done with a list ---- */
 
+void try_siblings(const struct list *list, const struct mesh *t) {
+    struct call call = siblings_of(list);
+    struct slice results[ROLES];
+    compare(&call, NULL);
+    call.given[WORK].len += 5;
+    if (compare(&call, results).refusal != 0)
+        return;
+    check_rounds(results[ELEMENTS], results[SIBLINGS]);
+    check_least_sides(results[ELEMENTS], results[V2E]);
+    if (t != NULL)
+        check_opposites(t, results[SIBLINGS]);
+}
+
 int built(const struct list *list, struct mesh *t) {
     struct call call = build_of(list, list->n + 3);
     struct slice results[ROLES];
     struct answer answer = compare(&call, results);
-    if (answer.refusal != 0)
+    if (answer.refusal != 0) {
+        try_siblings(list, NULL);
         return 0;
+    }
     struct slice b2e = {results[B2E].at, answer.first};
     *t = (struct mesh){list->n, 0, copied(results[ELEMENTS]), copied(results[V2E]), copied(results[E2E]), copied(b2e)};
+    try_siblings(list, t);
     return 1;
 }
 

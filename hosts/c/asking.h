@@ -23,6 +23,7 @@ uint32_t other_columns(const struct mesh *t);
 /* Calls with buffers of the right lengths, those that are written full of noise. Recovery is told the m of the element
    list's length, a query the columns of the mesh. */
 struct call build_of(const struct list *list, size_t b2e_len);
+struct call siblings_of(const struct list *list);
 struct call look_at(const struct list *list);
 struct call recovery_of(const struct mesh *t);
 struct call query_of(const struct exported *exported, const struct mesh *t, uint32_t number);
@@ -38,7 +39,11 @@ void ask_walker(const struct mesh *t, uint32_t v);
 /* All queries, each of something chosen at random. */
 void ask_something(const struct mesh *t, struct dice *dice, int times);
 
-/* Builds with room in B2e; where accepted hands over the tables, which the caller drops. */
+/* The sibling map, with a work buffer of the least length and with a longer one. `t` is what building gave, or null. */
+void try_siblings(const struct list *list, const struct mesh *t);
+
+/* Builds with room in B2e; where accepted hands over the tables, which the caller drops. In any case the sibling map is
+   tried. */
 int built(const struct list *list, struct mesh *t);
 /* B2e of other lengths, and more work space than needed. */
 void build_with_other_room(const struct list *list, size_t k);

@@ -11,7 +11,7 @@
 #include <time.h>
 #include <unistd.h>
 
-static const char *const role_names[ROLES] = {"elements", "v2e", "e2e", "b2e", "work", "out", "walker"};
+static const char *const role_names[ROLES] = {"elements", "v2e", "e2e", "b2e", "siblings", "work", "out", "walker"};
 
 /* what the calls that compare one case may take */
 enum { SECONDS = 120 };
@@ -50,6 +50,16 @@ static uint64_t kernel_recover(const struct call *call, const struct slice *b) {
 static struct answer expect_recover(const struct call *call, const struct slice *b) {
     struct mesh mesh = mesh_of(call, b);
     return reference_recover(&mesh, call->m, b[WORK]);
+}
+
+static uint64_t kernel_siblings(const struct call *call, const struct slice *b) {
+    return borzhanu_siblings(call->n, b[ELEMENTS].at, b[ELEMENTS].len, b[V2E].at, b[V2E].len, b[SIBLINGS].at,
+                             b[SIBLINGS].len, b[WORK].at, b[WORK].len);
+}
+
+static struct answer expect_siblings(const struct call *call, const struct slice *b) {
+    struct mesh mesh = mesh_of(call, b);
+    return reference_siblings(&mesh, b[SIBLINGS], b[WORK]);
 }
 
 static uint64_t kernel_walker_start(const struct call *call, const struct slice *b) {
@@ -107,6 +117,7 @@ OF_A_LIST(border_loop)
 const struct exported build_call = EXPORTED(build, BIT(V2E) | BIT(E2E) | BIT(B2E) | BIT(WORK));
 const struct exported columns_call = EXPORTED(columns, 0);
 const struct exported recover_call = EXPORTED(recover, BIT(ELEMENTS) | BIT(WORK));
+const struct exported siblings_call = EXPORTED(siblings, BIT(V2E) | BIT(SIBLINGS) | BIT(WORK));
 const struct exported start_call = QUERY(walker_start, BIT(RECORD));
 const struct exported step_call = QUERY(walker_step, BIT(RECORD));
 
@@ -181,7 +192,7 @@ static uint32_t *expected_room[ROLES];
 
 size_t room_of(enum role role) {
     const size_t m = BORZHANU_MAX_ELEMENTS + 2, n = BORZHANU_MAX_VERTICES + 2;
-    const size_t room[ROLES] = {4 * m, n, 4 * m, 4 * m, n + 16 * m, 4 * m, RECORD_LENGTH};
+    const size_t room[ROLES] = {4 * m, n, 4 * m, 4 * m, 4 * m, n + 16 * m, 4 * m, RECORD_LENGTH};
     return room[role];
 }
 

@@ -7,7 +7,7 @@
 #include <stddef.h>
 #include <stdint.h>
 
-enum role { ELEMENTS, V2E, E2E, B2E, WORK, OUT, RECORD, ROLES };
+enum role { ELEMENTS, V2E, E2E, B2E, SIBLINGS, WORK, OUT, RECORD, ROLES };
 
 enum { RECORD_LENGTH = 3, CODE_CALLS = 8, VERTEX_LISTS = 2, QUERIES = CODE_CALLS + VERTEX_LISTS + 4 };
 
@@ -30,7 +30,8 @@ struct call {
     struct slice given[ROLES];
 };
 
-extern const struct exported build_call, columns_call, recover_call, vertex_test, border_list, start_call, step_call;
+extern const struct exported build_call, columns_call, recover_call, siblings_call;
+extern const struct exported vertex_test, border_list, start_call, step_call;
 extern const struct exported code_calls[CODE_CALLS], vertex_lists[VERTEX_LISTS];
 /* all of these that are told columns */
 extern const struct exported *const queries[QUERIES];

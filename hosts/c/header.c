@@ -102,6 +102,19 @@ static void check_lengths(void) {
             fail_number("another length of E2e for m", m);
 }
 
+/* The map is read at the places of the element list, one after another. */
+static void check_sibling(void) {
+    enum { ROWS = 1000 };
+    static uint32_t siblings[4 * ROWS];
+    uint32_t place = 0;
+    for (uint32_t f = 1; f <= ROWS; f++)
+        for (uint32_t i = 1; i <= 4; i++, place++) {
+            siblings[place] = borzhanu_side(ROWS, 1) + place;
+            if (borzhanu_sibling(siblings, borzhanu_side(f, i)) != siblings[place])
+                fail_number("borzhanu_sibling of", borzhanu_side(f, i));
+        }
+}
+
 void check_header(void) {
     check_numbers();
     check_codes();
@@ -110,6 +123,7 @@ void check_header(void) {
     check_words(2, "a buffer's length doesn't fit n, m and the columns, or the columns told aren't 0, 3 or 4");
     check_words(18, "two elements meet otherwise than at one corner or one edge");
     check_lengths();
+    check_sibling();
 }
 
 /* ---- queries of a mesh ---- */

@@ -1,5 +1,5 @@
-/* What include/borzhanu.h says by itself: numbers by their names, codes taken apart, refusals in words, and queries of
-   a borzhanu_mesh. */
+/* What include/borzhanu.h says by itself: numbers by their names, codes taken apart, refusals in words, the sibling
+   map read, and queries of a borzhanu_mesh. */
 #ifndef HEADER_H
 #define HEADER_H
 

@@ -225,14 +225,18 @@ static uint32_t opposite_of(struct study *s, uint32_t side) {
     return 8 * s->k;
 }
 
+/* The least side from each vertex. No corner names a vertex without sides, whose entry stays 0. */
+static void write_least_sides(struct study *s) {
+    for (size_t p = 4 * s->m; p-- > 0;)
+        if (s->rows[p] != 0)
+            s->v2e[s->rows[p] - 1] = side_at(p);
+}
+
 static void write_tables(struct study *s) {
     for (size_t p = 0; p < 4 * s->m; p++)
         if (s->rows[p] != 0)
             s->e2e[e2e_place(s->columns, side_at(p))] = opposite_of(s, side_at(p));
-    /* no corner names a vertex without sides, whose entry stays 0 */
-    for (size_t p = 4 * s->m; p-- > 0;)
-        if (s->rows[p] != 0)
-            s->v2e[s->rows[p] - 1] = side_at(p);
+    write_least_sides(s);
     for (uint32_t b = 1; b <= s->k; b++)
         s->v2e[destination_of(s->rows, s->b2e[b - 1]) - 1] = 8 * b;
 }
@@ -348,6 +352,39 @@ int tables_but_for_18(uint32_t n, struct slice elements, struct mesh *t) {
     free(s.partner);
     *t = (struct mesh){n, 0, {rows, elements.len}, {s.v2e, n}, {s.e2e, s.columns * s.m}, {s.b2e, s.k}};
     return 1;
+}
+
+/* ---- siblings ---- */
+
+/* The sides that join the same two vertices come together, in order of code: each is sent to the one after it, the last
+   to the first. */
+static void write_siblings(struct study *s, uint32_t *siblings) {
+    uint64_t *joints = sorted_joints(s);
+    for (size_t start = 0, run; start < s->side_total; start += run) {
+        run = run_of_pairs(joints + start, s->side_total - start);
+        for (size_t i = 0; i < run; i++)
+            siblings[place_of(beside_of(joints[start + i]))] = beside_of(joints[start + (i + 1) % run]);
+    }
+    free(joints);
+}
+
+struct answer reference_siblings(const struct mesh *mesh, struct slice siblings, struct slice work) {
+    size_t m = mesh->elements.len / 4;
+    int lengths_unfit = mesh->v2e.len != mesh->n || siblings.len != 4 * m || work_short(mesh->n, m, work);
+    struct answer answer = check_lengths(mesh->n, m, mesh->elements, lengths_unfit);
+    if (answer.refusal != 0)
+        return answer;
+    struct study s = study_of(mesh->n, mesh->elements);
+    answer = check_corners(&s);
+    if (answer.refusal == 0) {
+        write_least_sides(&s);
+        copy_entries(mesh->v2e.at, s.v2e, mesh->n);
+        clear_entries(siblings);
+        write_siblings(&s, siblings.at);
+    }
+    drop_study(&s);
+    clear_entries(work);
+    return answer;
 }
 
 /* ---- recovery ---- */

@@ -40,6 +40,8 @@ int tables_but_for_18(uint32_t n, struct slice elements, struct mesh *t);
 struct answer reference_build(const struct mesh *mesh, struct slice work);
 struct answer reference_columns(uint32_t n, struct slice elements);
 struct answer reference_recover(const struct mesh *mesh, uint32_t m, struct slice work);
+/* of the mesh n, the element list and V2e */
+struct answer reference_siblings(const struct mesh *mesh, struct slice siblings, struct slice work);
 
 struct answer reference_opposite(const struct mesh *mesh, uint32_t code);
 struct answer reference_next(const struct mesh *mesh, uint32_t code);
