@@ -59,6 +59,7 @@ static void check_pattern(uint32_t m, uint32_t pattern, struct dice *dice) {
         add_row(&list, below(dice, 5), any_number(dice), below(dice, 5),
                 pattern >> f & 1 ? fourth[below(dice, COUNT(fourth))] : 0);
     check_columns(&list, pattern == 0 ? 3 : 4);
+    try_siblings(&list, NULL);
     drop_list(&list);
 }
 
@@ -74,8 +75,10 @@ static void ask_long_list(const struct list *list, uint32_t columns) {
 
 static void check_long_list(struct list *list, size_t quadrilateral) {
     list->rows[4 * quadrilateral + 3] = 7;
+    struct call call = siblings_of(list);
     check_columns(list, 4);
     ask_long_list(list, 4);
+    compare_with(&call, 0, 0);
     list->rows[4 * quadrilateral + 3] = 0;
 }
 
@@ -262,6 +265,7 @@ static void check_apart(const struct list *list, struct slice codes) {
     if (compare(&call, results).refusal != 0 ||
         memcmp(results[ELEMENTS].at, list->rows, 4 * list->m * sizeof(uint32_t)) != 0)
         fail("the list that these tables have doesn't come back");
+    try_siblings(list, NULL);
 }
 
 /* Four triangles apart and three quadrilaterals apart, or as many times each, have the same tables; m tells them

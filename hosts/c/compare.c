@@ -238,6 +238,7 @@ static void noise_tables(struct dice *dice) {
             t.b2e.at[j] = below(dice, 8 * m + 16);
         ask_something(&t, dice, 6);
         recover(&t);
+        try_siblings(&(struct list){n, m, m, t.elements.at}, NULL);
         drop_tables(&t);
     }
 }
@@ -277,11 +278,14 @@ static void try_lengths(const struct call *call, const int *roles, int count, lo
             }
 }
 
-/* Of build and of recovery; the tables are those that the list has, or would have but for 18. */
+/* Of build, siblings and recovery; the tables are those that the list has, or would have but for 18. */
 static void try_list_lengths(const struct list *list, const struct mesh *t, struct dice *dice) {
-    static const int of_build[] = {ELEMENTS, V2E, E2E, B2E, WORK}, of_recovery[] = {V2E, E2E, ELEMENTS, WORK};
+    static const int of_build[] = {ELEMENTS, V2E, E2E, B2E, WORK}, of_siblings[] = {ELEMENTS, V2E, SIBLINGS, WORK},
+                     of_recovery[] = {V2E, E2E, ELEMENTS, WORK};
     struct call call = build_of(list, t->b2e.len);
     try_lengths(&call, of_build, COUNT(of_build), (long)list->m, dice);
+    call = siblings_of(list);
+    try_lengths(&call, of_siblings, COUNT(of_siblings), (long)list->m, dice);
     call = recovery_of(t);
     try_lengths(&call, of_recovery, COUNT(of_recovery), (long)list->m, dice);
 }
@@ -344,6 +348,7 @@ static void try_emptied_calls(const struct list *list) {
         exit(2);
     try_emptied(look_at(list));
     try_emptied(build_of(list, t.b2e.len));
+    try_emptied(siblings_of(list));
     try_emptied(recovery_of(&t));
     for (size_t i = 0; i < CODE_CALLS; i++)
         try_emptied(query_of(&code_calls[i], &t, borzhanu_side(1, 1)));
@@ -402,15 +407,17 @@ static void largest_list(struct list list, void (*ask)(const struct mesh *t)) {
     drop_list(&list);
 }
 
-/* n, the numbers of rows of the element list and of E2e, and the m that recovery is told, at their largest or one past
-   it; then there is no need of a work buffer. */
+/* n, the numbers of rows of the element list and of E2e and the sibling map, and the m that recovery is told, at their
+   largest or one past it; then there is no need of a work buffer. */
 static void about_the_largest(uint32_t n, size_t m, uint32_t e2e_rows) {
     int past = n > BORZHANU_MAX_VERTICES || m > BORZHANU_MAX_ELEMENTS || e2e_rows > BORZHANU_MAX_ELEMENTS;
     struct mesh t = {n, 0, noise_of(ELEMENTS, 4 * m), noise_of(V2E, n), noise_of(E2E, 4 * e2e_rows), noise_of(B2E, 9)};
     struct list list = {n, m, m, t.elements.at};
-    struct call calls[] = {build_of(&list, 9), look_at(&list), recovery_of(&t), query_of(&code_calls[0], &t, 9)};
+    struct call calls[] = {build_of(&list, 9), look_at(&list), recovery_of(&t), query_of(&code_calls[0], &t, 9),
+                           siblings_of(&list)};
     calls[0].given[E2E] = t.e2e;
     calls[2].m = e2e_rows;
+    calls[4].given[SIBLINGS] = noise_of(SIBLINGS, 4 * e2e_rows);
     for (size_t i = 0; i < COUNT(calls); i++) {
         if (past)
             calls[i].given[WORK].len = 0;

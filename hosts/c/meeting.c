@@ -215,6 +215,7 @@ static void check_large(struct list list, struct answer known) {
     struct call call = build_of(&list, list.n);
     check_build_time(&list);
     compare_answer(&call, known);
+    try_siblings(&list, NULL);
     drop_list(&list);
 }
 

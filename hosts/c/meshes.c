@@ -53,6 +53,11 @@ void add_row(struct list *list, uint32_t a, uint32_t b, uint32_t c, uint32_t d) 
     row[3] = d;
 }
 
+void add_rows(struct list *list, const struct list *other) {
+    for (size_t p = 0; p < 4 * other->m; p += 4)
+        add_row(list, other->rows[p], other->rows[p + 1], other->rows[p + 2], other->rows[p + 3]);
+}
+
 static uint32_t shifted(uint32_t v, uint32_t by) {
     return v == 0 ? 0 : v + by;
 }

@@ -25,6 +25,9 @@ enum kinds { TRIANGLES, QUADRILATERALS, MIXED };
 struct list empty_list(uint32_t n, size_t room);
 void drop_list(struct list *list);
 void add_row(struct list *list, uint32_t a, uint32_t b, uint32_t c, uint32_t d);
+/* Rows on vertices that the list has. */
+void add_rows(struct list *list, const struct list *other);
+/* A list beside it: its vertices come after those that are there. */
 void add_list(struct list *list, const struct list *other);
 
 /* A sheet of width x height cells. Closed in one direction it is a tube, in both it has no border. */

@@ -86,8 +86,7 @@ static struct list cut_polygon(uint32_t corners, struct dice *dice) {
 /* The other face's vertices keep their numbers. */
 static void add_face(struct list *list, struct list *face) {
     turn_over(face);
-    for (size_t p = 0; p < 4 * face->m; p += 4)
-        add_row(list, face->rows[p], face->rows[p + 1], face->rows[p + 2], face->rows[p + 3]);
+    add_rows(list, face);
     drop_list(face);
 }
 

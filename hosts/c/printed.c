@@ -35,6 +35,7 @@ static struct mesh tables_of_case(const struct build_case *c) {
     for (uint32_t f = 0; f < c->m; f++)
         add_row(&list, c->rows[f][0], c->rows[f][1], c->rows[f][2], c->rows[f][3]);
     check_columns(c, &list);
+    try_siblings(&list, NULL);
     struct call call = build_of(&list, CASE_BORDERS + 1);
     call.given[E2E] = noise_of(E2E, c->columns * c->m);
     struct slice results[ROLES];

@@ -85,6 +85,7 @@ static void try_unfit(const struct few *few) {
     struct list list = list_of(few);
     check_answer(few, build_of(&list, MOST), few->refusal, few->first, few->second);
     check_answer(few, build_of(&list, 0), few->refusal, few->first, few->second);
+    try_siblings(&list, NULL);
     drop_list(&list);
 }
 
@@ -156,6 +157,8 @@ static void try_accepted(const struct few *few) {
         fail_few(few, "building");
     check_entries(few, &t);
     build_with_other_room(&list, t.b2e.len);
+    call = siblings_of(&list);
+    refuse_lengths(few, &call);
     check_answer(few, recovery_of(&t), 0, 0, 0);
     call = recovery_of(&t);
     refuse_lengths(few, &call);
