@@ -212,10 +212,11 @@ void ask_something(const struct mesh *t, struct dice *dice, int times) {
 /* ---- what is done with a list ---- */
 
 void try_siblings(const struct list *list, const struct mesh *t) {
+    static size_t longer = 5;
     struct call call = siblings_of(list);
     struct slice results[ROLES];
-    compare(&call, NULL);
-    call.given[WORK].len += 5;
+    longer = 5 - longer;
+    call.given[WORK].len += longer;
     if (compare(&call, results).refusal != 0)
         return;
     check_rounds(results[ELEMENTS], results[SIBLINGS]);

@@ -39,7 +39,8 @@ void ask_walker(const struct mesh *t, uint32_t v);
 /* All queries, each of something chosen at random. */
 void ask_something(const struct mesh *t, struct dice *dice, int times);
 
-/* The sibling map, with a work buffer of the least length and with a longer one. `t` is what building gave, or null. */
+/* The sibling map, with a work buffer of the least length and with a longer one by turns. `t` is what building gave, or
+   null. */
 void try_siblings(const struct list *list, const struct mesh *t);
 
 /* Builds with room in B2e; where accepted hands over the tables, which the caller drops. In any case the sibling map is

@@ -3,7 +3,8 @@
    TRI_3 and QUAD_4 in the figures of CGNS; and some of these lists with spare vertices, worked out by hand: the entry
    of a spare vertex is 0, and nothing else changes but the numbers of the vertices after it. Lists in which one row
    alone is a quadrilateral, and what is read where queries are told other columns, are worked out by hand too; lists in
-   which elements meet otherwise than at one corner or one edge, or nearly do, from the rules. */
+   which elements meet otherwise than at one corner or one edge, or nearly do, from the rules; sibling half-edges by
+   hand. */
 #ifndef CASES_H
 #define CASES_H
 
@@ -68,6 +69,13 @@ struct recovery_case {
     uint32_t rows[RECOVERED_ROWS][4];
 };
 
+/* What the siblings of a list are, and the least side from each of its vertices. */
+struct sibling_case {
+    const char *name;
+    uint32_t n, m, rows[CASE_ROWS][4];
+    uint32_t v2e[CASE_VERTICES], siblings[CASE_ENTRIES];
+};
+
 extern const struct build_case build_cases[];
 extern const size_t build_case_count;
 extern const struct list_case list_cases[];
@@ -84,5 +92,7 @@ extern const struct told_case told_cases[];
 extern const size_t told_case_count;
 extern const struct recovery_case recovery_cases[];
 extern const size_t recovery_case_count;
+extern const struct sibling_case sibling_cases[];
+extern const size_t sibling_case_count;
 
 #endif

@@ -14,6 +14,7 @@
 #include "meeting.h"
 #include "pillows.h"
 #include "printed.h"
+#include "siblings.h"
 #include "spare.h"
 
 #include <stdio.h>
@@ -462,6 +463,8 @@ static const struct {
     {"every second row", every_second_row},
     {"elements that clash", elements_that_clash},
     {"lengths of clashes", lengths_of_clashes},
+    {"edges of plates", edges_of_plates},
+    {"time of siblings", time_of_siblings},
 };
 
 static double seconds(void) {
