@@ -446,6 +446,7 @@ static const struct {
     {"tables of one element", small_tables},
     {"tables of spare vertices", small_spare_tables},
     {"tables of noise", noise_tables},
+    {"time of siblings", time_of_siblings},
     {"columns of lists", columns_of_lists},
     {"told columns", told_columns},
     {"recovery told m", recovery_told_m},
@@ -464,7 +465,6 @@ static const struct {
     {"elements that clash", elements_that_clash},
     {"lengths of clashes", lengths_of_clashes},
     {"edges of plates", edges_of_plates},
-    {"time of siblings", time_of_siblings},
 };
 
 static double seconds(void) {
