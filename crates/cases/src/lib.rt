@@ -158,6 +158,17 @@ pub fn is_all(a: &[u32], x: u32) -> bool {
     true
 }
 
+// What a work buffer must hold that was filled with x: checks 1 and 2 leave it.
+pub fn work_after(refusal: u32, x: u32) -> u32 {
+    if refusal == 1 {
+        return x;
+    }
+    if refusal == 2 {
+        return x;
+    }
+    0
+}
+
 pub fn emit(out: &[u8], count: usize) {
     if count <= out.len() {
         io::write_all(1, &out[0..count]);

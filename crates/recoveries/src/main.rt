@@ -88,19 +88,8 @@ fn has_tables(numbers: &[u32; 128], list: &[u32]) -> bool {
     has_same(numbers, list, &mut vs[0..v], &mut es[0..e])
 }
 
-// What the work buffer must hold: checks 1 and 2 leave it.
-fn work_after(number: u32) -> u32 {
-    if number == 1 {
-        return WORK;
-    }
-    if number == 2 {
-        return WORK;
-    }
-    0
-}
-
 fn is_clean(numbers: &[u32; 128], refusal: u32, list: &[u32], work: &[u32]) -> bool {
-    if !cases::is_all(work, work_after(refusal)) {
+    if !cases::is_all(work, cases::work_after(refusal, WORK)) {
         return false;
     }
     if refusal != 0 {

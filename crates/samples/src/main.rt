@@ -37,14 +37,6 @@ fn is_untouched(v2e: &[u32], e2e: &[u32], b2e: &[u32]) -> bool {
     cases::is_all(b2e, TABLE)
 }
 
-// What the work buffer holds after a refusal: checks 1 and 2 leave it.
-fn work_after(number: u32) -> u32 {
-    if number <= 2 {
-        return WORK;
-    }
-    0
-}
-
 fn is_clean(kept: bool, work: &[u32], x: u32) -> bool {
     if !kept {
         return false;
@@ -60,7 +52,7 @@ fn report_tables(columns: u32, k: u32, v2e: &[u32], e2e: &[u32], b2e: &[u32], wo
 
 fn report_refusal(number: u32, v2e: &[u32], e2e: &[u32], b2e: &[u32], work: &[u32]) {
     let kept = is_untouched(v2e, e2e, b2e);
-    cases::emit_clean(is_clean(kept, work, work_after(number)));
+    cases::emit_clean(is_clean(kept, work, cases::work_after(number, WORK)));
 }
 
 fn report(a: Answer, columns: u32, v2e: &[u32], e2e: &[u32], b2e: &[u32], work: &[u32]) {
