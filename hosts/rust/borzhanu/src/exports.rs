@@ -70,4 +70,16 @@ extern "C" {
         work: *mut u32,
         work_len: usize,
     ) -> u64;
+
+    pub fn borzhanu_siblings(
+        n: u32,
+        elements: *const u32,
+        elements_len: usize,
+        v2e: *mut u32,
+        v2e_len: usize,
+        siblings: *mut u32,
+        siblings_len: usize,
+        work: *mut u32,
+        work_len: usize,
+    ) -> u64;
 }

@@ -46,9 +46,31 @@
 //! # Ok::<(), borzhanu::Refusal>(())
 //! ```
 //!
-//! [`columns`], [`build`], [`recover`] and [`Mesh`] are the kernel's own calls, on buffers that the caller lends; these
-//! allocate nothing. Half-edges are codes there, which [`side`], [`border`] and [`HalfEdge`] make, and code 0
-//! names nothing:
+//! Where a rib stands on a panel, three plates meet at an edge. Such a list has no E2e, and [`Tables`] refuses it.
+//! [`Siblings`] takes it, and leads from each side to the next one that joins the same two vertices:
+//!
+//! ```
+//! use borzhanu::{HalfEdge, Refusal, Siblings, Tables};
+//!
+//! // A panel of two plates, and a rib on the seam of vertices 2 and 5.
+//! let rows = [[1, 2, 5, 4], [2, 3, 6, 5], [2, 5, 8, 7]];
+//! assert_eq!(Tables::build(8, &rows), Err(Refusal::EdgeCrowded { element: 1, side: 2 }));
+//!
+//! let siblings = Siblings::build(8, &rows)?;
+//! let seam = HalfEdge::side(1, 2);
+//! assert_eq!(siblings.sibling(seam)?, HalfEdge::side(2, 4));
+//! assert!(siblings.plates(seam)?.eq([1, 2, 3]));
+//!
+//! // Each edge comes once, by its least side. Three plates meet at the seam alone.
+//! for side in siblings.edges() {
+//!     assert_eq!(siblings.plates(side)?.count() == 3, side == seam);
+//! }
+//! # Ok::<(), borzhanu::Refusal>(())
+//! ```
+//!
+//! [`columns`], [`build`], [`recover`], [`siblings()`] and [`Mesh`] are the kernel's own calls, on buffers that the
+//! caller lends; these allocate nothing. Half-edges are codes there, which [`side`], [`border`] and [`HalfEdge`] make,
+//! and code 0 names nothing:
 //!
 //! ```
 //! use borzhanu::{build, columns, recover, work_length, Mesh};
@@ -97,11 +119,13 @@ mod exports;
 mod half_edge;
 mod mesh;
 mod refusal;
+mod siblings;
 mod tables;
 
 pub use half_edge::HalfEdge;
 pub use mesh::{Mesh, VertexKind, Walker, WalkerRecord};
 pub use refusal::Refusal;
+pub use siblings::Siblings;
 pub use tables::Tables;
 
 /// The largest number of vertices.
@@ -121,7 +145,7 @@ pub const fn border(b: u32) -> u32 {
     8 * b
 }
 
-/// The least length of the work buffer of [`build`] and [`recover`] for n vertices and m elements.
+/// The least length of the work buffer of [`build`], [`recover`] and [`siblings()`] for n vertices and m elements.
 pub const fn work_length(n: u32, m: usize) -> usize {
     n as usize + 16 * m
 }
@@ -228,6 +252,42 @@ pub fn recover(
             e2e.len(),
             elements.as_mut_ptr(),
             elements.len(),
+            work.as_mut_ptr(),
+            work.len(),
+        )
+    };
+    taken_apart(returned).map(|_| ())
+}
+
+/// Writes the map of sibling half-edges of an element list, where any number of elements may meet at an edge.
+///
+/// `v2e` has n entries, `siblings` 4 × m, for triangles too, and `work` at least [`work_length`]. What they hold before
+/// doesn't matter. After an answer the entry of side i of element f, `siblings[4 * (f - 1) + (i - 1)]`, is the next
+/// higher side that joins the same two vertices, in either direction; the last side has the first, a lone side has
+/// itself, and a triangle's fourth entry is 0. `v2e` then has the least side that starts at each vertex, 0 where none
+/// does, and never a border half-edge as that of [`build`] has. After a refusal both are as they were. After 1 and 2
+/// `work` is as it was; after everything else it is all zero.
+///
+/// # Errors
+///
+/// Refusals 1 to 4, in this order. Lists that [`build`] refuses with 6 to 8 and 18 are answered.
+pub fn siblings(
+    n: u32,
+    elements: &[u32],
+    v2e: &mut [u32],
+    siblings: &mut [u32],
+    work: &mut [u32],
+) -> Result<(), Refusal> {
+    // SAFETY: each pointer has its slice's own length, and the kernel stays within these.
+    let returned = unsafe {
+        exports::borzhanu_siblings(
+            n,
+            elements.as_ptr(),
+            elements.len(),
+            v2e.as_mut_ptr(),
+            v2e.len(),
+            siblings.as_mut_ptr(),
+            siblings.len(),
             work.as_mut_ptr(),
             work.len(),
         )
