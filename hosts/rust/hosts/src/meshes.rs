@@ -1,5 +1,7 @@
 //! Element lists to try the calls on: housings that are sound, and housings that aren't.
 
+pub mod stiffened;
+
 /// A generator of numbers that a seed fixes.
 pub struct Dice(u64);
 
@@ -327,10 +329,19 @@ pub fn book(n: u32, count: u32) -> List {
     List { n, rows }
 }
 
-fn one_housing(dice: &mut Dice, size: u32) -> List {
+pub fn any_kinds(dice: &mut Dice) -> Kinds {
+    [Kinds::Triangles, Kinds::Quadrilaterals, Kinds::Mixed][dice.below(3) as usize]
+}
+
+/// Width and height of a sheet of up to about so many elements.
+fn any_extent(dice: &mut Dice, size: u32) -> (u32, u32) {
     let width = 1 + dice.below(1 + size / 3);
-    let height = 1 + dice.below(1 + size / (2 * width));
-    let kinds = [Kinds::Triangles, Kinds::Quadrilaterals, Kinds::Mixed][dice.below(3) as usize];
+    (width, 1 + dice.below(1 + size / (2 * width)))
+}
+
+fn one_housing(dice: &mut Dice, size: u32) -> List {
+    let (width, height) = any_extent(dice, size);
+    let kinds = any_kinds(dice);
     match dice.below(10) {
         0 => fan(1 + dice.below(size), false),
         1 => fan(3 + dice.below(size), true),

@@ -1,5 +1,5 @@
 //! The archive's queries as include/borzhanu.h declares them, to be told any columns on buffers of any length. The
-//! wrapper's meshes have fit lengths and tell their own columns.
+//! wrapper's meshes have fit lengths and tell their own columns. And siblings, whose two numbers the wrapper drops.
 
 use crate::reference::Refused;
 
@@ -42,6 +42,20 @@ queries! {
     borzhanu_walker_step(walker: *mut u32);
 }
 
+extern "C" {
+    pub fn borzhanu_siblings(
+        n: u32,
+        elements: *const u32,
+        elements_len: usize,
+        v2e: *mut u32,
+        v2e_len: usize,
+        siblings: *mut u32,
+        siblings_len: usize,
+        work: *mut u32,
+        work_len: usize,
+    ) -> u64;
+}
+
 /// Calls a query on a [`View`](crate::reference::View) and further arguments.
 #[macro_export]
 macro_rules! told {
@@ -65,7 +79,7 @@ macro_rules! told {
     };
 }
 
-/// The two numbers of an answer, or a refusal and its place, out of what a query returned.
+/// The two numbers of an answer, or a refusal and its place, out of what a call returned.
 pub fn taken_apart(returned: u64) -> Result<(u32, u32), Refused> {
     let first = (returned >> 28) as u32 & 0xFFF_FFFF;
     let second = returned as u32 & 0xFFF_FFFF;

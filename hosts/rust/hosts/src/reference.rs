@@ -2,6 +2,8 @@
 //! a hash map keyed by their vertices, as in section 3.2 of T. J. Alumbaugh and X. Jiao, "Compact Array-Based Mesh Data
 //! Structures". Nothing is written in place: each function gives what a call would answer and write.
 
+pub mod siblings;
+
 use std::collections::HashMap;
 
 const MAX_VERTICES: u32 = 1_000_000;
@@ -21,7 +23,7 @@ pub struct Built {
     pub edges: u32,
 }
 
-/// The lengths of the buffers of building and recovery.
+/// The lengths of the buffers of building, recovery and siblings.
 #[derive(Clone, Copy, Debug)]
 pub struct Lengths {
     pub elements: usize,
@@ -112,6 +114,12 @@ impl<'a> Rows<'a> {
         self.origin(self.next(s))
     }
 
+    /// The two vertices that a side joins, the lower first.
+    fn ends(self, s: Side) -> (u32, u32) {
+        let (a, b) = (self.origin(s), self.destination(s));
+        (a.min(b), a.max(b))
+    }
+
     fn corners(self, f: u32) -> &'a [u32] {
         &self.0[4 * f as usize - 4..][..self.sides_of(f) as usize]
     }
@@ -188,6 +196,11 @@ fn sides_by_origin(n: u32, rows: Rows) -> Vec<Vec<Side>> {
     by_origin
 }
 
+/// The code of the least side with each vertex as origin; 0 where there is none.
+fn least_sides(by_origin: &[Vec<Side>]) -> Vec<u32> {
+    by_origin.iter().map(|sides| sides.first().map_or(0, |s| s.code())).collect()
+}
+
 /// The sides that join two vertices: how many, and the first two.
 #[derive(Clone, Copy)]
 struct Group {
@@ -198,13 +211,9 @@ struct Group {
 
 /// The pairing: for the slot of each side its partner, or none at a border.
 fn pair(rows: Rows) -> Result<Vec<Option<Side>>, Refused> {
-    let ends = |s| {
-        let (a, b) = (rows.origin(s), rows.destination(s));
-        (a.min(b), a.max(b))
-    };
     let mut groups: HashMap<(u32, u32), Group> = HashMap::new();
     for s in rows.sides() {
-        let group = groups.entry(ends(s)).or_insert(Group { count: 0, first: s, second: s });
+        let group = groups.entry(rows.ends(s)).or_insert(Group { count: 0, first: s, second: s });
         group.count += 1;
         if group.count == 2 {
             group.second = s;
@@ -249,8 +258,7 @@ fn has_turn_order(rows: Rows, partners: &[Option<Side>], sides: &[Side]) -> bool
 fn tables_of(rows: Rows, partners: &[Option<Side>], by_origin: &[Vec<Side>]) -> Built {
     let columns = columns_of(rows.0);
     let e2e = vec![0; (columns * rows.elements()) as usize];
-    let mut built = Built { v2e: Vec::new(), e2e, b2e: Vec::new(), edges: 0 };
-    built.v2e.extend(by_origin.iter().map(|sides| sides.first().map_or(0, |s| s.code())));
+    let mut built = Built { v2e: least_sides(by_origin), e2e, b2e: Vec::new(), edges: 0 };
     for s in rows.sides() {
         built.e2e[s.place(columns)] = match partners[s.slot()] {
             Some(partner) => partner.code(),

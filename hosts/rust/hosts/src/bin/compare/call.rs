@@ -2,7 +2,8 @@
 
 use borzhanu::{Mesh, Refusal, VertexKind, WalkerRecord, MAX_ELEMENTS, MAX_VERTICES};
 use hosts::guarded::{Guarded, Placement};
-use hosts::raw::taken_apart;
+use hosts::raw::{borzhanu_siblings, taken_apart};
+use hosts::reference::siblings::{self, Siblings};
 use hosts::reference::{self, Built, Lengths, Refused, View};
 use hosts::told;
 use std::process;
@@ -24,6 +25,7 @@ pub struct Call<'a> {
     pub n: u32,
     pub elements: &'a [u32],
     pub v2e: &'a [u32],
+    /// E2e, or the map of siblings.
     pub e2e: &'a [u32],
     pub b2e: &'a [u32],
     pub work: &'a [u32],
@@ -37,6 +39,10 @@ pub enum Question {
     /// told so many elements
     Recover(u32),
     Columns,
+    /// through the wrapper
+    Siblings,
+    /// straight to the archive
+    RawSiblings,
     Query(Way, Query),
 }
 
@@ -171,6 +177,17 @@ impl Call<'_> {
         }
     }
 
+    fn expected_siblings(&self) -> Outcome {
+        let work_cleared = siblings::check(self.n, self.lengths()).is_ok();
+        match siblings::siblings(self.n, self.elements, self.lengths()) {
+            Ok(Siblings { v2e, map }) => Outcome {
+                answer: Ok((0, 0)),
+                left: Left { v2e: Some(v2e), e2e: Some(map), work_cleared, ..Left::default() },
+            },
+            Err(refused) => Outcome { answer: Err(refused), left: Left { work_cleared, ..Left::default() } },
+        }
+    }
+
     fn expected_list(&self, list: Result<Vec<u32>, Refused>) -> Outcome {
         match list {
             Ok(list) if list.len() > self.out.len() => refuses((13, list.len() as u32, 0)),
@@ -209,6 +226,7 @@ impl Call<'_> {
             Question::Build => self.expected_build(),
             Question::Recover(m) => self.expected_recovery(m),
             Question::Columns => one_number(reference::columns(self.n, self.elements)),
+            Question::Siblings | Question::RawSiblings => self.expected_siblings(),
             // The wrapper's answer is that of the rule, which looks at the list.
             Question::Query(Way::Wrapper, query) => self.expected_query(0, query),
             Question::Query(Way::Told(columns), query) => self.expected_query(columns, query),
@@ -310,8 +328,29 @@ impl Held<'_> {
                 .map(|()| (0, 0))
                 .map_err(refused),
             Question::Columns => borzhanu::columns(call.n, self.elements).map(|columns| (columns, 0)).map_err(refused),
+            Question::Siblings => borzhanu::siblings(call.n, self.elements, self.v2e, self.e2e, self.work)
+                .map(|()| (0, 0))
+                .map_err(refused),
+            Question::RawSiblings => taken_apart(self.ask_raw_siblings(call.n)),
             Question::Query(Way::Wrapper, query) => self.ask_wrapper(call, query).map_err(refused),
             Question::Query(Way::Told(columns), query) => taken_apart(self.ask_told(call, columns, query)),
+        }
+    }
+
+    fn ask_raw_siblings(&mut self, n: u32) -> u64 {
+        // SAFETY: each pointer has its slice's own length, and the kernel stays within these.
+        unsafe {
+            borzhanu_siblings(
+                n,
+                self.elements.as_ptr(),
+                self.elements.len(),
+                self.v2e.as_mut_ptr(),
+                self.v2e.len(),
+                self.e2e.as_mut_ptr(),
+                self.e2e.len(),
+                self.work.as_mut_ptr(),
+                self.work.len(),
+            )
         }
     }
 

@@ -3,7 +3,8 @@
 use crate::host::Host;
 use crate::lengths::lengths_about;
 use borzhanu::MAX_ELEMENTS;
-use hosts::meshes::{any_globe, any_housing, bipyramid, fan, globe, pillow, sheet, wound, Dice, Kinds, List, Sector};
+use hosts::meshes::{any_globe, any_housing, any_kinds, bipyramid, fan, globe, pillow, sheet, wound};
+use hosts::meshes::{Dice, Kinds, List, Sector};
 use hosts::reference::Refused;
 
 type Known = (u32, &'static [[u32; 4]], Refused);
@@ -79,10 +80,6 @@ fn sound(dice: &mut Dice) -> Vec<(List, (u32, u32))> {
         // one quadrilateral from pole to pole
         (globe(&[Sector::Whole, Sector::SplitAcross, Sector::Star], true), (0, 11)),
     ]
-}
-
-fn any_kinds(dice: &mut Dice) -> Kinds {
-    [Kinds::Triangles, Kinds::Quadrilaterals, Kinds::Mixed][dice.below(3) as usize]
 }
 
 /// Mostly a list that clashes.

@@ -1,6 +1,7 @@
 //! Tables to ask about, and what is asked of them and of lists.
 
 use crate::call::{fail, watch, Call, Left, Memory, Outcome, Query, Question, Situation, Way};
+use crate::siblings::{compare_siblings, compare_with_built};
 use borzhanu::{work_length, WalkerRecord};
 use hosts::guarded::{Placement, PLACEMENTS};
 use hosts::meshes::{damage, Dice, List};
@@ -9,7 +10,7 @@ use std::mem;
 use std::ptr;
 
 const SECONDS_PER_COMPARISON: u32 = 120;
-const LARGE: usize = 10_000;
+pub const LARGE: usize = 10_000;
 
 extern "C" {
     fn alarm(seconds: u32) -> u32;
@@ -105,7 +106,7 @@ impl Host {
     }
 
     /// Makes a call, both placements, to an outcome that is known.
-    fn check(&mut self, call: &Call, want: &Outcome) {
+    pub fn check(&mut self, call: &Call, want: &Outcome) {
         self.situation.call = (call as *const Call).cast();
         // SAFETY: alarm only sets a timer.
         unsafe { alarm(SECONDS_PER_COMPARISON) };
@@ -193,10 +194,13 @@ impl Host {
         counts
     }
 
-    /// Builds with room in B2e; the tables where the list is accepted.
+    /// Siblings, and building with room in B2e; the tables where the list is accepted.
     pub fn build(&mut self, list: &List) -> Option<Tables> {
+        let siblings = compare_siblings(self, list);
         let left = self.compare_build(list, list.n as usize + 3, 0).left;
-        Some(Tables::of(list, left.v2e?, left.e2e?, left.b2e?))
+        let tables = Tables::of(list, left.v2e?, left.e2e?, left.b2e?);
+        compare_with_built(&tables, &siblings);
+        Some(tables)
     }
 
     /// The tables that the pairing gives for a list that only 18 refuses. They aren't its own: recovery gives 10.
@@ -220,12 +224,14 @@ impl Host {
 
     /// Builds a list of which the answer is known; the reference has to find it too.
     pub fn build_known(&mut self, list: &List, answer: Result<(u32, u32), Refused>) {
+        compare_siblings(self, list);
         let want = self.compare_build(list, list.n as usize, 0);
         assert_eq!(want.answer, answer, "the reference, on {} elements", list.rows.len());
     }
 
     /// Builds a list that is known to be refused after checks 1 and 2; the reference, slow on large lists, isn't asked.
     pub fn build_refused(&mut self, list: &List, refused: Refused) {
+        compare_siblings(self, list);
         let left = Left { work_cleared: true, ..Left::default() };
         self.build_to(list, list.n as usize, 0, Some(Outcome { answer: Err(refused), left }));
     }

@@ -32,6 +32,7 @@ fn any_questions(host: &mut Host, m: u32) -> Vec<Question> {
     let counts = [m, m, m, m, m + 1, m - 1, MAX_ELEMENTS + 1, u32::MAX];
     let count = counts[host.dice.below(8) as usize];
     let mut questions = vec![Question::Build, Question::Recover(count), Question::Columns];
+    questions.extend([Question::Siblings, Question::RawSiblings]);
     questions.extend(QUERIES.map(|query| Question::Query(host.any_way(), query)));
     questions
 }
@@ -99,11 +100,12 @@ struct Sizes {
 fn compare_sizes(host: &mut Host, elements: &[u32], sizes: Sizes) {
     let Sizes { n, rows, m, e2e_len } = sizes;
     let noise = mem::take(&mut host.noise);
-    for what in
-        [Question::Build, Question::Recover(m), Question::Columns, Question::Query(host.any_way(), Query::Ring(1))]
-    {
+    let ring = Question::Query(host.any_way(), Query::Ring(1));
+    for what in [Question::Build, Question::Recover(m), Question::Columns, Question::Siblings, ring] {
         let work_len = match what {
-            Question::Build if n <= MAX_VERTICES && rows <= MAX_ELEMENTS => work_length(n, rows as usize),
+            Question::Build | Question::Siblings if n <= MAX_VERTICES && rows <= MAX_ELEMENTS => {
+                work_length(n, rows as usize)
+            }
             Question::Recover(m) if n <= MAX_VERTICES && m <= MAX_ELEMENTS => work_length(n, m as usize),
             _ => 0,
         };

@@ -9,6 +9,7 @@ mod call;
 mod clashes;
 mod host;
 mod lengths;
+mod siblings;
 
 use borzhanu::{MAX_ELEMENTS, MAX_VERTICES};
 use call::Query;
@@ -16,6 +17,7 @@ use clashes::{clashes, large_clashes};
 use host::{Host, Tables};
 use hosts::meshes::{any_housing, book, damage, fan, pillow, sheet, Kinds, List};
 use lengths::{about_the_largest, lengths};
+use siblings::{large_siblings, siblings};
 use std::env;
 use std::mem;
 use std::time::Instant;
@@ -224,6 +226,7 @@ fn largest(host: &mut Host) {
     largest_fan(host);
     host.build(&book(most, most));
     large_clashes(host);
+    large_siblings(host);
     mostly_unused(host);
     about_the_largest(host);
 }
@@ -233,7 +236,7 @@ fn main() {
     let start = Instant::now();
     let mut host = Host::new(seed);
     println!("seed {seed}");
-    let families: [Family; 12] = [
+    let families: [Family; 13] = [
         ("lists of one row", one_row),
         ("lists of two rows", two_rows),
         ("unused vertices", unused_vertices),
@@ -242,6 +245,7 @@ fn main() {
         ("tables of noise", noise_tables),
         ("lengths", lengths),
         ("elements that clash", clashes),
+        ("edges of many plates", siblings),
         ("small housings", small_housings),
         ("housings", housings),
         ("large housings", large_housings),
