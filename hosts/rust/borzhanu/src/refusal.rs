@@ -33,7 +33,7 @@ pub enum Refusal {
         /// The least such vertex.
         vertex: u32,
     },
-    /// 6: three or more elements meet at an edge.
+    /// 6: three or more elements meet at an edge. [`Siblings`](crate::Siblings) takes such a list.
     EdgeCrowded {
         /// The element of the least such side.
         element: u32,

@@ -116,7 +116,9 @@ impl Siblings {
     /// [`Refusal::NotThere`] where the list has no such side, and for a border half-edge.
     pub fn sides(&self, side: HalfEdge) -> Result<impl Iterator<Item = HalfEdge> + '_, Refusal> {
         self.is_there(side)?;
-        Ok(successors(Some(side), move |&last| Some(self.after(last)).filter(|&next| next != side)))
+        let round = successors(Some(side), move |&last| Some(self.after(last)).filter(|&next| next != side));
+        // There are no more, so that it ends whatever the archive wrote.
+        Ok(round.take(self.siblings.len()))
     }
 
     /// The elements that meet at a side's edge, its own first: those of [`Siblings::sides`].

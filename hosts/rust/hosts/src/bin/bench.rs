@@ -1,11 +1,11 @@
-//! Times building, recovery and rings, and a hash-map build beside them, and prints tables in Markdown.
+//! Times building, recovery, rings and siblings, and hash maps beside them, and prints tables in Markdown.
 //!
 //!     bench [FOLDER]    with a folder, also writes the first table's lists of triangles there, for other programs
 //!
 //! Runs are interleaved and medians reported, so that a slow moment of the machine meets every candidate.
 //! All buffers are allocated and touched before the first run and used again in every run.
 
-use borzhanu::{build, columns, recover, work_length, Mesh, Refusal};
+use borzhanu::{build, columns, recover, siblings, work_length, Mesh, Refusal};
 use hosts::meshes::{book, fan, sheet, Dice, Kinds, List};
 use hosts::raw::taken_apart;
 use hosts::reference::View;
@@ -63,6 +63,33 @@ fn hash_map_build(columns: usize, elements: &[u32], v2e: &mut [u32], e2e: &mut [
         }
     }
     (k, (sides + k) / 2)
+}
+
+/// The siblings by a hash map from the two vertices of an edge to its first and its last side so far, with no check of
+/// the list; in the end the last side of each edge gets the first.
+fn hash_map_siblings(elements: &[u32], v2e: &mut [u32], siblings: &mut [u32]) {
+    v2e.fill(0);
+    let mut edges: HashMap<(u32, u32), (usize, usize)> = HashMap::with_capacity(elements.len() / 2);
+    for (f, row) in elements.chunks_exact(4).enumerate() {
+        let corners = if row[3] == 0 { 3 } else { 4 };
+        for i in 0..corners {
+            let (origin, destination) = (row[i], row[(i + 1) % corners]);
+            let slot = 4 * f + i;
+            let (_, last) = edges.entry((origin.min(destination), origin.max(destination))).or_insert((slot, slot));
+            siblings[*last] = code(slot);
+            *last = slot;
+            let entry = &mut v2e[origin as usize - 1];
+            if *entry == 0 {
+                *entry = code(slot);
+            }
+        }
+        if corners == 3 {
+            siblings[4 * f + 3] = 0;
+        }
+    }
+    for (first, last) in edges.into_values() {
+        siblings[last] = code(first);
+    }
 }
 
 /// The code of the side whose corner is this entry of the element list.
@@ -361,6 +388,50 @@ fn print_told(dice: &mut Dice) {
     println!();
 }
 
+/// Medians of the nanoseconds per side: the kernel's siblings and the hash map's, runs interleaved.
+fn sibling_times(list: &List, rounds: usize) -> (f64, f64) {
+    let (n, entries, m) = (list.n as usize, list.entries(), list.rows.len());
+    let (mut v2e, mut map, mut work) = (vec![1; n], vec![1; 4 * m], vec![1; work_length(list.n, m)]);
+    let (mut other_v2e, mut other_map) = (vec![1; n], vec![1; 4 * m]);
+    let (mut times, mut other_times) = (Vec::new(), Vec::new());
+    for _ in 0..rounds {
+        timed(&mut times, || siblings(list.n, entries, &mut v2e, &mut map, &mut work)).expect("the corners are fit");
+        timed(&mut other_times, || hash_map_siblings(entries, &mut other_v2e, &mut other_map));
+        assert!(v2e == other_v2e && map == other_map);
+    }
+    let sides = entries.iter().filter(|&&corner| corner != 0).count();
+    let per_side = |times: &[f64]| median(times) * 1e6 / sides as f64;
+    (per_side(&times), per_side(&other_times))
+}
+
+fn lists_for_siblings(dice: &mut Dice) -> Vec<(&'static str, List)> {
+    let triangles = sheet(250, 200, (true, false), Kinds::Triangles, dice);
+    let mut lists = quadrilaterals_100_000(dice);
+    lists.extend([
+        ("triangles with rims, in order", triangles.clone()),
+        ("triangles with rims, shuffled", shuffled(triangles, dice)),
+        ("open sheet of triangles, in order", open_sheet(1000, 500, dice)),
+        ("triangles all on one edge", book(1_000_000, 1_000_000)),
+    ]);
+    lists
+}
+
+fn print_siblings(dice: &mut Dice) {
+    println!("## Siblings\n");
+    println!("Nanoseconds of processor time per side, medians of {ROUNDS} interleaved runs, of a million elements");
+    println!("{LARGE_ROUNDS}, on buffers that hold what the run before left. The hash map leads from the two vertices");
+    println!("of an edge to its first and its last side; it needs V2e cleared first, and its time includes that. The");
+    println!("kernel needs nothing cleared; its time includes clearing its work buffer at the end, and all checks.\n");
+    println!("| list | elements | siblings | hash map | ratio |");
+    println!("|---|---|---|---|---|");
+    for (name, list) in lists_for_siblings(dice) {
+        let m = list.rows.len();
+        let (kernel, hash_map) = sibling_times(&list, if m > 100_000 { LARGE_ROUNDS } else { ROUNDS });
+        println!("| {name} | {m} | {kernel:.1} | {hash_map:.1} | {:.2} |", kernel / hash_map);
+    }
+    println!();
+}
+
 /// No element, and one, on n vertices.
 fn hardly_used(n: u32) -> [List; 2] {
     [List::new(n, &[]), List::new(n, &[[n, 1, n / 2, 0]])]
@@ -410,5 +481,6 @@ fn main() -> io::Result<()> {
     print_extremes(&mut dice);
     print_told(&mut dice);
     print_unused(&mut dice);
+    print_siblings(&mut dice);
     Ok(())
 }
