@@ -15,9 +15,11 @@ const LEAVES_V2E: [u32; 7] = [9, 10, 11, 19, 25, 35, 42];
 const LEAVES_SIBLINGS: [[u32; 4]; 5] =
     [[17, 10, 11, 0], [26, 18, 19, 0], [25, 33, 27, 0], [43, 34, 35, 0], [41, 42, 9, 0]];
 
-/// What a call on lent buffers answers, and the least sides and the map that it leaves, of which all was 7. What it
-/// leaves in the work buffer is looked at here.
-fn lent(n: u32, elements: &[u32], lens: [usize; 3]) -> (Result<(), Refusal>, Vec<u32>, Vec<u32>) {
+/// What a call answers and what it leaves: the least sides and the map.
+type Outcome = (Result<(), Refusal>, Vec<u32>, Vec<u32>);
+
+/// A call on buffers of these lengths that hold 7 throughout; the work buffer is looked at here.
+fn lent(n: u32, elements: &[u32], lens: [usize; 3]) -> Outcome {
     let [mut v2e, mut map, mut work] = lens.map(|len| vec![7; len]);
     let answer = siblings(n, elements, &mut v2e, &mut map, &mut work);
     let left = if let Err(Refusal::Sizes | Refusal::Lengths) = answer { 7 } else { 0 };
@@ -26,7 +28,7 @@ fn lent(n: u32, elements: &[u32], lens: [usize; 3]) -> (Result<(), Refusal>, Vec
 }
 
 /// The same with buffers as they must be, and a work buffer that is longer.
-fn lent_fit(n: u32, rows: &[[u32; 4]]) -> (Result<(), Refusal>, Vec<u32>, Vec<u32>) {
+fn lent_fit(n: u32, rows: &[[u32; 4]]) -> Outcome {
     let m = rows.len();
     lent(n, rows.as_flattened(), [n as usize, 4 * m, work_length(n, m) + 5])
 }
@@ -107,7 +109,7 @@ fn how_elements_meet_is_not_judged() {
 #[test]
 fn refusals_by_name() {
     let triangle = [1, 2, 3, 0];
-    let untouched = |(answer, v2e, map): (Result<(), Refusal>, Vec<u32>, Vec<u32>)| {
+    let untouched = |(answer, v2e, map): Outcome| {
         assert!(v2e.iter().chain(&map).all(|&entry| entry == 7));
         answer
     };
@@ -118,7 +120,7 @@ fn refusals_by_name() {
     }
     assert_eq!(lent(3, &triangle, [3, 4, 19]), (Ok(()), vec![9, 10, 11], vec![9, 10, 11, 0]));
 
-    // Three plates at an edge come before; corners are looked at in every element before any is looked at twice.
+    // Three plates at an edge come before the fault; every element is checked for 3 before any is for 4.
     let with = |row| [LEAVES[0], LEAVES[1], LEAVES[2], row];
     let unfit = |element, corner| Err(Refusal::CornerUnfit { element, corner });
     let repeated = |element, corner| Err(Refusal::CornerRepeated { element, corner });

@@ -418,10 +418,11 @@ fn lists_for_siblings(dice: &mut Dice) -> Vec<(&'static str, List)> {
 
 fn print_siblings(dice: &mut Dice) {
     println!("## Siblings\n");
-    println!("Nanoseconds of processor time per side, medians of {ROUNDS} interleaved runs, of a million elements");
-    println!("{LARGE_ROUNDS}, on buffers that hold what the run before left. The hash map leads from the two vertices");
-    println!("of an edge to its first and its last side; it needs V2e cleared first, and its time includes that. The");
-    println!("kernel needs nothing cleared; its time includes clearing its work buffer at the end, and all checks.\n");
+    println!("Nanoseconds of processor time per side, medians of {ROUNDS} interleaved runs, or of {LARGE_ROUNDS}");
+    println!("with a million elements, on buffers that hold what the run before left. The hash map leads from the");
+    println!("two vertices of an edge to its first and its last side; it needs V2e cleared first, and its time");
+    println!("includes that. The kernel needs nothing cleared; its time includes clearing its work buffer at the end,");
+    println!("and all its checks.\n");
     println!("| list | elements | siblings | hash map | ratio |");
     println!("|---|---|---|---|---|");
     for (name, list) in lists_for_siblings(dice) {

@@ -1,6 +1,6 @@
 //! Housings with edges of three plates and more.
 
-use super::{any_extent, any_kinds, fan, one_housing, push_cell, reverse, sheet, Dice, Kinds, List};
+use super::{any_extent, any_kinds, one_housing, push_cell, reverse, sheet, Dice, Kinds, List};
 
 impl List {
     /// A rib on a line of vertices, with upper vertices of its own, run along in either direction.
@@ -92,9 +92,4 @@ pub fn any_stiffened(dice: &mut Dice, size: u32) -> List {
         list = list.with_some_unused(dice);
     }
     list
-}
-
-/// A closed fan whose vertices and triangles come in no order.
-pub fn strewn_fan(count: u32, dice: &mut Dice) -> List {
-    fan(count, true).shuffled(dice).renumbered(dice).rotated(dice)
 }

@@ -69,8 +69,8 @@ pub fn lengths(host: &mut Host) {
     }
 }
 
-/// Building of a list that clashes, and recovery from what its pairing gives, with one buffer longer or shorter: 1 and
-/// 2 come before 18, and 9 doesn't.
+/// Building of a list that clashes, recovery from what its pairing gives, and siblings, with one buffer longer or
+/// shorter: 1 and 2 come before 18, and 9 doesn't.
 pub fn lengths_about(host: &mut Host, list: &List) {
     let (n, m) = (list.n, list.rows.len());
     let tables = host.tables_by_pairing(list).expect("only 18 refuses the list");
@@ -80,7 +80,7 @@ pub fn lengths_about(host: &mut Host, list: &List) {
         let mut buffers = fit.clone();
         buffers[at].resize(fit[at].len().saturating_add_signed(change), 7);
         let [elements, v2e, e2e, b2e, work] = &buffers;
-        for what in [Question::Build, Question::Recover(m as u32)] {
+        for what in [Question::Build, Question::Recover(m as u32), Question::Siblings] {
             host.compare(&Call { what, n, elements, v2e, e2e, b2e, work, out: &[] });
         }
     }

@@ -3,8 +3,8 @@
 use crate::call::{Call, Outcome, Question};
 use crate::host::{Host, Tables, LARGE};
 use borzhanu::{work_length, MAX_ELEMENTS};
-use hosts::meshes::stiffened::{any_stiffened, crowd, leaves, strewn_fan};
-use hosts::meshes::{book, Kinds, List};
+use hosts::meshes::stiffened::{any_stiffened, crowd, leaves};
+use hosts::meshes::{book, fan, Kinds, List};
 use hosts::reference::siblings::{agrees, goes_round};
 use hosts::reference::Refused;
 use std::mem;
@@ -107,7 +107,7 @@ pub fn large_siblings(host: &mut Host) {
         book(most, most).shuffled(dice).renumbered(dice),
         leaves(most, most, Kinds::Quadrilaterals, dice),
         crowd(5, most, dice),
-        strewn_fan(most - 1, dice),
+        fan(most - 1, true).shuffled(dice).renumbered(dice).rotated(dice),
     ] {
         compare_siblings(host, &list);
     }
