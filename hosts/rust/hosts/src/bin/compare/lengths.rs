@@ -96,7 +96,7 @@ struct Sizes {
     e2e_len: u32,
 }
 
-/// The work buffer is there where checks 1 and 2 come to it.
+/// The work buffer is as long as it must be where checks 1 and 2 come to it, and short elsewhere.
 fn compare_sizes(host: &mut Host, elements: &[u32], sizes: Sizes) {
     let Sizes { n, rows, m, e2e_len } = sizes;
     let noise = mem::take(&mut host.noise);
@@ -107,7 +107,7 @@ fn compare_sizes(host: &mut Host, elements: &[u32], sizes: Sizes) {
                 work_length(n, rows as usize)
             }
             Question::Recover(m) if n <= MAX_VERTICES && m <= MAX_ELEMENTS => work_length(n, m as usize),
-            _ => 0,
+            _ => 9,
         };
         host.compare(&Call {
             what,
