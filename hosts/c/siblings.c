@@ -156,7 +156,7 @@ void edges_of_plates(struct dice *dice) {
 
 /* ---- time ---- */
 
-/* The calls below take about a tenth of a second. A step for each two sides on an edge, or about a vertex, would be
+/* The calls below take less than a tenth of a second. A step for each two sides on an edge, or about a vertex, would be
    5 * 10^11 steps. */
 static void check_large(struct list list) {
     static const double allowed = 5;

@@ -1,5 +1,12 @@
 /* Finds the edges of a stiffened housing at which three plates or more meet: a panel of four plates, and a rib of two
-   on its middle line. */
+   that stands on its middle seam.
+
+       7 --- 8 --- 9
+       |  3  |  4  |
+       4 --- 5 --- 6      the rib's upper vertices are 10, 11 and 12, above 4, 5 and 6
+       |  1  |  2  |
+       1 --- 2 --- 3
+*/
 #include "borzhanu.h"
 
 #include <stdio.h>
@@ -18,19 +25,23 @@ static int refused(const char *call, uint64_t returned) {
     return 1;
 }
 
-/* How many plates meet at the edge of a side; 0 where a lesser side has counted them. */
-static uint32_t plates_from(const uint32_t *siblings, uint32_t side) {
-    uint32_t count = 1;
-    for (uint32_t at = borzhanu_sibling(siblings, side); at != side; at = borzhanu_sibling(siblings, at), count++)
-        if (at < side)
-            return 0;
+static uint32_t sides_of(uint32_t f) {
+    return elements[4 * f - 1] == 0 ? 3 : 4;
+}
+
+static uint32_t count_plates(const uint32_t *siblings, uint32_t side) {
+    uint32_t at = side, count = 0;
+    do {
+        count++;
+        at = borzhanu_sibling(siblings, at);
+    } while (at != side);
     return count;
 }
 
-static void print_edge(const uint32_t *siblings, uint32_t f, uint32_t i, uint32_t sides) {
+static void print_edge(const uint32_t *siblings, uint32_t side) {
+    uint32_t f = borzhanu_element_of(side), i = borzhanu_number_of(side), at = side;
     const uint32_t *row = elements + 4 * (f - 1);
-    uint32_t side = borzhanu_side(f, i), at = side;
-    printf("edge %u to %u: plates", row[i - 1], row[i % sides]);
+    printf("edge %u to %u: plates", row[i - 1], row[i % sides_of(f)]);
     do {
         printf(" %u", borzhanu_element_of(at));
         at = borzhanu_sibling(siblings, at);
@@ -46,11 +57,13 @@ int main(void) {
 
     if (refused("siblings", borzhanu_siblings(N, elements, 4 * M, v2e, N, siblings, 4 * M, work, N + 16 * M)))
         return 1;
-    for (uint32_t f = 1; f <= M; f++) {
-        uint32_t sides = elements[4 * f - 1] == 0 ? 3 : 4;
-        for (uint32_t i = 1; i <= sides; i++)
-            if (plates_from(siblings, borzhanu_side(f, i)) >= 3)
-                print_edge(siblings, f, i, sides);
-    }
+    for (uint32_t f = 1; f <= M; f++)
+        for (uint32_t i = 1; i <= sides_of(f); i++) {
+            /* The last side of an edge, and no other, has a sibling that isn't higher: the first. So each edge comes
+               once. */
+            uint32_t side = borzhanu_side(f, i), first = borzhanu_sibling(siblings, side);
+            if (first <= side && count_plates(siblings, first) >= 3)
+                print_edge(siblings, first);
+        }
     return 0;
 }

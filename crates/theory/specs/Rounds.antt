@@ -23,16 +23,16 @@ use Rattle.theory.specs.Siblings.{Between, Next, rises, returns, next-be
 abbrev pub Joined : List ℕ → ℕ → ℕ → Type 0
 Joined L s t = Side L t × T (joins L s t)
 
-abbrev pub plates : List ℕ → ℕ → ℕ
-plates L s = countSides L (joins L s)
+abbrev pub joining : List ℕ → ℕ → ℕ
+joining L s = countSides L (joins L s)
 
 -- the sequence meets only such sides, in every round of so many steps, wherever it begins, each of them, none of them twice, and then
 -- comes back
 pub record Rounds (L : List ℕ) (s : ℕ) (cs : ℕ → ℕ) : Type 0 where
   pub only : (i : ℕ) → Joined L s (cs i)
-  pub each : (i t : ℕ) → Joined L s t → (j : ℕ) × (j < plates L s) × (cs (i + j) ≡ t)
-  pub once : (i j h : ℕ) → j < plates L s → h < plates L s → cs (i + j) ≡ cs (i + h) → j ≡ h
-  pub back : (i : ℕ) → cs (i + plates L s) ≡ cs i
+  pub each : (i t : ℕ) → Joined L s t → (j : ℕ) × (j < joining L s) × (cs (i + j) ≡ t)
+  pub once : (i j h : ℕ) → j < joining L s → h < joining L s → cs (i + j) ≡ cs (i + h) → j ≡ h
+  pub back : (i : ℕ) → cs (i + joining L s) ≡ cs i
 
 module _ (L : List ℕ) (s : ℕ) (a : Side L s) where
   own : Between L (lesser L s) (greater L s) s
@@ -60,7 +60,7 @@ module _ (L : List ℕ) (s : ℕ) (a : Side L s) where
   rank t = count test (slot t) + 1
 
   k : ℕ
-  k = plates L s
+  k = joining L s
 
   counted : count test (length L) ≡ k
   unfolding k test countSides
@@ -130,7 +130,7 @@ module _ (L : List ℕ) (s : ℕ) (a : Side L s) where
               | round l f ↦ elim e [ inl g ↦ omega arith | inr g ↦ omega arith ]
             ])
 
-        each : (i t : ℕ) → Joined L s t → (j : ℕ) × (j < plates L s) × (cs (i + j) ≡ t)
+        each : (i t : ℕ) → Joined L s t → (j : ℕ) × (j < joining L s) × (cs (i + j) ≡ t)
         each i t x =
             let (a, b) = rank-in t x in
             let (c, d) = rank-in (cs i) (only i) in
@@ -149,10 +149,10 @@ module _ (L : List ℕ) (s : ℕ) (a : Side L s) where
         differ a b c d (round l e) (on m f) g = omega arith
         differ a b c d (round l e) (round m f) g = omega arith
 
-        once : (i j h : ℕ) → j < plates L s → h < plates L s → cs (i + j) ≡ cs (i + h) → j ≡ h
+        once : (i j h : ℕ) → j < joining L s → h < joining L s → cs (i + j) ≡ cs (i + h) → j ≡ h
         once i j h p q e =
             let (l, m) = rank-in (cs i) (only i) in
             differ l m p q (window i j (omega arith)) (window i h (omega arith)) (ap rank e)
 
-        back : (i : ℕ) → cs (i + plates L s) ≡ cs i
+        back : (i : ℕ) → cs (i + joining L s) ≡ cs i
         back i = met i k (cs i) (only i) (window i k (omega arith)) (inr refl)
