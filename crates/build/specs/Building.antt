@@ -15,12 +15,14 @@ use Rattle.lists.specs.Parts.{part, part-take}
 use Rattle.rules.specs.Elements.{maxVertex, maxElement, elements}
 use Rattle.rules.specs.Pairing.{sizesFit, unfitCorner, repeatedCorner}
 use Rattle.rules.specs.Tables.{borders, edges, b2e, columns, e2e, v2e}
-use Rattle.rules.specs.Refusals.{Answer, gives, refused, Buffers, buildLengths, lengthChecks, workAfter, buildAnswer, buildLeaves}
+use Rattle.rules.specs.Refusals.{Answer, gives, refused, Buffers, buildLengths, buildAnswer, buildLeaves}
 use Rattle.rules.specs.Refusals.{roomCheck, listAnswer, after, onto, crowdedSide, alikeSide, unorderedVertex, clashing}
 use Rattle.theory.specs.FitRows.{means-sizes}
 use Rattle.theory.specs.Columns.{three-or-four, narrowed, narrow-wide}
 use Rattle.theory.specs.Built.{borders-bound}
-use Rattle.theory.specs.Answers.{lengths-known, room-enough, room-short, past-check}
+use Rattle.theory.specs.Answers.{room-enough, room-short, past-check}
+use Rattle.theory.specs.Calls.{lengths-known}
+use Rattle.theory.specs.Calls as calls
 use Rattle.buffers.specs.Whole.{onto-full}
 use Rattle.tabulate.specs.Results.{Sized, Holds, Tabulated}
 
@@ -198,44 +200,29 @@ module _ {n k e : ℕ} {L V2e E2e work W : List ℕ} {t : Answer} (x : Checked n
           s .long,
         )
 
--- the whole call: refused by checks 1 or 2, or as the later checks say
+-- the whole call
 module _ (n : ℕ) (L V2e E2e B2e work : List ℕ) where
   abbrev w : Buffers
-  w = record { vertices = V2e; opposites = E2e; border = B2e; work = work }
+  w = lent V2e E2e B2e work
 
-  refused-leaves : (r : ℕ) → buildAnswer n L w ≡ refused r 0 0 → workAfter (sizesFit n L) (buildLengths n L w) work ≡ work → w ≡ buildLeaves n L w
-  unfolding buildLeaves after
-  refused-leaves r e f =
-      sym (ap (λ (a : Answer). lent (after a (v2e n L) V2e) (after a (e2e L) E2e) (after a (onto (b2e L) B2e) B2e) (workAfter (sizesFit n L) (buildLengths n L w) work)) e
-      ∙ ap (lent V2e E2e B2e) f)
+  -- by its answer, and by what the work holds
+  leaves : Answer → List ℕ → Buffers
+  leaves a = lent (after a (v2e n L) V2e) (after a (e2e L) E2e) (after a (onto (b2e L) B2e) B2e)
 
-  pub unsized : {a : Answer} → a ≡ refused 1 0 0 → sizesFit n L ≡ false → (a ≡ buildAnswer n L w) × (w ≡ buildLeaves n L w)
-  unfolding buildAnswer lengthChecks workAfter
-  unsized r e =
-      let a : buildAnswer n L w ≡ refused 1 0 0 = rw (e, lengthChecks) in
-      (r ∙ sym a, refused-leaves 1 a (rw (e, workAfter)))
+  abbrev pub Whole : Answer → Buffers → Type 0
+  Whole a w′ = (a ≡ buildAnswer n L w) × (w′ ≡ buildLeaves n L w)
 
-  pub unlengthened : {a : Answer} → a ≡ refused 2 0 0 → sizesFit n L ≡ true → buildLengths n L w ≡ false →
-      (a ≡ buildAnswer n L w) × (w ≡ buildLeaves n L w)
-  unfolding buildAnswer lengthChecks workAfter
-  unlengthened r e f =
-      let a : buildAnswer n L w ≡ refused 2 0 0 = rw (e, f, lengthChecks) in
-      (r ∙ sym a, refused-leaves 2 a (rw (e, f, workAfter)))
+  pub unsized : {a : Answer} → sizesFit n L ≡ false → a ≡ refused 1 0 0 → Whole a w
+  unfolding leaves after buildAnswer buildLeaves
+  unsized = calls.unsized leaves (sizesFit n L) (buildLengths n L w) _ work
 
-  -- all of the work is cleared
+  pub unlengthened : {a : Answer} → sizesFit n L ≡ true → buildLengths n L w ≡ false → a ≡ refused 2 0 0 → Whole a w
+  unfolding leaves after buildAnswer buildLeaves
+  unlengthened = calls.unlengthened leaves (sizesFit n L) (buildLengths n L w) _ work
+
   pub built : {a : Answer} {V2e′ E2e′ B2e′ work′ : List ℕ} {l : ℕ} → (sizesFit n L ≡ true) × (buildLengths n L w ≡ true) →
-      Built n L a V2e E2e B2e V2e′ E2e′ B2e′ × (l ≡ length work) → work′ ≡ replicate l 0 →
-      (a ≡ buildAnswer n L w) × (lent V2e′ E2e′ B2e′ work′ ≡ buildLeaves n L w)
-  unfolding buildAnswer buildLeaves lengthChecks workAfter
-  built {a} (e, f) (x, long) z =
-      let g : a ≡ buildAnswer n L w = x .answer ∙ sym (rw (e, f, lengthChecks)) in
-      let y : workAfter (sizesFit n L) (buildLengths n L w) work ≡ replicate (length work) 0 = rw (e, f, workAfter) in (
-        g,
-        λ i.
-            record {
-              vertices = (x .vertices ∙ ap (λ (v : Answer). after v (v2e n L) V2e) g) i;
-              opposites = (x .opposites ∙ ap (λ (v : Answer). after v (e2e L) E2e) g) i;
-              border = (x .border ∙ ap (λ (v : Answer). after v (onto (b2e L) B2e) B2e) g) i;
-              work = (z ∙ ap (λ (k : ℕ). replicate k 0) long ∙ sym y) i;
-            },
-      )
+      Built n L a V2e E2e B2e V2e′ E2e′ B2e′ × (l ≡ length work) → work′ ≡ replicate l 0 → Whole a (lent V2e′ E2e′ B2e′ work′)
+  unfolding leaves buildAnswer buildLeaves
+  built {a} {work′ = work′} fit (x, long) z =
+      let (e, f) = calls.cleared leaves (sizesFit n L) (buildLengths n L w) _ work fit (x .answer) (z ∙ ap (λ (k : ℕ). replicate k 0) long) in
+      (e, (λ i. lent (x .vertices i) (x .opposites i) (x .border i) work′) ∙ f)

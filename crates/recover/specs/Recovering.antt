@@ -17,8 +17,10 @@ use Rattle.rules.specs.Pairing.{callSizes, sizesFit, unfitCorner, repeatedCorne
 use Rattle.rules.specs.Tables.{borders, columns, e2e, v2e}
 use Rattle.rules.specs.Recovery.{widened, walkTo, walk}
 use Rattle.rules.specs.Refusals.{Answer, gives, refused, crowdedSide, alikeSide, unorderedVertex, clashing, listAnswer, accepts}
-use Rattle.rules.specs.Refusals.{recovers, recoverLengths, lengthChecks, workAfter, after, onto, recoverAnswer, recoverList, recoverWork}
-use Rattle.theory.specs.Answers.{lengths-known, past-check, accepted-answer}
+use Rattle.rules.specs.Refusals.{recovers, recoverLengths, after, onto, recoverAnswer, recoverList, recoverWork}
+use Rattle.theory.specs.Answers.{past-check, accepted-answer}
+use Rattle.theory.specs.Calls.{lengths-known}
+use Rattle.theory.specs.Calls as calls
 use Rattle.theory.specs.FitRows.{means-call-sizes, means-sizes}
 use Rattle.theory.specs.Deciding.{means-accepted}
 use Rattle.theory.specs.Columns.{three-or-four, length-widened, narrowed, narrow-wide}
@@ -324,28 +326,39 @@ abbrev pub Whole : ℕ → ℕ → List ℕ → List ℕ → List ℕ → List �
 Whole n m V2e E2e list work a list′ work′ =
     (a ≡ recoverAnswer n m V2e E2e list work) × ((list′ ≡ recoverList n m V2e E2e list work) × (work′ ≡ recoverWork n m V2e E2e list work))
 
--- refused by checks 1 or 2, or as check 10 says
-module _ (n m : ℕ) (V2e E2e list work : List ℕ) {a : Answer} where
-  pub unsized : callSizes n m list ≡ false → a ≡ refused 1 0 0 → Whole n m V2e E2e list work a list work
-  unfolding recoverAnswer recoverList recoverWork lengthChecks workAfter after
-  unsized e g =
-      let x : recoverAnswer n m V2e E2e list work ≡ refused 1 0 0 = rw (e, lengthChecks) in
-      (g ∙ sym x, (sym (ap (λ (y : Answer). after y (walk V2e (widened m E2e)) list) x), sym (rw (e, workAfter))))
+module _ (n m : ℕ) (V2e E2e list work : List ℕ) where
+  -- by its answer, and by what the work holds
+  leaves : Answer → List ℕ → List ℕ × List ℕ
+  leaves a work′ = (after a (walk V2e (widened m E2e)) list, work′)
 
-  pub unlengthened : callSizes n m list ≡ true → recoverLengths n m V2e E2e list work ≡ false → a ≡ refused 2 0 0
-      → Whole n m V2e E2e list work a list work
-  unfolding recoverAnswer recoverList recoverWork lengthChecks workAfter after
-  unlengthened e f g =
-      let x : recoverAnswer n m V2e E2e list work ≡ refused 2 0 0 = rw (e, f, lengthChecks) in
-      (g ∙ sym x, (sym (ap (λ (y : Answer). after y (walk V2e (widened m E2e)) list) x), sym (rw (e, f, workAfter))))
+  abbrev sizes : Bool
+  sizes = callSizes n m list
 
-  -- m as an index is k
-  pub whole : {k : ℕ} {list′ work′ : List ℕ} → k ≡ m → Passed n m V2e E2e list work → Recovered n k V2e E2e a list list′
-      → work′ ≡ replicate (length work) 0 → Whole n m V2e E2e list work a list′ work′
-  unfolding recoverAnswer recoverList recoverWork lengthChecks workAfter
-  whole {k} {list′} i q y z =
-      let x = subst (λ (j : ℕ). Recovered n j V2e E2e a list list′) i y in
-      let e = q .sizes in
-      let f = q .lengths in
-      let g : a ≡ recoverAnswer n m V2e E2e list work = x .answer ∙ sym (rw (e, f, lengthChecks)) in
-      (g, (x .left ∙ ap (λ (y : Answer). after y (walk V2e (widened m E2e)) list) g, z ∙ sym (rw (e, f, workAfter))))
+  abbrev lengths : Bool
+  lengths = recoverLengths n m V2e E2e list work
+
+  abbrev ten : Answer
+  ten = elim (recovers n m V2e E2e) [ true ↦ gives 0 0 | false ↦ refused 10 0 0 ]
+
+  module _ {a : Answer} where
+    -- the list and the work, each by itself
+    apart : {list′ work′ : List ℕ} → calls.Whole leaves sizes lengths ten work a (list′, work′) → Whole n m V2e E2e list work a list′ work′
+    unfolding leaves recoverAnswer recoverList recoverWork
+    apart (e, f) = (e, (ap (λ (p : List ℕ × List ℕ). p .0) f, ap (λ (p : List ℕ × List ℕ). p .1) f))
+
+    pub unsized : sizes ≡ false → a ≡ refused 1 0 0 → Whole n m V2e E2e list work a list work
+    unfolding leaves after
+    unsized s e = apart (calls.unsized leaves sizes lengths ten work s e)
+
+    pub unlengthened : sizes ≡ true → lengths ≡ false → a ≡ refused 2 0 0 → Whole n m V2e E2e list work a list work
+    unfolding leaves after
+    unlengthened s l e = apart (calls.unlengthened leaves sizes lengths ten work s l e)
+
+    -- m as an index is k
+    pub whole : {k : ℕ} {list′ work′ : List ℕ} → k ≡ m → Passed n m V2e E2e list work → Recovered n k V2e E2e a list list′
+        → work′ ≡ replicate (length work) 0 → Whole n m V2e E2e list work a list′ work′
+    unfolding leaves
+    whole {k} {list′} {work′} i q y z =
+        let x = subst (λ (j : ℕ). Recovered n j V2e E2e a list list′) i y in
+        let (e, f) = calls.cleared leaves sizes lengths ten work (q .sizes, q .lengths) (x .answer) z in
+        apart (e, (λ j. (x .left j, work′)) ∙ f)

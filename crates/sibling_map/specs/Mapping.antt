@@ -15,11 +15,13 @@ use Rattle.lists.specs.Stores.{Kept}
 use Rattle.rules.specs.Elements.{elements, isSide, sideAt}
 use Rattle.rules.specs.Pairing.{sizesFit}
 use Rattle.rules.specs.Tables.{leastSide}
-use Rattle.rules.specs.Refusals.{Answer, gives, refused, lengthChecks, rowChecks, after, onto, workAfter}
+use Rattle.rules.specs.Refusals.{Answer, gives, refused, rowChecks, after, onto}
 use Rattle.rules.specs.Siblings.{siblingEntry, sibhe, v2he, SiblingBuffers, siblingLengths, siblingsAnswer, siblingsLeaves}
 use Rattle.theory.specs.Sides.{slot-sideAt}
 use Rattle.theory.specs.FitRows.{Fit}
-use Rattle.theory.specs.Answers.{lengths-known, fit-passed}
+use Rattle.theory.specs.Answers.{fit-passed}
+use Rattle.theory.specs.Calls.{lengths-known}
+use Rattle.theory.specs.Calls as calls
 use Rattle.buffers.specs.Whole.{onto-full}
 use Rattle.siblings.specs.Siblings.{Grouped}
 use Rattle.checks.specs.Firsts.{Firsts}
@@ -96,7 +98,7 @@ module _ {n : ℕ} {L V2e Sibhe work : List ℕ} (x : Checked n L V2e Sibhe work
           siblings = s ∙ sym (ap (λ (a : Answer). after a (sibhe L) Sibhe) passed);
         }
 
--- the whole call: refused by checks 1 or 2, or as checks 3 and 4 say
+-- the whole call
 module _ (n : ℕ) (L V2e Sibhe work : List ℕ) where
   abbrev w : SiblingBuffers
   w = lent V2e Sibhe work
@@ -107,38 +109,24 @@ module _ (n : ℕ) (L V2e Sibhe work : List ℕ) where
       let (v, e, r) = lengths-known n (elements L) (eqb (length Sibhe) (4 * elements L)) V2e work l in
       record { sizes = rw s tt; v2e-long = v; map-long = means-eq _ _ .says e; room = r }
 
-  refused-leaves : (r : ℕ) → siblingsAnswer n L w ≡ refused r 0 0 → workAfter (sizesFit n L) (siblingLengths n L w) work ≡ work → w ≡ siblingsLeaves n L w
-  unfolding siblingsLeaves after
-  refused-leaves r e f =
-      sym (ap (λ (a : Answer). lent (after a (v2he n L) V2e) (after a (sibhe L) Sibhe) (workAfter (sizesFit n L) (siblingLengths n L w) work)) e
-      ∙ ap (lent V2e Sibhe) f)
+  -- by its answer, and by what the work holds
+  leaves : Answer → List ℕ → SiblingBuffers
+  leaves a = lent (after a (v2he n L) V2e) (after a (sibhe L) Sibhe)
 
-  pub unsized : {a : Answer} → a ≡ refused 1 0 0 → sizesFit n L ≡ false → (a ≡ siblingsAnswer n L w) × (w ≡ siblingsLeaves n L w)
-  unfolding siblingsAnswer lengthChecks workAfter
-  unsized r e =
-      let a : siblingsAnswer n L w ≡ refused 1 0 0 = rw (e, lengthChecks) in
-      (r ∙ sym a, refused-leaves 1 a (rw (e, workAfter)))
+  abbrev pub Whole : Answer → SiblingBuffers → Type 0
+  Whole a w′ = (a ≡ siblingsAnswer n L w) × (w′ ≡ siblingsLeaves n L w)
 
-  pub unlengthened : {a : Answer} → a ≡ refused 2 0 0 → sizesFit n L ≡ true → siblingLengths n L w ≡ false →
-      (a ≡ siblingsAnswer n L w) × (w ≡ siblingsLeaves n L w)
-  unfolding siblingsAnswer lengthChecks workAfter
-  unlengthened r e f =
-      let a : siblingsAnswer n L w ≡ refused 2 0 0 = rw (e, f, lengthChecks) in
-      (r ∙ sym a, refused-leaves 2 a (rw (e, f, workAfter)))
+  pub unsized : {a : Answer} → sizesFit n L ≡ false → a ≡ refused 1 0 0 → Whole a w
+  unfolding leaves after siblingsAnswer siblingsLeaves
+  unsized = calls.unsized leaves (sizesFit n L) (siblingLengths n L w) _ work
 
-  -- all of the work is cleared
+  pub unlengthened : {a : Answer} → sizesFit n L ≡ true → siblingLengths n L w ≡ false → a ≡ refused 2 0 0 → Whole a w
+  unfolding leaves after siblingsAnswer siblingsLeaves
+  unlengthened = calls.unlengthened leaves (sizesFit n L) (siblingLengths n L w) _ work
+
   pub done : {a : Answer} {V2e′ Sibhe′ work′ : List ℕ} {l : ℕ} → (sizesFit n L ≡ true) × (siblingLengths n L w ≡ true) →
-      Mapped n L a V2e Sibhe V2e′ Sibhe′ × (l ≡ length work) → work′ ≡ replicate l 0 →
-      (a ≡ siblingsAnswer n L w) × (lent V2e′ Sibhe′ work′ ≡ siblingsLeaves n L w)
-  unfolding siblingsAnswer siblingsLeaves lengthChecks workAfter
-  done {a} (e, f) (x, long) z =
-      let g : a ≡ siblingsAnswer n L w = x .answer ∙ sym (rw (e, f, lengthChecks)) in
-      let y : workAfter (sizesFit n L) (siblingLengths n L w) work ≡ replicate (length work) 0 = rw (e, f, workAfter) in (
-        g,
-        λ i.
-            record {
-              vertices = (x .vertices ∙ ap (λ (v : Answer). after v (v2he n L) V2e) g) i;
-              siblings = (x .siblings ∙ ap (λ (v : Answer). after v (sibhe L) Sibhe) g) i;
-              work = (z ∙ ap (λ (k : ℕ). replicate k 0) long ∙ sym y) i;
-            },
-      )
+      Mapped n L a V2e Sibhe V2e′ Sibhe′ × (l ≡ length work) → work′ ≡ replicate l 0 → Whole a (lent V2e′ Sibhe′ work′)
+  unfolding leaves siblingsAnswer siblingsLeaves
+  done {work′ = work′} fit (x, long) z =
+      let (e, f) = calls.cleared leaves (sizesFit n L) (siblingLengths n L w) _ work fit (x .answer) (z ∙ ap (λ (k : ℕ). replicate k 0) long) in
+      (e, (λ i. lent (x .vertices i) (x .siblings i) work′) ∙ f)

@@ -5,17 +5,16 @@ use mathlib.Core.Path.{_≡_, refl, ap, sym, subst, _∙_}
 use mathlib.Core.Bool.{Bool, true, false}
 use mathlib.Core.Logic.{_⊎_, inl, inr, _↔_}
 use mathlib.Core.List.{List}
-use Prim.Native.Nat.{ℕ, _+_, _*_, _≤_, _<_}
+use Prim.Native.Nat.{ℕ, _≤_, _<_}
 use native.Mathlib.Omega.{arith}
 use lib.Dec.{T, leb, eqb, not-T}
 use lib.ListN.{length}
-use Rattle.lists.specs.Tests.{both}
 use Rattle.lists.specs.TestLaws.{true-of, false-of, passes, both-pass, means-not, means-eq, means-le, zero-or}
 use Rattle.lists.specs.SearchLaws.{le-or-lt}
 use Rattle.rules.specs.Pairing.{Accepted, unfitCorner, repeatedCorner, rowsFit, sizesFit}
 use Rattle.rules.specs.Tables.{partner, borders, edges}
 use Rattle.rules.specs.Refusals.{Answer, gives, refused, crowdedSide, alikeSide, unorderedVertex, clashing, checkFound, rowChecks, listAnswer, Buffers}
-use Rattle.rules.specs.Refusals.{callLengths, buildLengths, lengthChecks, roomCheck, buildAnswer}
+use Rattle.rules.specs.Refusals.{buildLengths, lengthChecks, roomCheck, buildAnswer}
 use Rattle.theory.specs.FitRows.{Fit, means-fit}
 use Rattle.theory.specs.Pairings.{pairing-exists, the-pairing}
 use Rattle.theory.specs.Orders.{good, accepted-of}
@@ -30,15 +29,6 @@ module _ (x : ℕ) (refusal rest : Answer) where
   pub check-refuses : (x ≡ 0 → ⊥) → checkFound x refusal rest ≡ refusal
   unfolding checkFound
   check-refuses d = rw (false-of (eqb x 0) (means-not (means-eq x 0) .shows d), checkFound)
-
--- what check 2 says of a call with a work buffer
-pub lengths-known : (n m : ℕ) (others : Bool) (V2e work : List ℕ) → callLengths n m others V2e work ≡ true
-    → (length V2e ≡ n) × T others × (n + 16 * m ≤ length work)
-unfolding callLengths
-lengths-known n m others V2e work e =
-    let (a, t) = passes (eqb (length V2e) n) (both others (leb (n + 16 * m) (length work))) (rw e tt) in
-    let (b, c) = passes others (leb (n + 16 * m) (length work)) t in
-    (means-eq (length V2e) n .says a, b, means-le (n + 16 * m) (length work) .says c)
 
 -- B2e holds k entries, or 9 comes
 pub room-enough : (room k e : ℕ) → k ≤ room → roomCheck room (gives k e) ≡ gives k e

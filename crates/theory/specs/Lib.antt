@@ -18,6 +18,7 @@ pub mod Covering
 pub mod Deciding
 pub mod Described
 pub mod Answers
+pub mod Calls
 pub mod Recovering
 pub mod Reads
 pub mod Follows

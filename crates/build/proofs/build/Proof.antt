@@ -71,7 +71,7 @@ returns : tie.Need-returns
 returns c =
     let asked = c .before .before in
     let a = begun asked .args in
-    unsized (a .n) (a .list .now) (a .v2e .now) (a .e2e .now) (a .b2e .now) (a .work .now) (c .refuse .ensures) (sym (sizes asked) ∙ not-true _ (c .before .if1 .taken))
+    unsized (a .n) (a .list .now) (a .v2e .now) (a .e2e .now) (a .b2e .now) (a .work .now) (sym (sizes asked) ∙ not-true _ (c .before .if1 .taken)) (c .refuse .ensures)
 
 columns-of-requires : tie.Need-columns-of-requires
 columns-of-requires c κs = search needs
@@ -98,8 +98,8 @@ returns-2 : tie.Need-returns-2
 returns-2 c =
     let asked = c .before .before in
     let a = begun (past asked .before) .args in
-    unlengthened (a .n) (a .list .now) (a .v2e .now) (a .e2e .now) (a .b2e .now) (a .work .now) (c .refuse2 .ensures) (are-sized (past asked))
-    (sym (lengths asked) ∙ not-true _ (c .before .if2 .taken))
+    unlengthened (a .n) (a .list .now) (a .v2e .now) (a .e2e .now) (a .b2e .now) (a .work .now) (are-sized (past asked))
+    (sym (lengths asked) ∙ not-true _ (c .before .if2 .taken)) (c .refuse2 .ensures)
 
 build-fit-requires : tie.Need-build-fit-requires
 build-fit-requires c κs =

@@ -49,7 +49,7 @@ returns : tie.Need-returns
 returns c =
     let tried = c .before .before in
     let a = begun tried .args in
-    unsized (a .n) (a .list .now) (a .v2e .now) (a .sibhe .now) (a .work .now) (c .refuse .ensures) (sym (sizes tried) ∙ not-true _ (c .before .if1 .taken))
+    unsized (a .n) (a .list .now) (a .v2e .now) (a .sibhe .now) (a .work .now) (sym (sizes tried) ∙ not-true _ (c .before .if1 .taken)) (c .refuse .ensures)
 
 mul-lengths-fit : tie.Need-mul-lengths-fit
 mul-lengths-fit c = search needs
@@ -64,8 +64,8 @@ returns-2 : tie.Need-returns-2
 returns-2 c =
     let tried = c .before .before in
     let a = begun (tried .before .before) .args in
-    unlengthened (a .n) (a .list .now) (a .v2e .now) (a .sibhe .now) (a .work .now) (c .refuse2 .ensures) (are-sized (tried .before))
-    (sym (lengths tried) ∙ not-true _ (c .before .if2 .taken))
+    unlengthened (a .n) (a .list .now) (a .v2e .now) (a .sibhe .now) (a .work .now) (are-sized (tried .before))
+    (sym (lengths tried) ∙ not-true _ (c .before .if2 .taken)) (c .refuse2 .ensures)
 
 map-fit-requires : tie.Need-map-fit-requires
 map-fit-requires c κs =
