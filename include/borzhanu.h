@@ -264,8 +264,8 @@ uint64_t borzhanu_recover(uint32_t n, uint32_t m,
 
 /*
  * Writes which sides of an element list meet, also where three elements or more meet at an edge, as in a
- * stiffened housing. Answers 0, 0. It refuses 1 to 4 as building does, and nothing else: lists that
- * building refuses with 6, 7, 8 or 18 have an answer here.
+ * stiffened housing. Answers 0, 0. It refuses 1 to 4, by the lengths below and else as building does, and
+ * nothing else: lists that building refuses with 6, 7, 8 or 18 have an answer here.
  *
  *   elements  4 * m entries, only read
  *   v2e       n entries
@@ -276,7 +276,8 @@ uint64_t borzhanu_recover(uint32_t n, uint32_t m,
  * join the same two vertices, in either direction, the next higher one by its code; after the highest
  * comes the lowest, and a side that is alone has itself. A triangle's fourth entry is 0. The entry of a
  * vertex in v2e is the least side with its origin there, 0 where there is none. It is never a border
- * half-edge, so this is not the V2e that the queries take.
+ * half-edge, so this is not the V2e that the queries take. From it siblings lead to the elements that
+ * hang together by edges at the vertex; others may touch them at this point alone, as two fans do.
  *
  * After a refusal v2e and siblings are as they were. What they and work hold before doesn't matter. After
  * 1 and 2 work is as it was; after everything else it is all zero.
@@ -291,14 +292,18 @@ uint64_t borzhanu_siblings(uint32_t n,
                            uint32_t *work, size_t work_len);
 
 /*
- * The sibling of a side of the list, where siblings is what borzhanu_siblings wrote. The elements at the
- * edge of a side, each once:
+ * The sibling of a side, where siblings is what borzhanu_siblings wrote. The list must have the side:
+ * nothing is checked here, and code 0, as v2e has it for a vertex without one, would be read from outside
+ * the map. The elements at the edge of a side, each once:
  *
  *     uint32_t at = side;
  *     do {
  *         printf(" %u", borzhanu_element_of(at));
  *         at = borzhanu_sibling(siblings, at);
  *     } while (at != side);
+ *
+ * Of the sides of an edge the highest alone has a sibling that isn't higher than itself: the lowest. So a
+ * loop over all sides that looks for these comes to each edge once.
  */
 static inline uint32_t borzhanu_sibling(const uint32_t *siblings, uint32_t side) {
     return siblings[4u * (borzhanu_element_of(side) - 1u) + (borzhanu_number_of(side) - 1u)];
