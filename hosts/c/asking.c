@@ -14,7 +14,7 @@ void prepare_noise(struct dice *dice) {
         if (noise[role].at == NULL)
             exit(2);
         for (size_t i = 0; i < len; i++)
-            noise[role].at[i] = any_number(dice);
+            noise[role].at[i] = any_number(dice) >> below(dice, 32);
     }
 }
 

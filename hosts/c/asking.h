@@ -5,7 +5,8 @@
 #include "calls.h"
 #include "meshes.h"
 
-/* Fills the noise that buffers hold before a call writes them. */
+/* Fills the noise that buffers hold before a call writes them: numbers of all sizes, so that some could be codes of the
+   list at hand. */
 void prepare_noise(struct dice *dice);
 struct slice noise_of(enum role role, size_t len);
 

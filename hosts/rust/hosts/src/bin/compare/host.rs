@@ -91,7 +91,8 @@ pub struct Host {
 impl Host {
     pub fn new(seed: u64) -> Host {
         let mut dice = Dice::new(seed);
-        let noise = (0..18_000_100).map(|_| dice.number()).collect();
+        // Of all sizes, so that some could be codes of the list at hand.
+        let noise = (0..18_000_100).map(|_| dice.number() >> dice.below(32)).collect();
         let mut situation =
             Box::new(Situation { seed, calls: 0, family: "", placement: Placement::EndAtGuard, call: ptr::null() });
         watch(&mut situation);
