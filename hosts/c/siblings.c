@@ -99,6 +99,19 @@ static void check_lengths(struct list list) {
     drop_list(&list);
 }
 
+/* The last row of a list as long as can be has a corner 0, and then a corner twice. */
+static void check_last_row(struct list list) {
+    struct call calls[] = {siblings_of(&list), build_of(&list, 0)};
+    uint32_t *third = list.rows + 4 * list.m - 2, element = (uint32_t)list.m;
+    for (size_t i = 0; i < COUNT(calls); i++) {
+        *third = 0;
+        compare_answer(&calls[i], (struct answer){3, element, 3});
+        *third = third[-1];
+        compare_answer(&calls[i], (struct answer){4, element, 3});
+    }
+    drop_list(&list);
+}
+
 /* ---- any lists ---- */
 
 /* How many lists building refuses for three plates at an edge, and for two that run alike. */
@@ -149,6 +162,7 @@ void edges_of_plates(struct dice *dice) {
         check_compartments(1 + i % 4, 1 + i / 4, dice);
     for (int i = 0; i < 3; i++)
         check_lengths(panel(2, 2, 1, (enum kinds)i, dice));
+    check_last_row(book(MOST, MOST));
     many_lists(dice);
     for (size_t i = 0; i < COUNT(sizes); i++)
         try_any(dice, sizes[i], &tally);

@@ -4,8 +4,8 @@
 
 #include "meshes.h"
 
-/* Maps and numbers of plates that are known, and every length one too short and one too long; then any of these lists,
-   disguised, with plates that are there twice, and damaged. */
+/* Maps and numbers of plates that are known, every length one too short and one too long, and unfit corners in the last
+   of a million rows; then any of these lists, disguised, with plates that are there twice, and damaged. */
 void edges_of_plates(struct dice *dice);
 
 /* The time is linear in n + m, also with a million sides on an edge or about a vertex. */

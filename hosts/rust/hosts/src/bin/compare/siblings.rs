@@ -111,4 +111,15 @@ pub fn large_siblings(host: &mut Host) {
     ] {
         compare_siblings(host, &list);
     }
+    unfit_last_row(host, book(most, most));
+}
+
+/// A corner 0 in the last row, and then a corner twice.
+fn unfit_last_row(host: &mut Host, mut list: List) {
+    let last = list.rows.len();
+    for (corner, number) in [(0, 3), (list.rows[last - 1][1], 4)] {
+        list.rows[last - 1][2] = corner;
+        let want = compare_siblings(host, &list);
+        assert_eq!(want.answer, Err((number, last as u32, 3)), "the reference, on {last} elements");
+    }
 }
