@@ -326,6 +326,23 @@ void compare_with(const struct call *call, uint32_t refusal, uint32_t first) {
     compare_answer(call, (struct answer){refusal, first, 0});
 }
 
+void refuse_far(const struct call *call, enum role role, uint32_t refusal) {
+    const size_t more = (size_t)1 << 32;
+    static uint32_t *closed;
+    struct slice buffers[ROLES];
+    if (closed == NULL)
+        closed = closed_memory(2 * more);
+    place_buffers(call, END_AT_GUARD, buffers);
+    buffers[role] = (struct slice){closed, call->given[role].len + more};
+    alarm(SECONDS);
+    struct answer want = {refusal, 0, 0}, got = kernel_answer(call, buffers);
+    progress.calls++;
+    if (memcmp(&want, &got, sizeof want) != 0)
+        fail_answer(want, got);
+    buffers[role] = call->given[role];
+    check_left(call, buffers, got);
+}
+
 /* ---- time ---- */
 
 static double processor_seconds(void) {

@@ -58,6 +58,10 @@ struct answer compare(const struct call *call, struct slice *results);
 void compare_answer(const struct call *call, struct answer known);
 void compare_with(const struct call *call, uint32_t refusal, uint32_t first);
 
+/* A call with 2^32 entries more in one of its buffers is refused so, with 1 or 2. That buffer is memory that faults
+   when touched. */
+void refuse_far(const struct call *call, enum role role, uint32_t refusal);
+
 /* Makes a call on the kernel alone, so many times, for its processor time. Where they take more than `allowed` seconds
    three times in a row, this is printed and ends the program. */
 void check_time(const struct call *call, int times, double allowed);

@@ -369,6 +369,33 @@ static void empty_buffers(struct dice *dice) {
     try_emptied_calls(&triangle);
 }
 
+/* Lengths that are fit but for 2^32 entries: none is cut to 32 bits. An element list that is only read then has too
+   many elements. B2e of build, the work buffer and an output may be so long. */
+static void try_far(struct call call) {
+    uint32_t of_elements = call.exported == &recover_call ? 2 : 1;
+    for (int role = 0; role < WORK; role++)
+        if (call.given[role].len != 0 && (role != B2E || call.exported->is_query))
+            refuse_far(&call, (enum role)role, role == ELEMENTS ? of_elements : 2);
+}
+
+static void far_lengths(struct dice *dice) {
+    uint32_t row[4] = {1, 2, 3, 0};
+    struct list triangle = {3, 1, 1, row};
+    struct mesh t;
+    (void)dice;
+    if (!built(&triangle, &t))
+        exit(2);
+    try_far(look_at(&triangle));
+    try_far(build_of(&triangle, 3));
+    try_far(siblings_of(&triangle));
+    try_far(recovery_of(&t));
+    /* told 0, a query may look at the list before it refuses */
+    t.columns = 3;
+    for (size_t i = 0; i < QUERIES; i++)
+        try_far(query_of(queries[i], &t, 1));
+    drop_tables(&t);
+}
+
 /* B2e may have four entries for an element, whatever the columns of E2e, and no more. */
 static void longest_b2e(const struct mesh *t) {
     struct mesh longest = *t;
@@ -453,6 +480,7 @@ static const struct {
     {"queries of a mesh", mesh_functions},
     {"lengths", lengths},
     {"empty buffers", empty_buffers},
+    {"lengths past 32 bits", far_lengths},
     {"time of meeting", time_of_meeting},
     {"small housings", small_housings},
     {"housings", housings},

@@ -6,15 +6,28 @@
 #include <sys/mman.h>
 #include <unistd.h>
 
+static void *closed_bytes(size_t bytes) {
+    void *all = mmap(NULL, bytes, PROT_NONE, MAP_PRIVATE | MAP_ANONYMOUS | MAP_NORESERVE, -1, 0);
+    if (all == MAP_FAILED) {
+        perror("guarded memory");
+        exit(2);
+    }
+    return all;
+}
+
 struct guarded guarded_memory(size_t entries) {
     size_t page = (size_t)sysconf(_SC_PAGESIZE);
     size_t bytes = (entries * sizeof(uint32_t) + page - 1) / page * page;
-    unsigned char *all = mmap(NULL, bytes + 2 * page, PROT_NONE, MAP_PRIVATE | MAP_ANONYMOUS | MAP_NORESERVE, -1, 0);
-    if (all == MAP_FAILED || (bytes != 0 && mprotect(all + page, bytes, PROT_READ | PROT_WRITE) != 0)) {
+    unsigned char *all = closed_bytes(bytes + 2 * page);
+    if (bytes != 0 && mprotect(all + page, bytes, PROT_READ | PROT_WRITE) != 0) {
         perror("guarded memory");
         exit(2);
     }
     return (struct guarded){all + page, bytes};
+}
+
+uint32_t *closed_memory(size_t entries) {
+    return closed_bytes(entries * sizeof(uint32_t));
 }
 
 uint32_t *placed(const struct guarded *memory, size_t len, enum placement placement) {

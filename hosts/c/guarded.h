@@ -15,6 +15,8 @@ struct guarded {
 enum placement { END_AT_GUARD, START_AT_GUARD };
 
 struct guarded guarded_memory(size_t entries);
+/* Every page of it faults when touched. */
+uint32_t *closed_memory(size_t entries);
 uint32_t *placed(const struct guarded *memory, size_t len, enum placement placement);
 
 #endif
