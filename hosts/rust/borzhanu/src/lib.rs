@@ -271,6 +271,19 @@ pub fn recover(
 /// # Errors
 ///
 /// Refusals 1 to 4, in this order. Lists that [`build`] refuses with 6 to 8 and 18 are answered.
+///
+/// ```
+/// use borzhanu::{siblings, work_length};
+///
+/// // Three triangles on the edge of vertices 1 and 2.
+/// let elements = [1, 2, 3, 0, 2, 1, 4, 0, 1, 2, 5, 0];
+/// let (mut v2e, mut map) = ([0; 5], [0; 4 * 3]);
+/// let mut work = vec![0; work_length(5, 3)];
+/// siblings(5, &elements, &mut v2e, &mut map, &mut work)?;
+/// assert_eq!(map, [17, 10, 11, 0, 25, 18, 19, 0, 9, 26, 27, 0]);
+/// assert_eq!(v2e, [9, 10, 11, 19, 27]);
+/// # Ok::<(), borzhanu::Refusal>(())
+/// ```
 pub fn siblings(
     n: u32,
     elements: &[u32],

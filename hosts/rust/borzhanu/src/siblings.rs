@@ -77,7 +77,7 @@ impl Siblings {
         self.is_there(side).map(|()| self.after(side))
     }
 
-    /// The least side that starts at a vertex; `None` for an unused vertex. From it [`Siblings::sides`] lead to the
+    /// The least side that starts at a vertex; `None` for an unused vertex. From it [`Siblings::sides`] leads to the
     /// elements that hang together by edges at the vertex. Others may touch them at this point alone, as two fans do.
     ///
     /// # Errors
