@@ -171,6 +171,18 @@ fn siblings_are_opposite_where_tables_are_built() {
     }
 }
 
+/// The calls keep nothing between them.
+#[test]
+fn several_threads_at_once() {
+    let book: Vec<[u32; 4]> = (1..=1000).map(|f| [1 + f % 2, 2 - f % 2, 2 + f, 0]).collect();
+    std::thread::scope(|scope| {
+        for (n, rows) in [(12, &STIFFENED[..]), (7, &LEAVES), (1002, &book), (12, &STIFFENED[..4])] {
+            let expected = built(n, rows);
+            scope.spawn(move || assert!((0..2000).all(|_| built(n, rows) == expected)));
+        }
+    });
+}
+
 #[test]
 fn no_element_and_a_million_on_one_edge() {
     let nothing = built(0, &[]);
