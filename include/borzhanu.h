@@ -292,21 +292,24 @@ uint64_t borzhanu_siblings(uint32_t n,
                            uint32_t *work, size_t work_len);
 
 /*
- * The sibling of a side, where siblings is what borzhanu_siblings wrote. The list must have the side:
- * nothing is checked here, and code 0, as v2e has it for a vertex without one, would be read from outside
- * the map. The elements at the edge of a side, each once:
+ * The entry of a side in what borzhanu_siblings wrote, 4 * m entries: its sibling. 0 for a code that has no
+ * entry, as code 0, which v2e holds for a vertex without a side. The elements at the edge of a side, each
+ * once:
  *
  *     uint32_t at = side;
  *     do {
  *         printf(" %u", borzhanu_element_of(at));
- *         at = borzhanu_sibling(siblings, at);
+ *         at = borzhanu_sibling(siblings, siblings_len, at);
  *     } while (at != side);
  *
  * Of the sides of an edge the highest alone has a sibling that isn't higher than itself: the lowest. So a
  * loop over all sides that looks for these comes to each edge once.
  */
-static inline uint32_t borzhanu_sibling(const uint32_t *siblings, uint32_t side) {
-    return siblings[4u * (borzhanu_element_of(side) - 1u) + (borzhanu_number_of(side) - 1u)];
+static inline uint32_t borzhanu_sibling(const uint32_t *siblings, size_t siblings_len, uint32_t side) {
+    size_t f = borzhanu_element_of(side), i = borzhanu_number_of(side);
+    if (i < 1u || i > 4u || f < 1u || f > siblings_len / 4u)
+        return 0;
+    return siblings[4u * (f - 1u) + (i - 1u)];
 }
 
 /*

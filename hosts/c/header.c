@@ -110,9 +110,16 @@ static void check_sibling(void) {
     for (uint32_t f = 1; f <= ROWS; f++)
         for (uint32_t i = 1; i <= 4; i++, place++) {
             siblings[place] = borzhanu_side(ROWS, 1) + place;
-            if (borzhanu_sibling(siblings, borzhanu_side(f, i)) != siblings[place])
+            if (borzhanu_sibling(siblings, 4 * ROWS, borzhanu_side(f, i)) != siblings[place])
                 fail_number("borzhanu_sibling of", borzhanu_side(f, i));
         }
+    /* borders, side numbers that no element has, elements that aren't there */
+    for (uint32_t code = 0; code < 8 * (ROWS + 10); code++)
+        if ((code % 8 == 0 || code % 8 > 4 || code / 8 == 0 || code / 8 > ROWS) &&
+            borzhanu_sibling(siblings, 4 * ROWS, code) != 0)
+            fail_number("borzhanu_sibling of", code);
+    if (borzhanu_sibling(siblings, 0, borzhanu_side(1, 1)) != 0)
+        fail_number("borzhanu_sibling in an empty map, of", borzhanu_side(1, 1));
 }
 
 void check_header(void) {

@@ -86,7 +86,7 @@ static void check_round(struct slice elements, struct slice siblings, uint32_t s
     if (!put_into(edges, joined_by(elements, start)))
         fail("siblings come round without a side of the same two vertices");
     do {
-        uint32_t sibling = borzhanu_sibling(siblings.at, side);
+        uint32_t sibling = borzhanu_sibling(siblings.at, siblings.len, side);
         check_step(elements, start, side, sibling);
         side = sibling;
         met[4 * borzhanu_element_of(side) + borzhanu_number_of(side)] = 1;
@@ -99,7 +99,7 @@ void check_rounds(struct slice elements, struct slice siblings) {
     struct set edges = empty_set(elements.len);
     for (uint32_t f = 1; f <= m; f++) {
         uint32_t corners = corners_of(row_of(elements, borzhanu_side(f, 1)));
-        if (corners == 3 && borzhanu_sibling(siblings.at, borzhanu_side(f, 4)) != 0)
+        if (corners == 3 && borzhanu_sibling(siblings.at, siblings.len, borzhanu_side(f, 4)) != 0)
             fail("a triangle's fourth entry isn't 0");
         for (uint32_t i = 1; i <= corners; i++)
             if (!met[4 * f + i])
@@ -127,7 +127,8 @@ void check_opposites(const struct mesh *t, struct slice siblings) {
     for (uint32_t f = 1; f <= m; f++)
         for (uint32_t i = 1; i <= corners_of(row_of(t->elements, borzhanu_side(f, 1))); i++) {
             uint32_t side = borzhanu_side(f, i), opposite = t->e2e.at[columns * (f - 1) + (i - 1)];
-            if (borzhanu_sibling(siblings.at, side) != (borzhanu_is_border_code(opposite) ? side : opposite))
+            uint32_t expected = borzhanu_is_border_code(opposite) ? side : opposite;
+            if (borzhanu_sibling(siblings.at, siblings.len, side) != expected)
                 fail("the sibling of a side isn't what building says");
         }
 }

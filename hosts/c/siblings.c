@@ -30,7 +30,7 @@ static void check_case(const struct sibling_case *c) {
 static uint32_t plates_at(struct slice siblings, uint32_t side) {
     uint32_t count = 0, at = side;
     do {
-        at = borzhanu_sibling(siblings.at, at);
+        at = borzhanu_sibling(siblings.at, siblings.len, at);
         count++;
     } while (at != side);
     return count;

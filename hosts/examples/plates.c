@@ -33,7 +33,7 @@ static uint32_t count_plates(const uint32_t *siblings, uint32_t side) {
     uint32_t at = side, count = 0;
     do {
         count++;
-        at = borzhanu_sibling(siblings, at);
+        at = borzhanu_sibling(siblings, 4 * M, at);
     } while (at != side);
     return count;
 }
@@ -44,7 +44,7 @@ static void print_edge(const uint32_t *siblings, uint32_t side) {
     printf("edge %u to %u: plates", row[i - 1], row[i % sides_of(f)]);
     do {
         printf(" %u", borzhanu_element_of(at));
-        at = borzhanu_sibling(siblings, at);
+        at = borzhanu_sibling(siblings, 4 * M, at);
     } while (at != side);
     printf("\n");
 }
@@ -61,7 +61,7 @@ int main(void) {
         for (uint32_t i = 1; i <= sides_of(f); i++) {
             /* The last side of an edge, and no other, has a sibling that isn't higher: the first. So each edge comes
                once. */
-            uint32_t side = borzhanu_side(f, i), first = borzhanu_sibling(siblings, side);
+            uint32_t side = borzhanu_side(f, i), first = borzhanu_sibling(siblings, 4 * M, side);
             if (first <= side && count_plates(siblings, first) >= 3)
                 print_edge(siblings, first);
         }

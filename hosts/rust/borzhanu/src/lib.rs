@@ -125,7 +125,7 @@ mod tables;
 pub use half_edge::HalfEdge;
 pub use mesh::{Mesh, VertexKind, Walker, WalkerRecord};
 pub use refusal::Refusal;
-pub use siblings::Siblings;
+pub use siblings::{Plates, Siblings, Sides};
 pub use tables::Tables;
 
 /// The largest number of vertices.

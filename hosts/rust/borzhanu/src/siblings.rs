@@ -1,7 +1,7 @@
 //! An element list with its sibling half-edges, owned.
 
 use crate::{columns, siblings, side, work_length, HalfEdge, Refusal};
-use std::iter::successors;
+use std::iter::FusedIterator;
 
 /// An element list and its sibling half-edges: from each side to the next one on the same edge, however many elements
 /// meet there. Whatever is asked of them, the only refusal is [`Refusal::NotThere`].
@@ -115,11 +115,9 @@ impl Siblings {
     /// # Errors
     ///
     /// [`Refusal::NotThere`] where the list has no such side, and for a border half-edge.
-    pub fn sides(&self, side: HalfEdge) -> Result<impl Iterator<Item = HalfEdge> + '_, Refusal> {
+    pub fn sides(&self, side: HalfEdge) -> Result<Sides<'_>, Refusal> {
         self.is_there(side)?;
-        let round = successors(Some(side), move |&last| Some(self.after(last)).filter(|&next| next != side));
-        // There are no more, so that it ends whatever the archive wrote.
-        Ok(round.take(self.siblings.len()))
+        Ok(Sides { siblings: self, first: side, following: Some(side) })
     }
 
     /// The elements that meet at a side's edge, its own first: those of [`Siblings::sides`].
@@ -127,8 +125,8 @@ impl Siblings {
     /// # Errors
     ///
     /// [`Refusal::NotThere`] where the list has no such side, and for a border half-edge.
-    pub fn plates(&self, side: HalfEdge) -> Result<impl Iterator<Item = u32> + '_, Refusal> {
-        Ok(self.sides(side)?.map(|side| side.numbers().0))
+    pub fn plates(&self, side: HalfEdge) -> Result<Plates<'_>, Refusal> {
+        self.sides(side).map(Plates)
     }
 
     /// The edges, each by its least side, in rising order.
@@ -157,6 +155,40 @@ impl Siblings {
         HalfEdge::from_code(self.siblings[slot(side)])
     }
 }
+
+/// The sides at an edge, each once: [`Siblings::sides`].
+#[derive(Clone, Debug)]
+pub struct Sides<'a> {
+    siblings: &'a Siblings,
+    first: HalfEdge,
+    following: Option<HalfEdge>,
+}
+
+impl Iterator for Sides<'_> {
+    type Item = HalfEdge;
+
+    fn next(&mut self) -> Option<HalfEdge> {
+        let side = self.following?;
+        self.following = Some(self.siblings.after(side)).filter(|&next| next != self.first);
+        Some(side)
+    }
+}
+
+impl FusedIterator for Sides<'_> {}
+
+/// The elements at an edge, one for each of its sides: [`Siblings::plates`].
+#[derive(Clone, Debug)]
+pub struct Plates<'a>(Sides<'a>);
+
+impl Iterator for Plates<'_> {
+    type Item = u32;
+
+    fn next(&mut self) -> Option<u32> {
+        self.0.next().map(|side| side.numbers().0)
+    }
+}
+
+impl FusedIterator for Plates<'_> {}
 
 fn corners(row: &[u32; 4]) -> usize {
     if row[3] == 0 {
