@@ -124,7 +124,7 @@ module _ (n : ℕ) (L : List ℕ) (w : SiblingBuffers) (a : Answer) (w′ : Sibl
       pub own-at-border : (at (w′ .siblings) (slot s) ≡ s) ↔ T (isBorder L s)
       unfolding isBorder
       own-at-border =
-          let own = own-border L pairs s b in
+          let own = own-border L pairs s b n fit in
           let zero = means-eq (partner L s) 0 in
           ((λ e. zero .shows (own .0 (sym (side-entry s b) ∙ e))), (λ t. side-entry s b ∙ own .1 (zero .says t)))
 

@@ -6,8 +6,8 @@ pub mod Links
 pub mod Pairings
 pub mod Meeting
 pub mod Siblings
-pub mod SiblingUses
 pub mod Rounds
+pub mod SiblingUses
 pub mod Entries
 pub mod Columns
 pub mod Turns

@@ -120,12 +120,12 @@ module _ (L : List ℕ) (s : ℕ) (a : Side L s) where
     unfolding k
     rounds = record { only = only; each = each; once = once; back = back }
       where
-        met : (i j t : ℕ) → Joined L s t → Ahead k (rank (cs i)) j (rank (cs (i + j))) → (rank t ≡ rank (cs i) + j) ⊎ (rank t + k ≡ rank (cs i) + j) → cs (i + j) ≡ t
-        met i j t x w e =
+        met : (i j t : ℕ) → j ≤ k → Joined L s t → (rank t ≡ rank (cs i) + j) ⊎ (rank t + k ≡ rank (cs i) + j) → cs (i + j) ≡ t
+        met i j t h x e =
             let (a, b) = rank-in t x in
             let (c, d) = rank-in (cs (i + j)) (only (i + j)) in
             rank-inj (cs (i + j)) t (only (i + j)) x
-            (elim w [
+            (elim (window i j h) [
               | on l f ↦ elim e [ inl g ↦ omega arith | inr g ↦ omega arith ]
               | round l f ↦ elim e [ inl g ↦ omega arith | inr g ↦ omega arith ]
             ])
@@ -137,10 +137,10 @@ module _ (L : List ℕ) (s : ℕ) (a : Side L s) where
             elim (le-or-lt (rank (cs i)) (rank t)) [
               | inl l ↦
                   let j = rank t - rank (cs i) in
-                  (j, omega arith, met i j t x (window i j (omega arith)) (inl (omega arith)))
+                  (j, omega arith, met i j t (omega arith) x (inl (omega arith)))
               | inr l ↦
                   let j = rank t + k - rank (cs i) in
-                  (j, omega arith, met i j t x (window i j (omega arith)) (inr (omega arith)))
+                  (j, omega arith, met i j t (omega arith) x (inr (omega arith)))
             ]
 
         differ : {r j h x y : ℕ} → 1 ≤ r → r ≤ k → j < k → h < k → Ahead k r j x → Ahead k r h y → x ≡ y → j ≡ h
@@ -155,4 +155,4 @@ module _ (L : List ℕ) (s : ℕ) (a : Side L s) where
             differ l m p q (window i j (omega arith)) (window i h (omega arith)) (ap rank e)
 
         back : (i : ℕ) → cs (i + joining L s) ≡ cs i
-        back i = met i k (cs i) (only i) (window i k (omega arith)) (inr refl)
+        back i = met i k (cs i) (omega arith) (only i) (inr refl)

@@ -4,126 +4,86 @@ use mathlib.Core.Path.{_≡_, refl, ap, sym, subst, _∙_}
 use mathlib.Core.Bool.{not}
 use mathlib.Core.Logic.{_⊎_, inl, inr, _↔_}
 use mathlib.Core.List.{List}
-use Prim.Native.Nat.{ℕ, _≤_}
+use Prim.Native.Nat.{ℕ, zero, suc, _+_, _≤_, _<_}
 use native.Mathlib.Omega.{arith}
 use lib.Dec.{T, leb, eqb}
-use lib.ListN.{length}
 use Rattle.lists.specs.Tests.{both}
 use Rattle.lists.specs.TestLaws.{Means, means-le, means-not, decide, passes, both-pass, means-eq, zero-or}
 use Rattle.lists.specs.SearchLaws.{le-not-lt}
-use Rattle.lists.specs.CountLaws.{Three, three, three-counted}
-use Rattle.rules.specs.Elements.{isSide, Side, slot, origin, sideAt, sideWith, firstSide, countSides}
+use Rattle.rules.specs.Elements.{Side, origin, firstSide, countSides}
 use Rattle.rules.specs.Pairing.{alike, opposed, joins, Pairing}
 use Rattle.rules.specs.Tables.{partner}
 use Rattle.rules.specs.Siblings.{sibling}
-use Rattle.theory.specs.Sides.{side-positive, slot-sideAt, sideAt-slot, slot-below, slot-inj}
+use Rattle.theory.specs.Sides.{side-positive}
 use Rattle.theory.specs.Least.{first-found, means-some}
 use Rattle.theory.specs.FitRows.{Fit, ends-differ}
-use Rattle.theory.specs.Links.{lesser, greater, beyond}
 use Rattle.theory.specs.Pairings.{means-alike, means-opposed, means-joins, partner-opposed}
-use Rattle.theory.specs.Siblings.{Between, side-beyond, joins-between, between-joins, sibling-follows, Next, rises, returns, next-between}
-
--- a side and what follows it, and what follows that, in the ring of all sides between u and v
-module _ (L : List ℕ) {u v : ℕ} where
-  -- a side that follows itself is alone
-  alone : (s : ℕ) → Next L u v (beyond L) s s → (t : ℕ) → Between L u v t → t ≡ s
-  alone s (rises b h i f) t k = absurd (omega arith)
-  alone s (returns b h f g) t k =
-      let p : t ≤ s = le-not-lt t s (λ l. f t k l (side-beyond L t (k .side))) in
-      let q : s ≤ t = le-not-lt s t (λ l. g t k l) in
-      omega arith
-
-  -- where each of two follows the other there is no third
-  pair : (s x : ℕ) → Next L u v (beyond L) s x → Next L u v (beyond L) x s → (t : ℕ) → Between L u v t → (t ≡ s → ⊥) → t ≡ x
-  pair s x (rises a h i f) (rises b j k g) t m d = absurd (omega arith)
-  pair s x (rises a h i f) (returns b j g k) t m d =
-      let p : t ≤ x = le-not-lt t x (λ l. g t m l (side-beyond L t (m .side))) in
-      let q : s ≤ t = le-not-lt s t (λ l. k t m l) in
-      let r : x ≤ t = le-not-lt x t (λ l. f t m (omega arith) l) in
-      omega arith
-  pair s x (returns a h f i) (rises b j k g) t m d =
-      let p : t ≤ s = le-not-lt t s (λ l. f t m l (side-beyond L t (m .side))) in
-      let q : x ≤ t = le-not-lt x t (λ l. i t m l) in
-      let r : t ≤ x = le-not-lt t x (λ l. g t m l (omega arith)) in
-      omega arith
-  pair s x (returns a h f i) (returns b j g k) t m d =
-      let p : t ≤ s = le-not-lt t s (λ l. f t m l (side-beyond L t (m .side))) in
-      let q : s ≤ t = le-not-lt s t (λ l. k t m l) in
-      absurd (d (omega arith))
+use Rattle.theory.specs.Rounds.{joining, Rounds, rounds}
 
 module _ (L : List ℕ) (s : ℕ) (a : Side L s) where
-  own : Between L (lesser L s) (greater L s) s
-  own = record { side = a; low = refl; high = refl }
+  -- s, its sibling, and so on
+  on : ℕ → ℕ
+  on zero = s
+  on (suc j) = sibling L (on j)
 
-  follows : Next L (lesser L s) (greater L s) (beyond L) s (sibling L s)
-  follows = sibling-follows L s own
+  goes-round : Rounds L s on
+  unfolding on
+  goes-round = rounds L s a on refl (λ j b. refl)
 
-  between : Between L (lesser L s) (greater L s) (sibling L s)
-  between = next-between follows
+  -- the first round
+  met : (t : ℕ) → Side L t → T (joins L s t) → (j : ℕ) × (j < joining L s) × (on j ≡ t)
+  met t b x = let (j, h, m) = goes-round .each 0 t (b, x) in let e : j ≡ 0 + j = omega arith in (j, h, ap on e ∙ m)
+
+  back : on (joining L s) ≡ s
+  unfolding on
+  back = let e : joining L s ≡ 0 + joining L s = omega arith in ap on e ∙ goes-round .back 0
 
   -- the sibling is a side that joins the same two vertices
   pub sibling-side : Side L (sibling L s)
-  sibling-side = between .side
+  unfolding on
+  sibling-side = goes-round .only 1 .0
 
   pub sibling-joins : T (joins L s (sibling L s))
-  sibling-joins = between-joins L s (sibling L s) own between
+  unfolding on
+  sibling-joins = goes-round .only 1 .1
 
-  -- it is the side itself exactly where no other side joins them
+  -- the sibling is the side itself exactly where no other side joins its vertices
   pub sibling-lone : (sibling L s ≡ s) ↔ ((t : ℕ) → Side L t → T (joins L s t) → t ≡ s)
-  sibling-lone = (
-    (λ e t b x.
-        alone L s (rw e at follows) t (joins-between L s t own b x)),
-    (λ f. f (sibling L s) sibling-side sibling-joins),
-  )
+  unfolding on
+  sibling-lone = ((λ e t b x. let (j, h, m) = met t b x in go e t j h m), (λ f. f (sibling L s) sibling-side sibling-joins))
+    where
+      go : sibling L s ≡ s → (t j : ℕ) → j < joining L s → on j ≡ t → t ≡ s
+      go e t zero h m = sym m
+      go e t (suc j) h m = absurd (omega (arith, goes-round .once 0 0 1 (omega arith) (omega arith) (sym e)))
 
-  again : Next L (lesser L s) (greater L s) (beyond L) (sibling L s) (sibling L (sibling L s))
-  again = sibling-follows L (sibling L s) between
+  -- where siblings are so of each other, a round has no third step
+  no-third : sibling L (sibling L s) ≡ s → 3 ≤ joining L s → ⊥
+  unfolding on
+  no-third e h = omega (arith, goes-round .once 0 0 2 (omega arith) (omega arith) (sym e))
 
-  -- where siblings are so of each other, only the two join their vertices
+  -- so only the two join their vertices
   pub sibling-other : sibling L (sibling L s) ≡ s → (t : ℕ) → Side L t → T (joins L s t) → (t ≡ s → ⊥) → t ≡ sibling L s
-  sibling-other e t b x d =
-      pair L s (sibling L s) follows (rw e at again) t (joins-between L s t own b x) d
-
-  passes-at : (t : ℕ) → Between L (lesser L s) (greater L s) t → T (sideWith L (joins L s) (slot t))
-  passes-at t b = rw (sideAt-slot L t (b .side)) (both-pass (isSide L t) (joins L s t) (b .side) (between-joins L s t own b))
+  unfolding on
+  sibling-other e t b x d = let (j, h, m) = met t b x in go j h m
+    where
+      go : (j : ℕ) → j < joining L s → on j ≡ t → t ≡ sibling L s
+      go zero h m = absurd (d (sym m))
+      go (suc zero) h m = sym m
+      go (suc (suc j)) h m = absurd (no-third e (omega arith))
 
   -- refusal 6 at s: three or more sides join its two vertices exactly where the sibling's sibling is another side
   pub crowded : (3 ≤ countSides L (joins L s)) ↔ (sibling L (sibling L s) ≡ s → ⊥)
-  unfolding countSides
-  crowded = ((λ h e. no-third e (three (sideWith L (joins L s)) (length L) h)), counted)
+  unfolding on
+  crowded = ((λ h e. no-third e h), (λ d. le-not-lt 3 (joining L s) (λ l. d (go (joining L s) l some back))))
     where
-      is : sibling L (sibling L s) ≡ s → (p : ℕ) → T (sideWith L (joins L s) p) → (p ≡ slot s) ⊎ (p ≡ slot (sibling L s))
-      is e p x = go (decide (means-eq (sideAt p) s))
-        where
-          go : (sideAt p ≡ s) ⊎ (sideAt p ≡ s → ⊥) → (p ≡ slot s) ⊎ (p ≡ slot (sibling L s))
-          go (inl z) = inl (sym (slot-sideAt p) ∙ ap slot z)
-          go (inr d) =
-              let (b, y) = passes (isSide L (sideAt p)) (joins L s (sideAt p)) x in
-              inr (sym (slot-sideAt p) ∙ ap slot (sibling-other e (sideAt p) b y d))
+      some : 0 < joining L s
+      some = let (j, h, m) = met (sibling L s) sibling-side sibling-joins in omega arith
 
-      no-third : sibling L (sibling L s) ≡ s → Three (sideWith L (joins L s)) (length L) → ⊥
-      no-third e t = go (is e (t .low) (t .low-passes)) (is e (t .mid) (t .mid-passes)) (is e (t .high) (t .high-passes))
-        where
-          go : (t .low ≡ slot s) ⊎ (t .low ≡ slot (sibling L s)) → (t .mid ≡ slot s) ⊎ (t .mid ≡ slot (sibling L s)) → (t .high ≡ slot s) ⊎ (t .high ≡ slot (sibling L s)) → ⊥
-          go (inl i) (inl j) k = omega arith
-          go (inl i) (inr j) (inl k) = omega arith
-          go (inl i) (inr j) (inr k) = omega arith
-          go (inr i) (inr j) k = omega arith
-          go (inr i) (inl j) (inl k) = omega arith
-          go (inr i) (inl j) (inr k) = omega arith
-
-      counted : (sibling L (sibling L s) ≡ s → ⊥) → 3 ≤ countSides L (joins L s)
-      counted d =
-          let x = sibling L s in
-          let y = sibling L x in
-          let third = next-between again in
-          let first : s ≡ x → ⊥ = λ e. d (ap (sibling L) (sym e) ∙ sym e) in
-          let second : x ≡ y → ⊥ = λ e. d (sym e ∙ sym (alone L x (rw (sym e) at again) s own)) in
-          three-counted (sideWith L (joins L s)) (length L) (slot s) (slot x) (slot y)
-          (slot-below L s a) (slot-below L x sibling-side) (slot-below L y (third .side)) (passes-at s own) (passes-at x between) (passes-at y third)
-          (λ e. first (slot-inj L s x a sibling-side e))
-          (λ e. d (sym (slot-inj L s y a (third .side) e)))
-          (λ e. second (slot-inj L x y sibling-side (third .side) e))
+      go : (k : ℕ) → k < 3 → 0 < k → on k ≡ s → sibling L (sibling L s) ≡ s
+      go zero l h e = absurd (omega arith)
+      go (suc zero) l h e = ap (sibling L) e ∙ e
+      go (suc (suc zero)) l h e = e
+      go (suc (suc (suc k))) l h e = absurd (omega arith)
 
   pub means-crowded : Means (leb 3 (countSides L (joins L s))) (sibling L (sibling L s) ≡ s → ⊥)
   means-crowded =
@@ -197,19 +157,10 @@ module _ (L : List ℕ) (p : Pairing L (partner L)) (s : ℕ) (a : Side L s) whe
       let (other, o) = p .opposite s a d in
       other-paired (λ z. other (sibling-lone L s a .0 z (partner L s) b (means-joins L s (partner L s) .shows (inr o))))
 
-  pub own-border : (sibling L s ≡ s) ↔ (partner L s ≡ 0)
-  own-border = (alone, lone)
+  pub own-border : (n : ℕ) → Fit n L → (sibling L s ≡ s) ↔ (partner L s ≡ 0)
+  own-border n f = (partner-none L s a n f, lone)
     where
-      alone : sibling L s ≡ s → partner L s ≡ 0
-      alone e = go (zero-or (partner L s))
-        where
-          go : (partner L s ≡ 0) ⊎ (partner L s ≡ 0 → ⊥) → partner L s ≡ 0
-          go (inl z) = z
-          go (inr d) = absurd (p .opposite s a d .0 (paired-sibling d ∙ e))
-
       lone : partner L s ≡ 0 → sibling L s ≡ s
-      lone z = go (decide (means-eq (sibling L s) s))
-        where
-          go : (sibling L s ≡ s) ⊎ (sibling L s ≡ s → ⊥) → sibling L s ≡ s
-          go (inl e) = e
-          go (inr d) = absurd (side-positive L (sibling L s) (sibling-side L s a) (sym (other-paired d) ∙ z))
+      lone z =
+          elim (decide (means-eq (sibling L s) s))
+          [ inl e ↦ e | inr d ↦ absurd (side-positive L (sibling L s) (sibling-side L s a) (sym (other-paired d) ∙ z)) ]
