@@ -9,7 +9,7 @@ use native.Mathlib.Omega.{arith}
 use lib.Dec.{T, leb, eqb, T-not, not-T}
 use lib.ListN.{length}
 use Rattle.lists.specs.Tests.{both}
-use Rattle.lists.specs.TestLaws.{Test, pass, fail, test, Means, decide, means-eq, means-le, means-not}
+use Rattle.lists.specs.TestLaws.{Test, pass, fail, test, Means, decide, means-eq, means-not}
 use Rattle.lists.specs.Search.{at}
 use Rattle.rules.specs.Elements.{isSide, Side, slot, origin, sideAt, firstSide, countSides}
 use Rattle.rules.specs.Pairing.{alike, joins}
@@ -18,7 +18,7 @@ use Rattle.rules.specs.Siblings.{sibling}
 use Rattle.theory.specs.Sides.{side-positive, slot-sideAt, slot-below}
 use Rattle.theory.specs.Least.{found-at, found-nowhere, found-later, means-none}
 use Rattle.theory.specs.FitRows.{Fit}
-use Rattle.theory.specs.SiblingUses.{sibling-side, crowded, means-sibling-alike}
+use Rattle.theory.specs.SiblingUses.{sibling-side, means-crowded, means-sibling-alike}
 
 -- from place n on the sibling of each side, and 0 where no side stands
 pub record Mapped (n : ℕ) (L w : List ℕ) : Type 0 where
@@ -96,12 +96,10 @@ NotAlike L p = (s : ℕ) → Side L s → slot s < p → T (not (not (eqb (first
 -- check 6 from place to place
 module _ (n : ℕ) (L : List ℕ) (fit : Fit n L) where
   full-is : (p : ℕ) → CrowdedAt L p → T (leb 3 (countSides L (joins L (sideAt p))))
-  full-is p (a, d) = means-le 3 (countSides L (joins L (sideAt p))) .shows (crowded L (sideAt p) a .1 d)
+  full-is p (a, d) = means-crowded L (sideAt p) a .shows d
 
   full-not : (p : ℕ) → (CrowdedAt L p → ⊥) → Side L (sideAt p) → T (not (leb 3 (countSides L (joins L (sideAt p)))))
-  full-not p f a =
-      not-T (leb 3 (countSides L (joins L (sideAt p))))
-      (λ t. f (a, crowded L (sideAt p) a .0 (means-le 3 (countSides L (joins L (sideAt p))) .says t)))
+  full-not p f a = means-not (means-crowded L (sideAt p) a) .shows (λ d. f (a, d))
 
   pub crowded-found : (p : ℕ) → NotCrowded L p → CrowdedAt L p → sideAt p ≡ crowdedSide L
   unfolding crowdedSide
@@ -124,7 +122,7 @@ module _ (n : ℕ) (L : List ℕ) (fit : Fit n L) where
       go (inr d) =
           absurd
           (means-none L (λ s. leb 3 (countSides L (joins L s))) .says (means-eq _ 0 .shows e) s a
-          (means-le 3 (countSides L (joins L s)) .shows (crowded L s a .1 d)))
+          (means-crowded L s a .shows d))
 
 -- check 7 from place to place, where siblings are so of each other
 module _ (L : List ℕ) (two : (s : ℕ) → Side L s → sibling L (sibling L s) ≡ s) where
