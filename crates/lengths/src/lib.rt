@@ -20,7 +20,7 @@ pub fn sizes_fit(n: u32, m: usize, list: usize) -> bool
     list == 4 * (list / 4)
 }
 
-// Check 2 of a call with a work buffer, where check 1 found nothing; `others` is whether E2e and the element list have fit lengths.
+// Check 2 of a call with a work buffer, where check 1 found nothing; `others` is whether the other buffers have fit lengths.
 pub fn lengths_fit(n: u32, m: usize, others: bool, v2e: usize, work: usize) -> bool
     requires { ⌜ m ≤ maxElement ⌝ }
     ensures { λ r. ⌜ r ≡ both (eqb v2e n) (both others (leb (n + 16 * m) work)) ⌝ }

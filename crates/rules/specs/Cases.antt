@@ -75,9 +75,9 @@ pub data Case : Type 0 where
   answersNarrow : ℕ → List ℕ → Answer → Case
   -- of n, the columns told, the list and this E2e, what opposite answers of the code
   oppositeIs : ℕ → ℕ → List ℕ → List ℕ → ℕ → Answer → Case
-  -- the vertices' sides and the map of siblings; with a map of this length, their answer
+  -- the vertices' sides and the map of siblings; with a map of this length, the refusal, which leaves both as they were
   siblingsAre : ℕ → List ℕ → List ℕ → List ℕ → Case
-  siblingsWith : ℕ → List ℕ → ℕ → Answer → Case
+  siblingsRefused : ℕ → List ℕ → ℕ → Answer → Case
 
 unfoldable pub sameAnswer : Answer → Answer → Bool
 sameAnswer (gives a b) (gives c d) = both (eqb a c) (eqb b d)
@@ -120,7 +120,10 @@ holds (siblingsAre n L V2he Sibhe) =
     let w = siblingRoom n L (4 * elements L) in
     let left = siblingsLeaves n L w in
     both (sameAnswer (siblingsAnswer n L w) (gives 0 0)) (both (same (left .vertices) V2he) (same (left .siblings) Sibhe))
-holds (siblingsWith n L long a) = sameAnswer (siblingsAnswer n L (siblingRoom n L long)) a
+holds (siblingsRefused n L long a) =
+    let w = siblingRoom n L long in
+    let left = siblingsLeaves n L w in
+    both (sameAnswer (siblingsAnswer n L w) a) (both (same (left .vertices) (w .vertices)) (same (left .siblings) (w .siblings)))
 
 unfoldable pub every : (Case → Bool) → List Case → Bool
 every p [] = true
@@ -253,11 +256,15 @@ cases =
     siblingsAre 3 (tri 1 2 3 ++ tri 1 3 2) (9 ∷ 10 ∷ 11 ∷ []) (quad 19 18 17 0 ++ quad 11 10 9 0) ∷
     -- "Vertices map to the least side starting there, or 0"
     siblingsAre 6 (quad 5 2 3 4 ++ tri 3 2 1 ++ quad 2 3 4 1) (19 ∷ 10 ∷ 11 ∷ 12 ∷ 9 ∷ 0 ∷ []) (quad 9 17 26 12 ++ quad 25 28 19 0 ++ quad 10 11 27 18) ∷
-    -- "Only checks 1 to 4 apply", the map in four columns
-    siblingsWith 2 (tri 1 2 3) 4 (refused 3 1 3) ∷
-    siblingsWith 2 (tri 1 2 2) 4 (refused 4 1 3) ∷
-    siblingsWith 2 (tri 1 2 3) 3 (refused 2 0 0) ∷
-    siblingsWith 2 (1 ∷ 2 ∷ 3 ∷ []) 4 (refused 1 0 0) ∷
+    siblingsAre 1 [] (0 ∷ []) [] ∷
+    -- "Only checks 1 to 4 apply", each over the whole list before the next
+    siblingsRefused 2 (tri 1 2 3) 4 (refused 3 1 3) ∷
+    siblingsRefused 2 (tri 1 2 2) 4 (refused 4 1 3) ∷
+    siblingsRefused 3 (tri 1 2 2 ++ tri 1 2 4) 8 (refused 3 2 3) ∷
+    -- the map in four columns, no less and no more, before the rows are looked at; a list not in fours before that
+    siblingsRefused 2 (tri 1 2 3) 3 (refused 2 0 0) ∷
+    siblingsRefused 3 (tri 1 2 3) 5 (refused 2 0 0) ∷
+    siblingsRefused 2 (1 ∷ 2 ∷ 3 ∷ []) 4 (refused 1 0 0) ∷
     []
 
 -- the rules give every row of the table

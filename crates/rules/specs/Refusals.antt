@@ -88,7 +88,7 @@ pub record Buffers : Type 0 where
   pub work : List ℕ
 
 -- check 2 of a call with a work buffer: "V2e holds exactly n entries", "the work buffer of build and recovery at least n + 16 × m";
--- `others` for the lengths of E2e and the element list
+-- `others` for the lengths of what else the call writes or reads
 unfoldable pub callLengths : ℕ → ℕ → Bool → List ℕ → List ℕ → Bool
 callLengths n m others V2e work = both (eqb (length V2e) n) (both others (leb (n + 16 * m) (length work)))
 
