@@ -47,12 +47,13 @@ module _ (n : ℕ) (L : List ℕ) (w : SiblingBuffers) (a : Answer) (w′ : Sibl
   )
 
   -- and no refusal above 4
-  pub refused-early : {r p q : ℕ} → a ≡ refused r p q → r ≤ 4
+  pub refused-early : {r p q : ℕ} → a ≡ refused r p q → (1 ≤ r) × (r ≤ 4)
   unfolding siblingsAnswer lengthChecks
-  refused-early {r} {p} {q} e = go (sizesFit n L) (siblingLengths n L w) (zero-or (unfitCorner n L)) (zero-or (repeatedCorner L)) (sym (run .answer) ∙ e)
+  refused-early {r} {p} {q} e =
+      go (sizesFit n L) (siblingLengths n L w) (zero-or (unfitCorner n L)) (zero-or (repeatedCorner L)) (sym (run .answer) ∙ e)
     where
       go : (s l : Bool) → (unfitCorner n L ≡ 0) ⊎ (unfitCorner n L ≡ 0 → ⊥) → (repeatedCorner L ≡ 0) ⊎ (repeatedCorner L ≡ 0 → ⊥) →
-          lengthChecks s l (rowChecks n L (gives 0 0)) ≡ refused r p q → r ≤ 4
+          lengthChecks s l (rowChecks n L (gives 0 0)) ≡ refused r p q → (1 ≤ r) × (r ≤ 4)
       go false l x y f = let z : r ≡ 1 = cc in omega arith
       go true false x y f = let z : r ≡ 2 = cc in omega arith
       go true true (inr d) y f = let g = sym (check-refuses _ _ _ d) ∙ f in let z : r ≡ 3 = cc in omega arith
@@ -60,6 +61,15 @@ module _ (n : ℕ) (L : List ℕ) (w : SiblingBuffers) (a : Answer) (w′ : Sibl
           let g = sym (check-clear _ _ _ x ∙ check-refuses _ _ _ d) ∙ f in let z : r ≡ 4 = cc in omega arith
       go true true (inl x) (inl y) f =
           let g = sym (rows-clear n L _ x y) ∙ f in let z : _≡_ {A = ℕ} 0 1 = cc in absurd (omega arith)
+
+  -- a refusal leaves both maps as they were
+  pub refusal-keeps : {r p q : ℕ} → a ≡ refused r p q → (w′ .vertices ≡ w .vertices) × (w′ .siblings ≡ w .siblings)
+  unfolding siblingsLeaves after
+  refusal-keeps e =
+      let f = sym (run .answer) ∙ e in (
+        ap (λ (b : SiblingBuffers). b .vertices) (run .leaves) ∙ ap (λ (x : Answer). after x (v2he n L) (w .vertices)) f,
+        ap (λ (b : SiblingBuffers). b .siblings) (run .leaves) ∙ ap (λ (x : Answer). after x (sibhe L) (w .siblings)) f,
+      )
 
   module _ (gave : a ≡ gives 0 0) where
     fit : Fit n L
