@@ -57,7 +57,8 @@ returns-2 c =
     let told = found (written .before) in
     let rows = asked told in
     let index = written .before .before .before .before .wide .ensures in
-    (mapped (begun rows .pre) (rows .check-rows .ensures) (ap numbers (told .enum-told .given .1)) index (written .write .ensures .0), written .write .ensures .1)
+    let (maps, long) = written .write .ensures in
+    (mapped (begun rows .pre) (rows .check-rows .ensures) (ap numbers (told .enum-told .given .1)) index maps, long)
 
 pub map-fit-spec : {M : Type 1} → statement M
 map-fit-spec =

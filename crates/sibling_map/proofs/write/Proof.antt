@@ -47,9 +47,10 @@ returns c =
     let firsts = c .before .before in
     let copied = firsts .before .before .before .before in
     let grouped = copied .before .before .before .before .before .before in
+    let done = grouped .siblings .ensures .0 in
     let (fit, v2e, map, room) = begun grouped .pre in (
-      (vertices-are fit v2e (firsts .first-sides .ensures), map-is fit (grouped .siblings .ensures .0) (begun grouped .args .sibhe .now) room map refl (copied .copy .ensures)),
-      grouped .siblings .ensures .0 .kept .long,
+      (vertices-are fit v2e (firsts .first-sides .ensures), map-is fit done (begun grouped .args .sibhe .now) room map refl (copied .copy .ensures)),
+      done .kept .long,
     )
 
 pub write-spec : {M : Type 1} → statement M
