@@ -9,7 +9,7 @@ ghost use Rattle.rules.specs.Queries.{halfEdgeBorderAnswer, vertexBorderAnswer,
 ghost use Rattle.rules.specs.Queries.{borderLoopLeaves, walkerStart, walkerStep};
 ghost use Rattle.rules.specs.Siblings.{siblingsAnswer, siblingsLeaves};
 ghost use Rattle.build.specs.Building.{lent};
-ghost use Rattle.sibling_map.specs.Mapping.{lent as lentTo};
+ghost use Rattle.sibling_map.specs.Mapping.{lentMaps};
 ghost use Rattle.walker.specs.Walkers.{calledBy};
 ghost use Rattle.borzhanu.specs.Walkers.{walkerIn, entriesOf};
 
@@ -63,8 +63,8 @@ pub extern "C" fn borzhanu_siblings(
     siblings: &mut [u32],
     work: &mut [u32],
 ) -> u64
-    ensures { λ r. ⌜ r ≡ packedAnswer (siblingsAnswer n (now (elements .entry)) (lentTo (now (v2e .entry)) (now (siblings .entry)) (now (work .entry)))) ⌝ }
-    ensures { λ _. ⌜ lentTo (now (v2e .exit)) (now (siblings .exit)) (now (work .exit)) ≡ siblingsLeaves n (now (elements .entry)) (lentTo (now (v2e .entry)) (now (siblings .entry)) (now (work .entry))) ⌝ }
+    ensures { λ r. ⌜ r ≡ packedAnswer (siblingsAnswer n (now (elements .entry)) (lentMaps (now (v2e .entry)) (now (siblings .entry)) (now (work .entry)))) ⌝ }
+    ensures { λ _. ⌜ lentMaps (now (v2e .exit)) (now (siblings .exit)) (now (work .exit)) ≡ siblingsLeaves n (now (elements .entry)) (lentMaps (now (v2e .entry)) (now (siblings .entry)) (now (work .entry))) ⌝ }
 {
     answer::pack(sibling_map::siblings(n, elements, v2e, siblings, work))
 }

@@ -14,7 +14,7 @@ use Rattle.rules.specs.Pairing.{alike, opposed, joins, callSizes, sizesF
 use Rattle.rules.specs.Tables.{partner, isBorder, b2e, borderNumber, borders, columns, codeAt, e2eSlot, e2eEntry, e2e, entryOf, wide, borderInto, v2eEntry, v2e, edges}
 use Rattle.rules.specs.Recovery.{columnsBy, widened, sideOfBorder, walkStart, turnBy, trace, walkTo, walk}
 use Rattle.rules.specs.Refusals.{Answer, gives, refused, crowdedSide, alikeSide, missed, unorderedVertex, clashOf, clashing, checkFound, listAnswer, accepts}
-use Rattle.rules.specs.Refusals.{Buffers, callLengths, buildLengths, lengthChecks, roomCheck, buildAnswer, after, onto, buildLeaves, recoverLengths, recovers, recoverAnswer, recoverList}
+use Rattle.rules.specs.Refusals.{Buffers, callLengths, buildLengths, lengthChecks, roomCheck, buildAnswer, after, onto, workAfter, buildLeaves, recoverLengths, recovers, recoverAnswer, recoverList}
 use Rattle.rules.specs.Siblings.{sibling, siblingEntry, sibhe, v2he, SiblingBuffers, siblingLengths, siblingsAnswer, siblingsLeaves}
 use Rattle.rules.specs.Queries.{Mesh, seen, told, columnsAnswer, queryLengths, asked, defined, found, listed, listLeaves, andThen, prepend, readAll, follow, over, isBorderCode, isHalfEdge, isEntry, isVertex}
 use Rattle.rules.specs.Queries.{readOpposite, readBorderSide, readVertexEntry, readOrigin, readDestination, opposite, oppositeAnswer, borderNext, vertexBorderAnswer, startSide, onward, ringSides}
@@ -54,7 +54,7 @@ built n L = let w = left n L in told n 0 L (w .vertices) (w .opposites) (w .bord
 
 -- buffers for the siblings of n vertices and the list L, with a map of this length
 unfoldable pub siblingRoom : ℕ → List ℕ → ℕ → SiblingBuffers
-siblingRoom n L long = record { vertices = blank n; siblings = blank long; work = blank (n + 16 * elements L) }
+siblingRoom n L long = record { vertices = blank n; siblings = blank long; work = replicate (n + 16 * elements L) 1 }
 
 -- a row: what is asked of n vertices and a list, and the outcome
 pub data Case : Type 0 where
@@ -119,7 +119,8 @@ holds (oppositeIs n c L E2e s a) =
 holds (siblingsAre n L V2he Sibhe) =
     let w = siblingRoom n L (4 * elements L) in
     let left = siblingsLeaves n L w in
-    both (sameAnswer (siblingsAnswer n L w) (gives 0 0)) (both (same (left .vertices) V2he) (same (left .siblings) Sibhe))
+    both (sameAnswer (siblingsAnswer n L w) (gives 0 0))
+    (both (same (left .vertices) V2he) (both (same (left .siblings) Sibhe) (same (left .work) (blank (length (w .work))))))
 holds (siblingsRefused n L long a) =
     let w = siblingRoom n L long in
     let left = siblingsLeaves n L w in
@@ -255,7 +256,8 @@ cases =
     siblingsAre 4 (tri 1 2 3 ++ tri 1 2 4) (9 ∷ 10 ∷ 11 ∷ 19 ∷ []) (quad 17 10 11 0 ++ quad 9 18 19 0) ∷
     siblingsAre 3 (tri 1 2 3 ++ tri 1 3 2) (9 ∷ 10 ∷ 11 ∷ []) (quad 19 18 17 0 ++ quad 11 10 9 0) ∷
     -- "Vertices map to the least side starting there, or 0"
-    siblingsAre 6 (quad 5 2 3 4 ++ tri 3 2 1 ++ quad 2 3 4 1) (19 ∷ 10 ∷ 11 ∷ 12 ∷ 9 ∷ 0 ∷ []) (quad 9 17 26 12 ++ quad 25 28 19 0 ++ quad 10 11 27 18) ∷
+    siblingsAre 6 (quad 5 2 3 4 ++ tri 3 2 1 ++ quad 2 3 4 1) (19 ∷ 10 ∷ 11 ∷ 12 ∷ 9 ∷ 0 ∷ [])
+    (quad 9 17 26 12 ++ quad 25 28 19 0 ++ quad 10 11 27 18) ∷
     siblingsAre 1 [] (0 ∷ []) [] ∷
     -- "Only checks 1 to 4 apply", each over the whole list before the next
     siblingsRefused 2 (tri 1 2 3) 4 (refused 3 1 3) ∷
@@ -279,5 +281,5 @@ unfolding three quad tri blank room left built sameAnswer gave holds every listi
     andThen prepend readAll follow over isBorderCode isHalfEdge isEntry isVertex readOpposite readBorderSide readVertexEntry readOrigin
     readDestination opposite oppositeAnswer borderNext vertexBorderAnswer startSide onward ringSides ring neighbours loopNext borderLoop listedAnswer ringAnswer ringLeaves
     neighboursAnswer neighboursLeaves borderLoopAnswer borderLoopLeaves
-    siblingRoom sibling siblingEntry sibhe v2he siblingLengths siblingsAnswer siblingsLeaves
+    siblingRoom workAfter sibling siblingEntry sibhe v2he siblingLengths siblingsAnswer siblingsLeaves
 cases-hold = tt

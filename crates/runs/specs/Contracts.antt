@@ -22,7 +22,7 @@ use Rattle.columns.proofs.columns.Kinds as columns-kinds
 use Rattle.columns.proofs.columns.Reads as columns-reads
 use Rattle.recover.proofs.recover.Kinds as recover-kinds
 use Rattle.recover.proofs.recover.Reads as recover-reads
-use Rattle.sibling_map.specs.Mapping.{lent as lent-to}
+use Rattle.sibling_map.specs.Mapping.{lentMaps}
 use Rattle.sibling_map.proofs.siblings.Kinds as siblings-kinds
 use Rattle.sibling_map.proofs.siblings.Reads as siblings-reads
 use Rattle.rings.proofs.ring.Kinds as ring-kinds
@@ -75,8 +75,8 @@ module _ (κs : Lfts 4) (a : Dens κs recover-kinds.ps) (r : resT recover-kinds.
 -- siblings(n, list, v2e, sibhe, work)
 module _ (κs : Lfts 4) (a : Dens κs siblings-kinds.ps) (r : resT siblings-kinds.r κs .Denot) (s : AtExit (endedOf 4 siblings-kinds.ps siblings-kinds.r) κs) where
   pub siblings-run : siblings-reads.Post κs a r s
-      → SiblingsRun (a .0) (a .1 .0 .now) (lent-to (a .1 .1 .0 .now) (a .1 .1 .1 .0 .now) (a .1 .1 .1 .1 .0 .now)) (numbers r)
-      (lent-to (s .1 .1 .0 .now) (s .1 .1 .1 .0 .now) (s .1 .1 .1 .1 .0 .now))
+      → SiblingsRun (a .0) (a .1 .0 .now) (lentMaps (a .1 .1 .0 .now) (a .1 .1 .1 .0 .now) (a .1 .1 .1 .1 .0 .now)) (numbers r)
+      (lentMaps (s .1 .1 .0 .now) (s .1 .1 .1 .0 .now) (s .1 .1 .1 .1 .0 .now))
   siblings-run p = record { answer = p .0; leaves = p .1 }
 
 -- columns(n, list)

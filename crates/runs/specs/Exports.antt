@@ -36,7 +36,7 @@ use Rattle.borzhanu.proofs.borzhanu_walker_start.Kinds as start-kinds
 use Rattle.borzhanu.proofs.borzhanu_walker_start.Reads as start-reads
 use Rattle.borzhanu.proofs.borzhanu_walker_step.Kinds as step-kinds
 use Rattle.borzhanu.proofs.borzhanu_walker_step.Reads as step-reads
-use Rattle.sibling_map.specs.Mapping.{lent}
+use Rattle.sibling_map.specs.Mapping.{lentMaps}
 use Rattle.borzhanu.specs.Walkers.{walkerIn}
 use Rattle.answer.specs.Packing.{told}
 use Rattle.runs.specs.Contracts.{buffers, of}
@@ -54,7 +54,7 @@ module _ (κs : Lfts 4) (a : Dens κs recover-kinds.ps) (r : resT recover-kinds.
 
 module _ (κs : Lfts 4) (a : Dens κs siblings-kinds.ps) (r : resT siblings-kinds.r κs .Denot) (s : AtExit (endedOf 4 siblings-kinds.ps siblings-kinds.r) κs) where
   pub siblings-told : siblings-reads.Post κs a r s
-      → unpacked r ≡ siblingsAnswer (a .0) (a .1 .0 .now) (lent (a .1 .1 .0 .now) (a .1 .1 .1 .0 .now) (a .1 .1 .1 .1 .0 .now))
+      → unpacked r ≡ siblingsAnswer (a .0) (a .1 .0 .now) (lentMaps (a .1 .1 .0 .now) (a .1 .1 .1 .0 .now) (a .1 .1 .1 .1 .0 .now))
   siblings-told p = told _ (siblings-fits _ _ _) r (p .0)
 
 module _ (κs : Lfts 1) (a : Dens κs columns-kinds.ps) (r : resT columns-kinds.r κs .Denot) (s : AtExit (endedOf 1 columns-kinds.ps columns-kinds.r) κs) where

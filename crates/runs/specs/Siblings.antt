@@ -5,19 +5,20 @@ use mathlib.Core.Path.{_≡_, ap, sym, _∙_}
 use mathlib.Core.Bool.{Bool, true, false}
 use mathlib.Core.Logic.{_⊎_, inl, inr, _↔_}
 use mathlib.Core.List.{List}
-use Prim.Native.Nat.{ℕ, suc, _+_, _*_, _-_, _≤_}
+use Prim.Native.Nat.{ℕ, suc, _+_, _*_, _-_, _/_, _≤_, _<_}
 use native.Mathlib.Omega.{arith}
-use lib.Dec.{T}
-use Rattle.lists.specs.TestLaws.{true-of, passes, means-eq, zero-or}
+use lib.Dec.{T, not-T}
+use lib.ListN.{length}
+use Rattle.lists.specs.TestLaws.{true-of, false-of, passes, means-eq, zero-or}
 use Rattle.lists.specs.Search.{at}
 use Rattle.lists.specs.SearchLaws.{at-tab}
-use Rattle.rules.specs.Elements.{elements, isSide, Side, slot, sideAt}
-use Rattle.rules.specs.Pairing.{Pairing, sizesFit, unfitCorner, repeatedCorner, rowsFit}
+use Rattle.rules.specs.Elements.{elements, sides, isSide, Side, slot, sideAt}
+use Rattle.rules.specs.Pairing.{Pairing, Element, sizesFit, unfitCorner, repeatedCorner, rowsFit}
 use Rattle.rules.specs.Tables.{partner, isBorder, columns, e2eSlot, leastSide}
 use Rattle.rules.specs.Refusals.{Answer, gives, refused, lengthChecks, rowChecks, after}
 use Rattle.rules.specs.Siblings.{sibling, siblingEntry, sibhe, v2he, SiblingBuffers, siblingLengths, siblingsAnswer, siblingsLeaves}
 use Rattle.rules.specs.Queries.{Mesh, found, isHalfEdge, opposite, oppositeAnswer}
-use Rattle.theory.specs.Sides.{sideAt-slot, slot-below}
+use Rattle.theory.specs.Sides.{side-facts, sideAt-slot, slot-below}
 use Rattle.theory.specs.FitRows.{Fit, means-fit}
 use Rattle.theory.specs.Entries.{wide-paired}
 use Rattle.theory.specs.Columns.{at-side}
@@ -88,15 +89,27 @@ module _ (n : ℕ) (L : List ℕ) (w : SiblingBuffers) (a : Answer) (w′ : Sibl
         ∙ at-tab n (λ i. leastSide L (i + 1)) (v - 1) (omega arith)
         ∙ ap (leastSide L) e
 
+    entry : (p : ℕ) → p < length L → at (w′ .siblings) p ≡ siblingEntry L (sideAt p)
+    unfolding siblingsLeaves after sibhe
+    entry p h =
+        ap (λ (b : SiblingBuffers). at (b .siblings) p) (run .leaves)
+        ∙ ap (λ (x : Answer). at (after x (sibhe L) (w .siblings)) p) given
+        ∙ at-tab (4 * elements L) (λ p. siblingEntry L (sideAt p)) p (omega (arith, fit .fours))
+
     -- that of a side its sibling
     pub side-entry : (s : ℕ) → Side L s → at (w′ .siblings) (slot s) ≡ sibling L s
-    unfolding siblingsLeaves after sibhe siblingEntry
+    unfolding siblingEntry
     side-entry s b =
-        ap (λ (b : SiblingBuffers). at (b .siblings) (slot s)) (run .leaves)
-        ∙ ap (λ (x : Answer). at (after x (sibhe L) (w .siblings)) (slot s)) given
-        ∙ at-tab (4 * elements L) (λ p. siblingEntry L (sideAt p)) (slot s) (omega (arith, slot-below L s b, fit .fours))
-        ∙ ap (siblingEntry L) (sideAt-slot L s b)
-        ∙ (rw (true-of (isSide L s) b, siblingEntry))
+        entry (slot s) (slot-below L s b) ∙ ap (siblingEntry L) (sideAt-slot L s b) ∙ (rw (true-of (isSide L s) b, siblingEntry))
+
+    -- the fourth of a triangle 0
+    pub fourth-entry : (f : ℕ) → Element L f → sides L f ≡ 3 → at (w′ .siblings) (4 * (f - 1) + 3) ≡ 0
+    unfolding siblingEntry sideAt
+    fourth-entry f (l, h) e =
+        let s = sideAt (4 * (f - 1) + 3) in
+        let own : s / 8 ≡ f = omega arith in
+        let none : Side L s → ⊥ = λ b. omega (arith, side-facts L s b .number-to, ap (sides L) own ∙ e) in
+        entry (4 * (f - 1) + 3) (omega (arith, fit .fours)) ∙ (rw (false-of (isSide L s) (not-T (isSide L s) none), siblingEntry))
 
     -- following the map from a side meets exactly the sides of its two vertices, each once in every round, however many they are
     pub followed : (s : ℕ) (cs : ℕ → ℕ) → Side L s → cs 0 ≡ s → ((j : ℕ) → cs (suc j) ≡ at (w′ .siblings) (slot (cs j))) → Rounds L s cs

@@ -27,8 +27,8 @@ use Rattle.siblings.specs.Siblings.{Grouped}
 use Rattle.checks.specs.Firsts.{Firsts}
 
 -- the three buffers
-abbrev pub lent : List ℕ → List ℕ → List ℕ → SiblingBuffers
-lent V2e Sibhe work = record { vertices = V2e; siblings = Sibhe; work = work }
+abbrev pub lentMaps : List ℕ → List ℕ → List ℕ → SiblingBuffers
+lentMaps V2e Sibhe work = record { vertices = V2e; siblings = Sibhe; work = work }
 
 -- checks 1 and 2 found nothing
 pub record Checked (n : ℕ) (L V2e Sibhe work : List ℕ) : Type 0 where
@@ -101,7 +101,7 @@ module _ {n : ℕ} {L V2e Sibhe work : List ℕ} (x : Checked n L V2e Sibhe work
 -- the whole call
 module _ (n : ℕ) (L V2e Sibhe work : List ℕ) where
   abbrev w : SiblingBuffers
-  w = lent V2e Sibhe work
+  w = lentMaps V2e Sibhe work
 
   pub checked : sizesFit n L ≡ true → siblingLengths n L w ≡ true → Checked n L V2e Sibhe work
   unfolding siblingLengths
@@ -111,7 +111,7 @@ module _ (n : ℕ) (L V2e Sibhe work : List ℕ) where
 
   -- by its answer, and by what the work holds
   leaves : Answer → List ℕ → SiblingBuffers
-  leaves a = lent (after a (v2he n L) V2e) (after a (sibhe L) Sibhe)
+  leaves a = lentMaps (after a (v2he n L) V2e) (after a (sibhe L) Sibhe)
 
   abbrev pub Whole : Answer → SiblingBuffers → Type 0
   Whole a w′ = (a ≡ siblingsAnswer n L w) × (w′ ≡ siblingsLeaves n L w)
@@ -125,8 +125,8 @@ module _ (n : ℕ) (L V2e Sibhe work : List ℕ) where
   unlengthened = calls.unlengthened leaves (sizesFit n L) (siblingLengths n L w) _ work
 
   pub done : {a : Answer} {V2e′ Sibhe′ work′ : List ℕ} {l : ℕ} → (sizesFit n L ≡ true) × (siblingLengths n L w ≡ true) →
-      Mapped n L a V2e Sibhe V2e′ Sibhe′ × (l ≡ length work) → work′ ≡ replicate l 0 → Whole a (lent V2e′ Sibhe′ work′)
+      Mapped n L a V2e Sibhe V2e′ Sibhe′ × (l ≡ length work) → work′ ≡ replicate l 0 → Whole a (lentMaps V2e′ Sibhe′ work′)
   unfolding leaves siblingsAnswer siblingsLeaves
   done {work′ = work′} fit (x, long) z =
       let (e, f) = calls.cleared leaves (sizesFit n L) (siblingLengths n L w) _ work fit (x .answer) (z ∙ ap (λ (k : ℕ). replicate k 0) long) in
-      (e, (λ i. lent (x .vertices i) (x .siblings i) work′) ∙ f)
+      (e, (λ i. lentMaps (x .vertices i) (x .siblings i) work′) ∙ f)

@@ -7,7 +7,7 @@ ghost use Rattle.rules.specs.Siblings.{siblingsAnswer, siblingsLeaves, v2he};
 ghost use Rattle.rules.specs.Siblings.{sibhe as sibheOf};
 ghost use Rattle.theory.specs.FitRows.{Fit};
 ghost use Rattle.answer.specs.Numbers.{numbers};
-ghost use Rattle.sibling_map.specs.Mapping.{Checked, Mapped, lent};
+ghost use Rattle.sibling_map.specs.Mapping.{Checked, Mapped, lentMaps};
 use answer::Answer;
 use answer::refuse;
 use buffers::clear;
@@ -59,8 +59,8 @@ pub fn siblings(
     sibhe: &mut [u32],
     work: &mut [u32],
 ) -> Answer
-    ensures { λ r. ⌜ numbers r ≡ siblingsAnswer n (now (list .entry)) (lent (now (v2e .entry)) (now (sibhe .entry)) (now (work .entry))) ⌝ }
-    ensures { λ _. ⌜ lent (now (v2e .exit)) (now (sibhe .exit)) (now (work .exit)) ≡ siblingsLeaves n (now (list .entry)) (lent (now (v2e .entry)) (now (sibhe .entry)) (now (work .entry))) ⌝ }
+    ensures { λ r. ⌜ numbers r ≡ siblingsAnswer n (now (list .entry)) (lentMaps (now (v2e .entry)) (now (sibhe .entry)) (now (work .entry))) ⌝ }
+    ensures { λ _. ⌜ lentMaps (now (v2e .exit)) (now (sibhe .exit)) (now (work .exit)) ≡ siblingsLeaves n (now (list .entry)) (lentMaps (now (v2e .entry)) (now (sibhe .entry)) (now (work .entry))) ⌝ }
 {
     let m = list.len() / 4;
     if !sizes_fit(n, m, list.len()) {

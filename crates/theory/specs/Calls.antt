@@ -25,7 +25,8 @@ module _ {B : Type 0} (leaves : Answer → List ℕ → B) (sizes lengths : Bool
   abbrev pub Whole : Answer → B → Type 0
   Whole a left = (a ≡ lengthChecks sizes lengths rest) × (left ≡ leaves (lengthChecks sizes lengths rest) (workAfter sizes lengths work))
 
-  whole : {a x : Answer} {work′ : List ℕ} → a ≡ x → lengthChecks sizes lengths rest ≡ x → workAfter sizes lengths work ≡ work′ → Whole a (leaves x work′)
+  whole : {a x : Answer} {work′ : List ℕ} → a ≡ x → lengthChecks sizes lengths rest ≡ x → workAfter sizes lengths work ≡ work′ →
+      Whole a (leaves x work′)
   whole e f g = (e ∙ sym f, λ i. leaves (sym f i) (sym g i))
 
   pub unsized : {a : Answer} → sizes ≡ false → a ≡ refused 1 0 0 → Whole a (leaves (refused 1 0 0) work)
@@ -36,6 +37,7 @@ module _ {B : Type 0} (leaves : Answer → List ℕ → B) (sizes lengths : Bool
   unfolding lengthChecks workAfter
   unlengthened s l e = whole e (rw (s, l, lengthChecks)) (rw (s, l, workAfter))
 
-  pub cleared : {a : Answer} {work′ : List ℕ} → (sizes ≡ true) × (lengths ≡ true) → a ≡ rest → work′ ≡ replicate (length work) 0 → Whole a (leaves a work′)
+  pub cleared : {a : Answer} {work′ : List ℕ} → (sizes ≡ true) × (lengths ≡ true) → a ≡ rest → work′ ≡ replicate (length work) 0 →
+      Whole a (leaves a work′)
   unfolding lengthChecks workAfter
   cleared (s, l) e z = whole refl (rw (s, l, lengthChecks) (sym e)) (rw (s, l, workAfter) (sym z))

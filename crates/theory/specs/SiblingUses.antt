@@ -110,7 +110,8 @@ module _ (L : List ℕ) (s : ℕ) (a : Side L s) where
             let (p, q) = means-opposed L s (sibling L s) .says x in
             means-alike L s (sibling L s) .shows (o, q ∙ sym o ∙ p)
 
-    pub means-sibling-alike : Means (not (eqb (firstSide L (λ t. both (not (eqb s t)) (alike L s t))) 0)) ((sibling L s ≡ s → ⊥) × (origin L (sibling L s) ≡ origin L s))
+    pub means-sibling-alike :
+        Means (not (eqb (firstSide L (λ t. both (not (eqb s t)) (alike L s t))) 0)) ((sibling L s ≡ s → ⊥) × (origin L (sibling L s) ≡ origin L s))
     means-sibling-alike =
         let m = means-some L (λ t. both (not (eqb s t)) (alike L s t)) in
         record {

@@ -80,7 +80,11 @@ module _ (L : List ℕ) where
     sibling-follows s b =
         go (test (eqb (firstSide L (higher s)) 0)) (first-side L (higher s)) (first-side L (joins L s))
       where
-        go : Test (eqb (firstSide L (higher s)) 0) → First L (higher s) (firstSide L (higher s)) → First L (joins L s) (firstSide L (joins L s)) → Next L u v (beyond L) s (sibling L s)
+        go :
+            Test (eqb (firstSide L (higher s)) 0) →
+            First L (higher s) (firstSide L (higher s)) →
+            First L (joins L s) (firstSide L (joins L s)) →
+            Next L u v (beyond L) s (sibling L s)
         go (pass w e) (somebody a x f) r = absurd (side-positive L _ a (means-eq (firstSide L (higher s)) 0 .says w))
         go (pass w e) (nobody z f) (nobody y g) = absurd (T-not (joins L s s) (g s (b .side)) (between-joins s s b b))
         go (pass w e) (nobody z f) (somebody a x g) =

@@ -71,7 +71,8 @@ returns : tie.Need-returns
 returns c =
     let asked = c .before .before in
     let a = begun asked .args in
-    unsized (a .n) (a .list .now) (a .v2e .now) (a .e2e .now) (a .b2e .now) (a .work .now) (sym (sizes asked) ∙ not-true _ (c .before .if1 .taken)) (c .refuse .ensures)
+    unsized (a .n) (a .list .now) (a .v2e .now) (a .e2e .now) (a .b2e .now) (a .work .now)
+    (sym (sizes asked) ∙ not-true _ (c .before .if1 .taken)) (c .refuse .ensures)
 
 columns-of-requires : tie.Need-columns-of-requires
 columns-of-requires c κs = search needs

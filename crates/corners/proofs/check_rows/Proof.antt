@@ -98,7 +98,8 @@ returns c =
     let found = coded .before .before in
     let read = found .before in
     c .refuse-side .ensures
-    ∙ scan-unfit (inside read .before .loop .inv) refl (fits (inside read)) (unfit-in read) (found .if1 .taken) (coded .before .wide .ensures) (coded .code-at .ensures)
+    ∙ scan-unfit (inside read .before .loop .inv) refl (fits (inside read)) (unfit-in read) (found .if1 .taken) (coded .before .wide .ensures)
+    (coded .code-at .ensures)
 
 first-repeated-requires : tie.Need-first-repeated-requires Inv-loop μ-loop
 first-repeated-requires c κs = let i = inside (c .before) in omega (arith, fits i, bound i)

@@ -8,7 +8,7 @@ use Rattle.rules.specs.Pairing.{callSizes, sizesFit}
 use Rattle.rules.specs.Refusals.{callLengths}
 use Rattle.rules.specs.Siblings.{SiblingBuffers, siblingLengths}
 use Rattle.theory.specs.FitRows.{means-sizes}
-use Rattle.sibling_map.specs.Mapping.{lent, checked, unsized, unlengthened, done}
+use Rattle.sibling_map.specs.Mapping.{lentMaps, checked, unsized, unlengthened, done}
 use Rattle.sibling_map.proofs.siblings.Statement.{statement}
 use Rattle.sibling_map.proofs.siblings.Tie as tie
 
@@ -24,7 +24,7 @@ unfolding callSizes sizesFit
 sizes c = c .sizes-fit .ensures
 
 abbrev buffers : tie.Start → SiblingBuffers
-buffers c = let a = c .args in lent (a .v2e .now) (a .sibhe .now) (a .work .now)
+buffers c = let a = c .args in lentMaps (a .v2e .now) (a .sibhe .now) (a .work .now)
 
 lengths : (c : tie.After-lengths-fit) →
     let s = begun (c .before .before) in c .lengths-fit .result ≡ siblingLengths (s .args .n) (s .args .list .now) (buffers s)
@@ -49,7 +49,8 @@ returns : tie.Need-returns
 returns c =
     let tried = c .before .before in
     let a = begun tried .args in
-    unsized (a .n) (a .list .now) (a .v2e .now) (a .sibhe .now) (a .work .now) (sym (sizes tried) ∙ not-true _ (c .before .if1 .taken)) (c .refuse .ensures)
+    unsized (a .n) (a .list .now) (a .v2e .now) (a .sibhe .now) (a .work .now)
+    (sym (sizes tried) ∙ not-true _ (c .before .if1 .taken)) (c .refuse .ensures)
 
 mul-lengths-fit : tie.Need-mul-lengths-fit
 mul-lengths-fit c = search needs
