@@ -1,8 +1,8 @@
 #include "clash.h"
 
+#include "room.h"
 #include "sorting.h"
 
-#include <stdio.h>
 #include <stdlib.h>
 
 static uint32_t corner_count(const uint32_t *row) {
@@ -47,15 +47,6 @@ struct clash clash_by_pairs(const uint32_t *rows, size_t m) {
 }
 
 /* ---- elements that share two corners ---- */
-
-static uint64_t *room_for(size_t count) {
-    uint64_t *room = malloc((count + 1) * sizeof *room);
-    if (room == NULL) {
-        fprintf(stderr, "clash: out of memory\n");
-        exit(2);
-    }
-    return room;
-}
 
 /* Two corners of element f, the lesser vertex first; beside them f, and whether they are the ends of a diagonal. */
 static uint64_t two_corners(const uint32_t *row, uint32_t i, uint32_t j, uint32_t f) {
@@ -120,7 +111,7 @@ static struct clash lesser(struct clash a, struct clash b) {
 
 /* Three corners that two elements share are three pairs: all are sides of both, or one is a diagonal. */
 struct clash clash_by_sorting(const uint32_t *rows, size_t m) {
-    uint64_t *corners = room_for(6 * m), *edges = room_for(3 * m);
+    uint64_t *corners = room_for(6 * m, sizeof *corners), *edges = room_for(3 * m, sizeof *edges);
     size_t count = all_corners(rows, m, corners), noted = 0;
     struct clash least = {0, 0};
     sort_pairs(corners, count);

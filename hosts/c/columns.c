@@ -3,13 +3,12 @@
 #include "asking.h"
 #include "borzhanu.h"
 #include "cases.h"
+#include "room.h"
 
 #include <stdlib.h>
 #include <string.h>
 
 enum { MOST = BORZHANU_MAX_ELEMENTS };
-
-#define COUNT(array) (sizeof(array) / sizeof *(array))
 
 /* Does something with the tables of each accepted case, and of small housings. */
 static void for_small_tables(void (*try_tables)(const struct mesh *t), struct dice *dice) {

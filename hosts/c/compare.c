@@ -14,6 +14,7 @@
 #include "meeting.h"
 #include "pillows.h"
 #include "printed.h"
+#include "room.h"
 #include "siblings.h"
 #include "spare.h"
 
@@ -23,8 +24,6 @@
 #include <time.h>
 
 enum { SEED = 20240131 };
-
-#define COUNT(array) (sizeof(array) / sizeof *(array))
 
 static int row_is_fit(const uint32_t *row, uint32_t n) {
     for (int i = 0; i < 4; i++) {

@@ -4,6 +4,7 @@
 #include "borzhanu.h"
 #include "cases.h"
 #include "pillows.h"
+#include "room.h"
 
 #include <stdio.h>
 #include <stdlib.h>
@@ -11,8 +12,6 @@
 
 /* of elements and of vertices */
 enum { MOST = BORZHANU_MAX_ELEMENTS };
-
-#define COUNT(array) (sizeof(array) / sizeof *(array))
 
 /* ---- known answers ---- */
 

@@ -1,6 +1,7 @@
 #include "meshes.h"
 
-#include <stdio.h>
+#include "room.h"
+
 #include <stdlib.h>
 #include <string.h>
 
@@ -14,15 +15,6 @@ uint32_t any_number(struct dice *dice) {
 
 uint32_t below(struct dice *dice, uint32_t bound) {
     return bound == 0 ? 0 : any_number(dice) % bound;
-}
-
-static void *room_for(size_t count, size_t size) {
-    void *p = calloc(count + 1, size);
-    if (p == NULL) {
-        fprintf(stderr, "meshes: out of memory\n");
-        exit(2);
-    }
-    return p;
 }
 
 struct list empty_list(uint32_t n, size_t room) {

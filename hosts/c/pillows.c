@@ -1,17 +1,9 @@
 #include "pillows.h"
 
-#include <stdio.h>
+#include "room.h"
+
 #include <stdlib.h>
 #include <string.h>
-
-static void *room_for(size_t count, size_t size) {
-    void *p = calloc(count + 1, size);
-    if (p == NULL) {
-        fprintf(stderr, "pillows: out of memory\n");
-        exit(2);
-    }
-    return p;
-}
 
 /* ---- slices ---- */
 

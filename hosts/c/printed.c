@@ -3,12 +3,11 @@
 #include "asking.h"
 #include "borzhanu.h"
 #include "cases.h"
+#include "room.h"
 
 #include <stdio.h>
 #include <stdlib.h>
 #include <string.h>
-
-#define COUNT(array) (sizeof(array) / sizeof *(array))
 
 static void fail_case(const char *name, const char *what) {
     printf("MISMATCH: case '%s': %s isn't as printed\n", name, what);

@@ -1,6 +1,7 @@
 #include "reference.h"
 
 #include "clash.h"
+#include "room.h"
 #include "sorting.h"
 
 #include <stdio.h>
@@ -15,15 +16,6 @@ static struct answer gives(uint32_t first, uint32_t second) {
 
 static struct answer refused(uint32_t refusal, uint32_t first, uint32_t second) {
     return (struct answer){refusal, first, second};
-}
-
-static void *zeroed(size_t count, size_t size) {
-    void *p = calloc(count + 1, size);
-    if (p == NULL) {
-        fprintf(stderr, "reference: out of memory\n");
-        exit(2);
-    }
-    return p;
 }
 
 /* ---- elements and sides ---- */
@@ -130,7 +122,7 @@ static struct answer check_corners(const struct study *s) {
 
 /* Each side beside the two vertices that it joins, the lesser first. */
 static uint64_t *sorted_joints(struct study *s) {
-    uint64_t *joints = zeroed(4 * s->m, sizeof *joints);
+    uint64_t *joints = room_for(4 * s->m, sizeof *joints);
     size_t count = 0;
     for (size_t p = 0; p < 4 * s->m; p++) {
         uint32_t side = side_at(p);
@@ -193,8 +185,8 @@ static int is_turn_order(const struct study *s, uint32_t first, int first_is_tur
 /* For each vertex the side where its turn order would begin: one that is nobody's turn, else any. A vertex without
    sides has the empty turn order. */
 static struct answer check_turn_orders(const struct study *s) {
-    unsigned char *is_turn = zeroed(4 * s->m, 1);
-    uint32_t *first = zeroed(s->n, sizeof *first), *valence = zeroed(s->n, sizeof *valence);
+    unsigned char *is_turn = room_for(4 * s->m, 1);
+    uint32_t *first = room_for(s->n, sizeof *first), *valence = room_for(s->n, sizeof *valence);
     struct answer answer = gives(0, 0);
     for (size_t p = 0; p < 4 * s->m; p++)
         if (s->rows[p] != 0 && turn_of(s, side_at(p)) != 0)
@@ -284,10 +276,10 @@ static struct answer examine(struct study *s) {
 static struct study study_of(uint32_t n, struct slice elements) {
     size_t m = elements.len / 4;
     struct study s = {.n = n, .columns = columns_of(elements), .rows = elements.at, .m = m};
-    s.partner = zeroed(4 * m, sizeof(uint32_t));
-    s.v2e = zeroed(n, sizeof(uint32_t));
-    s.e2e = zeroed(s.columns * m, sizeof(uint32_t));
-    s.b2e = zeroed(4 * m, sizeof(uint32_t));
+    s.partner = room_for(4 * m, sizeof(uint32_t));
+    s.v2e = room_for(n, sizeof(uint32_t));
+    s.e2e = room_for(s.columns * m, sizeof(uint32_t));
+    s.b2e = room_for(4 * m, sizeof(uint32_t));
     return s;
 }
 
@@ -347,7 +339,7 @@ int tables_but_for_18(uint32_t n, struct slice elements, struct mesh *t) {
         return 0;
     }
     write_tables(&s);
-    uint32_t *rows = zeroed(elements.len, sizeof *rows);
+    uint32_t *rows = room_for(elements.len, sizeof *rows);
     copy_entries(rows, elements.at, elements.len);
     free(s.partner);
     *t = (struct mesh){n, 0, {rows, elements.len}, {s.v2e, n}, {s.e2e, s.columns * s.m}, {s.b2e, s.k}};
@@ -391,7 +383,7 @@ struct answer reference_siblings(const struct mesh *mesh, struct slice siblings,
 
 /* E2e as rows of four: in three columns every element is a triangle. */
 static uint32_t *rows_of_four(struct slice e2e, size_t m) {
-    uint32_t *rows = zeroed(4 * m, sizeof *rows), columns = e2e.len == 3 * m ? 3 : 4;
+    uint32_t *rows = room_for(4 * m, sizeof *rows), columns = e2e.len == 3 * m ? 3 : 4;
     for (size_t f = 0; f < m; f++)
         copy_entries(rows + 4 * f, e2e.at + columns * f, columns);
     return rows;
@@ -408,7 +400,7 @@ static size_t set_of(size_t *parent, size_t p) {
 }
 
 static size_t *origin_sets(const uint32_t *e2e, size_t m) {
-    size_t *parent = zeroed(4 * m, sizeof *parent);
+    size_t *parent = room_for(4 * m, sizeof *parent);
     for (size_t p = 0; p < 4 * m; p++)
         parent[p] = p;
     for (size_t p = 0; p < 4 * m; p++)
@@ -441,8 +433,8 @@ static uint32_t side_from(uint32_t entry, const uint32_t *e2e, size_t m, const u
 static struct slice candidate_list(const struct mesh *mesh, size_t m) {
     uint32_t *e2e = rows_of_four(mesh->e2e, m);
     size_t *parent = origin_sets(e2e, m);
-    uint32_t *borders = zeroed(4 * m, sizeof *borders), *vertex = zeroed(4 * m, sizeof *vertex);
-    uint32_t *list = zeroed(4 * m, sizeof *list);
+    uint32_t *borders = room_for(4 * m, sizeof *borders), *vertex = room_for(4 * m, sizeof *vertex);
+    uint32_t *list = room_for(4 * m, sizeof *list);
     size_t k = border_sides(e2e, m, borders);
     for (uint32_t v = 1; v <= mesh->n; v++) {
         uint32_t side = side_from(mesh->v2e.at[v - 1], e2e, m, borders, k);
@@ -707,7 +699,7 @@ struct answer reference_ring(const struct mesh *mesh, uint32_t v, struct slice o
         return checked;
     if (is_unused(mesh, v))
         return gives(0, 0);
-    uint32_t *list = zeroed(elements_in(mesh), sizeof *list);
+    uint32_t *list = room_for(elements_in(mesh), sizeof *list);
     size_t count = ring_sides(mesh, v, list);
     for (size_t i = 0; i < count; i++)
         list[i] = element_of(list[i]);
@@ -738,7 +730,7 @@ struct answer reference_neighbours(const struct mesh *mesh, uint32_t v, struct s
     if (is_unused(mesh, v))
         return gives(0, 0);
     size_t room = elements_in(mesh) + 1;
-    uint32_t *sides = zeroed(room, sizeof *sides), *list = zeroed(room, sizeof *list);
+    uint32_t *sides = room_for(room, sizeof *sides), *list = room_for(room, sizeof *list);
     size_t ring_count = ring_sides(mesh, v, sides);
     size_t count = ring_count == 0 ? 0 : list_neighbours(mesh, v, sides, ring_count, list);
     struct answer answer = list_into(list, count, out);
@@ -767,7 +759,7 @@ struct answer reference_border_loop(const struct mesh *mesh, uint32_t b, struct 
         return answer;
     if (b < 1 || b > mesh->b2e.len)
         return refused(11, 0, 0);
-    uint32_t *list = zeroed(mesh->b2e.len, sizeof *list);
+    uint32_t *list = room_for(mesh->b2e.len, sizeof *list);
     answer = list_into(list, list_border_loop(mesh, b, list), out);
     free(list);
     return answer;

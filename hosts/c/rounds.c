@@ -3,26 +3,17 @@
 #include "borzhanu.h"
 #include "calls.h"
 #include "meshes.h"
+#include "room.h"
 
-#include <stdio.h>
 #include <stdlib.h>
-
-static void *room_for(size_t count, size_t size) {
-    void *p = calloc(count + 1, size);
-    if (p == NULL) {
-        fprintf(stderr, "rounds: out of memory\n");
-        exit(2);
-    }
-    return p;
-}
 
 static const uint32_t *row_of(struct slice elements, uint32_t side) {
     return elements.at + 4 * (borzhanu_element_of(side) - 1);
 }
 
 static int is_side(struct slice elements, uint32_t code) {
-    uint32_t f = borzhanu_element_of(code);
-    return f >= 1 && f <= elements.len / 4 && borzhanu_number_of(code) <= corners_of(row_of(elements, code));
+    uint32_t f = borzhanu_element_of(code), i = borzhanu_number_of(code);
+    return f >= 1 && f <= elements.len / 4 && i >= 1 && i <= corners_of(row_of(elements, code));
 }
 
 static uint32_t origin_of(struct slice elements, uint32_t side) {

@@ -4,14 +4,13 @@
 #include "borzhanu.h"
 #include "cases.h"
 #include "ribs.h"
+#include "room.h"
 
 #include <stdio.h>
 #include <string.h>
 
 /* of elements and of vertices */
 enum { MOST = BORZHANU_MAX_ELEMENTS };
-
-#define COUNT(array) (sizeof(array) / sizeof *(array))
 
 /* ---- known maps ---- */
 
@@ -114,12 +113,8 @@ static void check_last_row(struct list list) {
 
 /* ---- any lists ---- */
 
-/* How many lists building refuses for three plates at an edge, and for two that run alike. */
-struct tally {
-    uint32_t crowded, alike;
-};
-
-static void try_any(struct dice *dice, uint32_t size, struct tally *tally) {
+/* Returns what building refuses it for, or 0. */
+static uint32_t try_any(struct dice *dice, uint32_t size) {
     struct list list = any_ribs(dice, size);
     struct mesh t;
     disguise(&list, dice);
@@ -131,29 +126,30 @@ static void try_any(struct dice *dice, uint32_t size, struct tally *tally) {
         damage_list(&list, dice);
     struct call building = build_of(&list, list.n);
     uint32_t refusal = compare(&building, NULL).refusal;
-    tally->crowded += refusal == 6;
-    tally->alike += refusal == 7;
     if (tried_building(&list, &t))
         drop_tables(&t);
     drop_list(&list);
+    return refusal;
 }
 
 /* At least a fifth of the lists has an edge of three, and a fiftieth has none and sides that run alike. */
 static void many_lists(struct dice *dice) {
     enum { LISTS = 10000 };
-    struct tally tally = {0, 0};
-    for (int i = 0; i < LISTS; i++)
-        try_any(dice, i % 10 == 0 ? 60 : 8, &tally);
-    if (tally.crowded >= LISTS / 5 && tally.alike >= LISTS / 50)
+    int crowded = 0, alike = 0;
+    for (int i = 0; i < LISTS; i++) {
+        uint32_t refusal = try_any(dice, i % 10 == 0 ? 60 : 8);
+        crowded += refusal == 6;
+        alike += refusal == 7;
+    }
+    if (crowded >= LISTS / 5 && alike >= LISTS / 50)
         return;
-    printf("MISMATCH: of %d lists too few have edges of three, %u, or sides that run alike, %u\n", (int)LISTS,
-           tally.crowded, tally.alike);
+    printf("MISMATCH: of %d lists too few have edges of three, %d, or sides that run alike, %d\n", (int)LISTS, crowded,
+           alike);
     stop();
 }
 
 void edges_of_plates(struct dice *dice) {
     static const uint32_t sizes[] = {1000, 10000, 100000};
-    struct tally tally = {0, 0};
     for (size_t i = 0; i < sibling_case_count; i++)
         check_case(&sibling_cases[i]);
     for (uint32_t count = 1; count <= 40; count++)
@@ -165,7 +161,7 @@ void edges_of_plates(struct dice *dice) {
     check_last_row(book(MOST, MOST));
     many_lists(dice);
     for (size_t i = 0; i < COUNT(sizes); i++)
-        try_any(dice, sizes[i], &tally);
+        try_any(dice, sizes[i]);
 }
 
 /* ---- time ---- */

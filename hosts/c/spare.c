@@ -2,13 +2,12 @@
 
 #include "asking.h"
 #include "borzhanu.h"
+#include "room.h"
 
 #include <stdio.h>
 #include <stdlib.h>
 
 enum { MOST = BORZHANU_MAX_VERTICES, MIDDLE = MOST / 2, THIRD = MOST / 3 };
-
-#define COUNT(array) (sizeof(array) / sizeof *(array))
 
 /* A list of up to four elements on all the vertices, and what building answers. */
 struct few {

@@ -1,4 +1,4 @@
--- What a call past checks 2, 3 and 4 may take for granted. What build answers, with fit lengths and rows: one of the refusals 6 to 8 and 18
+-- What a call past checks 3 and 4 may take for granted. What build answers, with fit lengths and rows: one of the refusals 6 to 8 and 18
 -- exactly when the list isn't accepted; where it is, only 9 remains, exactly when B2e is shorter than k.
 -- Assumes nothing.
 use mathlib.Core.Path.{_≡_, refl, ap, sym, subst, _∙_}
