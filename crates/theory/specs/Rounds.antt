@@ -74,7 +74,7 @@ module _ (L : List ℕ) (s : ℕ) (a : Side L s) where
   unfolding rank
   rank-inj t x b c e = slot-inj L t x (b .0) (c .0) (count-inj test (slot t) (slot x) (passes-at t b) (passes-at x c) (omega arith))
 
-  -- what is between two codes is so between their places
+  -- where no such side stands from place c on and below d, no place there passes
   clear : (c d : ℕ) → ((y : ℕ) → Joined L s y → c ≤ slot y → slot y < d → ⊥) → (i : ℕ) → c ≤ i → i < d → T (test i) → ⊥
   clear c d f i l h x = let e = slot-sideAt i in f (sideAt i) (stands i x) (omega arith) (omega arith)
 
