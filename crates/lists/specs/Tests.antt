@@ -25,3 +25,8 @@ same [] [] = true
 same [] (y ∷ ys) = false
 same (x ∷ xs) [] = false
 same (x ∷ xs) (y ∷ ys) = both (eqb x y) (same xs ys)
+
+-- x stands in the list
+unfoldable pub has : List ℕ → ℕ → Bool
+has [] x = false
+has (y ∷ ys) x = either (eqb y x) (has ys x)

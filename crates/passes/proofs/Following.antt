@@ -11,8 +11,7 @@ use lib.ListN.{length}
 use Rattle.rules.specs.Queries.{andThen, prepend, readAll, follow, over}
 use Rattle.passes.specs.Walks.{sizeOf, listOf}
 use Rattle.theory.specs.Follows.{follow-none}
-use Rattle.theory.specs.Reads.{and-then}
-use Rattle.reads.proofs.Readings.{and-none, nothing}
+use Rattle.theory.specs.Reads.{and-then, and-none, nothing}
 
 -- k more
 unfoldable pub raised : ℕ → Option ℕ → Option ℕ

@@ -10,12 +10,12 @@ use borrow.Author.Tests.{lt-ltb, le-ltb}
 use lib.Dec.{ltb}
 use lib.ListN.{length, set, length-set}
 use lib.Seq.{sets}
+use Rattle.theory.specs.Reads.{nothing}
 use Rattle.rules.specs.Queries.{Mesh, prepend}
 use Rattle.passes.specs.declared.Walk.{Walk}
 use Rattle.passes.specs.declared.Step.{Step}
 use Rattle.passes.specs.declared.Step.the-variants.{To, Lost}
 use Rattle.passes.specs.Walks.{Stands, Begins, Stepped, walked, sizeOf, listOf, putAt, Leaves}
-use Rattle.reads.proofs.Readings.{nothing}
 use Rattle.passes.proofs.Following.{raised, walk-stopped, walk-to, walk-lost, walk-none, raised-none, raised-more, raised-some, size-positive, list-more}
 use Rattle.passes.proofs.Standing.{next-stands}
 

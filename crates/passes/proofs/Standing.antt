@@ -4,19 +4,20 @@ use mathlib.Core.Bool.{Bool, true, false}
 use mathlib.Core.Logic.{_⊎_, inl, inr}
 use mathlib.Core.Option.{Option, some}
 use mathlib.Core.Path.{_≡_, sym, subst, _∙_}
-use Prim.Native.Nat.{ℕ, _%_, _/_, _*_, _≤_}
-use native.Mathlib.Omega.{arith}
+use Prim.Native.Nat.{ℕ, _%_, _≤_}
 use lib.Dec.{T, eqb}
 use lib.ListN.{length}
 use Rattle.lists.specs.TestLaws.{zero-or}
 use Rattle.rules.specs.Elements.{Side, next}
-use Rattle.rules.specs.Queries.{Mesh, bySide, isHalfEdge, isBorderCode, readOpposite, borderNext, onward, loopNext}
+use Rattle.rules.specs.Queries.{Mesh, bySide, isHalfEdge, readOpposite, onward, nextBorder, loopNext}
 use Rattle.theory.specs.Steps.{next-side}
+use Rattle.theory.specs.Reads.{was-valid, and-some}
+use Rattle.theory.specs.Reaching.{next-in}
 use Rattle.passes.specs.declared.Walk.{Walk}
 use Rattle.passes.specs.declared.Walk.the-variants.{Elements, Ends, Borders}
 use Rattle.passes.specs.Walks.{nextBy, Stands}
-use Rattle.reads.proofs.Readings.{was-valid, and-some, at-border, at-side}
-use Rattle.reads.proofs.Tested.{half-side, border-facts}
+use Rattle.reads.proofs.Readings.{at-border, at-side}
+use Rattle.reads.proofs.Tested.{half-side}
 
 pub stands-as : {w u : Walk} (M : Mesh) (x : ℕ) → w ≡ u → Stands w M x → Stands u M x
 stands-as M x e s = subst (λ w. Stands w M x) e s
@@ -42,14 +43,11 @@ module _ (M : Mesh) (start x y : ℕ) (d : y ≡ 0 → ⊥) where
           subst (λ (u : ℕ). Side (M .list) u) (unless (next (M .list) t) start y (sym (at-side t _ (some 0) n) ∙ q) d) (next-side (M .list) t (half-side M t h n))
 
   loop-border : loopNext M start x ≡ some y → (1 ≤ y) × (y ≤ length (M .border))
-  unfolding loopNext borderNext
+  unfolding loopNext
   loop-border e =
-      let (c, p, q) = and-some (borderNext M (8 * x)) _ y e in
-      let (t, r, u) = and-some _ _ c p in
-      let (v, w, g) = and-some _ _ c u in
-      let f : c / 8 ≡ y = unless (c / 8) start y q d in
-      let (z, (l, k)) = border-facts M c (was-valid (isBorderCode M) _ c g) in
-      ((omega arith), (omega arith))
+      let (z, p, q) = and-some (nextBorder M x) _ y e in
+      let f : z ≡ y = unless z start y q d in
+      rw f at (next-in M x z p)
 
 pub next-stands : (w : Walk) (M : Mesh) (start x y : ℕ) → nextBy w M start x ≡ some y → (y ≡ 0 → ⊥) → Stands w M y
 next-stands Elements M start x y e d = onward-side M start x y d e

@@ -2,23 +2,19 @@
 -- Assumes nothing.
 use mathlib.Core.Bool.{Bool, true, false}
 use mathlib.Core.Option.{Option, none, some}
-use mathlib.Core.Path.{_≡_, refl, ap, sym, subst, _∙_}
+use mathlib.Core.Path.{_≡_, refl, ap, sym, _∙_}
 use mathlib.Core.List.{List}
 use Prim.Native.Nat.{ℕ, _%_, _-_}
-use native.Mathlib.Omega.{arith}
-use lib.Dec.{T, eqb}
+use lib.Dec.{eqb}
 use borrow.Author.Tests.{eq-eqb, ne-eqb}
 use Rattle.lists.specs.Search.{at}
 use Rattle.rules.specs.Elements.{number}
 use Rattle.halfedge.specs.Codes.{of-border, of-side}
-use Rattle.theory.specs.Reads.{and-then}
+use Rattle.theory.specs.Reads.{and-then, and-none}
 use Rattle.rules.specs.Queries.{read, andThen, bySide, byEntry}
 use Rattle.reads.specs.declared.Read.{Read}
 use Rattle.reads.specs.declared.Read.the-variants.{Value, Broken}
 use Rattle.reads.specs.Readings.{readOf}
-
-pub nothing : {A : Type 0} {x : A} → none ≡ some x → ⊥
-nothing p = let z : _≡_ {A = ℕ} 0 1 = cc in omega arith
 
 -- in the code, a read taken apart
 pub value-of : {r : Read} {o : Option ℕ} {x : ℕ} → readOf r ≡ o → r ≡ Value x → o ≡ some x
@@ -36,19 +32,6 @@ module _ (valid : ℕ → Bool) (table : List ℕ) {ok : Bool} {i j : ℕ} {r : 
   pub read-at : r ≡ read (λ _. ok) (at table (i - 1)) → ok ≡ valid (at table (i - 1)) → i ≡ j → r ≡ read valid (at table (j - 1))
   read-at q e p = read-as valid q e (ap (λ (k : ℕ). at table (k - 1)) p)
 
--- what was read is valid
-read-by : (b : Bool) (x y : ℕ) → read (λ _. b) x ≡ some y → (b ≡ true) × (x ≡ y)
-read-by true x y e = (refl, (cc))
-read-by false x y e = let z : _≡_ {A = ℕ} 0 1 = cc in absurd (omega arith)
-
-pub was-valid : (valid : ℕ → Bool) (x y : ℕ) → read valid x ≡ some y → T (valid y)
-was-valid valid x y e =
-    let (t, p) = read-by (valid x) x y e in subst (λ (z : ℕ). T (valid z)) p (rw t tt)
-
-pub and-none {ℓ} : {A : Type ℓ} {r : Option ℕ} (f : ℕ → Option A) → r ≡ none → andThen r f ≡ none
-unfolding andThen
-and-none f e = ap (λ (r : Option ℕ). andThen r f) e
-
 -- a read taken apart, and what the code goes on to read
 module _ {r : Read} {o : Option ℕ} (f : ℕ → Option ℕ) (e : readOf r ≡ o) where
   pub broken-then : r ≡ Broken → none ≡ andThen o f
@@ -61,12 +44,6 @@ pub and-assoc {ℓ} : {A : Type ℓ} (r : Option ℕ) (f : ℕ → Option ℕ) (
 unfolding andThen
 and-assoc (some x) f g = refl
 and-assoc none f g = refl
-
--- what was read from what was read
-pub and-some : (r : Option ℕ) (f : ℕ → Option ℕ) (y : ℕ) → andThen r f ≡ some y → (x : ℕ) × (r ≡ some x) × (f x ≡ some y)
-unfolding andThen
-and-some (some x) f y e = (x, refl, e)
-and-some none f y e = let z : _≡_ {A = ℕ} 0 1 = cc in absurd (omega arith)
 
 -- by the number of a code
 pub at-border {ℓ} : {A : Type ℓ} (c : ℕ) (x y : A) → c % 8 ≡ 0 → bySide c x y ≡ y

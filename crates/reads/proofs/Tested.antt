@@ -12,7 +12,7 @@ use Rattle.lists.specs.Search.{at}
 use Rattle.rules.specs.Elements.{isSide, Side, number}
 use Rattle.rules.specs.Queries.{Mesh, isBorderCode, isHalfEdge, isEntry, isVertex, andThen, read, readBorderSide, readVertexEntry}
 use Rattle.theory.specs.Sides.{side-facts}
-use Rattle.reads.proofs.Readings.{was-valid, and-some}
+use Rattle.theory.specs.Reads.{was-valid, and-some}
 
 module _ (M : Mesh) (c : ℕ) where
   pub vertex-facts : T (isVertex M c) → (1 ≤ c) × (c ≤ M .n)

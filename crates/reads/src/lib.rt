@@ -18,7 +18,7 @@ ghost use Rattle.lists.specs.Tests.{within};
 ghost use Rattle.rules.specs.Elements.{Side};
 ghost use Rattle.rules.specs.Tables.{entryOf};
 ghost use Rattle.rules.specs.Queries.{read, andThen, isBorderCode, isHalfEdge, isEntry, isVertex, readOpposite, readBorderSide, readVertexEntry, readOrigin};
-ghost use Rattle.rules.specs.Queries.{readDestination, borderNext, startSide, onward, loopNext};
+ghost use Rattle.rules.specs.Queries.{readDestination, borderNext, startSide, onward, nextBorder, loopNext};
 ghost use Rattle.reads.specs.Meshes.{mesh, Fit, EntryIn};
 ghost use Rattle.reads.specs.Readings.{readOf, priorVertex};
 
@@ -335,6 +335,28 @@ pub fn ring_next(
     Read::Value(turn)
 }
 
+// The border half-edge after x, as border numbers.
+pub fn next_border(
+    n: u32,
+    columns: u32,
+    list: &[u32],
+    v2e: &[u32],
+    e2e: &[u32],
+    b2e: &[u32],
+    x: u32,
+) -> Read
+    requires { ⌜ Fit (mesh n columns (now list) (now v2e) (now e2e) (now b2e)) × ((1 ≤ x) × (x ≤ length (now b2e))) ⌝ }
+    ensures { λ r. ⌜ readOf r ≡ nextBorder (mesh n columns (now (list .entry)) (now (v2e .entry)) (now (e2e .entry)) (now (b2e .entry))) x ⌝ }
+{
+    let border = HalfEdge::border(x);
+    let following = border_next(n, columns, list, v2e, e2e, b2e, border.code);
+    let Read::Value(code) = following else {
+        return Read::Broken;
+    };
+    let y = element_of(code);
+    Read::Value(y)
+}
+
 // The border number after x in the loop that began with b; 0 where the loop closes.
 pub fn loop_next(
     n: u32,
@@ -349,12 +371,10 @@ pub fn loop_next(
     requires { ⌜ Fit (mesh n columns (now list) (now v2e) (now e2e) (now b2e)) × ((1 ≤ x) × (x ≤ length (now b2e))) ⌝ }
     ensures { λ r. ⌜ readOf r ≡ loopNext (mesh n columns (now (list .entry)) (now (v2e .entry)) (now (e2e .entry)) (now (b2e .entry))) b x ⌝ }
 {
-    let border = HalfEdge::border(x);
-    let following = border_next(n, columns, list, v2e, e2e, b2e, border.code);
-    let Read::Value(code) = following else {
+    let following = next_border(n, columns, list, v2e, e2e, b2e, x);
+    let Read::Value(y) = following else {
         return Read::Broken;
     };
-    let y = element_of(code);
     if y == b {
         return Read::Value(0);
     }

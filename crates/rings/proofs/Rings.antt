@@ -17,8 +17,8 @@ use Rattle.passes.specs.declared.Walk.the-variants.{Elements, Ends, Borders}
 use Rattle.reads.specs.Readings.{priorVertex}
 use Rattle.passes.specs.Walks.{walked, preceded}
 use Rattle.theory.specs.Follows.{follow-none}
-use Rattle.theory.specs.Reads.{and-then}
-use Rattle.reads.proofs.Readings.{was-valid, and-none, and-some, at-border, at-side, at-unused, at-used}
+use Rattle.theory.specs.Reads.{and-then, was-valid, and-none, and-some}
+use Rattle.reads.proofs.Readings.{at-border, at-side, at-unused, at-used}
 use Rattle.reads.proofs.Tested.{half-side, vertex-facts, border-side, entry-half}
 use Rattle.passes.proofs.Listing.{preceded-none}
 

@@ -4,10 +4,10 @@
 use mathlib.Core.Bool.{Bool, true, false}
 use mathlib.Core.Option.{Option, none, some}
 use mathlib.Core.List.{List, [], _∷_, _++_}
-use Prim.Native.Nat.{ℕ, _+_, _*_}
+use Prim.Native.Nat.{ℕ, _+_, _*_, _-_}
 use lib.Dec.{T, eqb}
 use lib.ListN.{length, take, replicate}
-use Rattle.lists.specs.Tests.{both, same}
+use Rattle.lists.specs.Tests.{both, same, has}
 use Rattle.lists.specs.Search.{least, count, upto, tab, zeros}
 use Rattle.rules.specs.Elements.{elements, sidesBy, isSide, slot, origin, nextNumber, next, sideAt, firstSide, countSides, firstNumber}
 use Rattle.rules.specs.Pairing.{alike, opposed, joins, callSizes, sizesFit, unfitCorner, repeatedCorner, rowsFit, isCorner, sharedCorners, shareSide, meetWell}
@@ -18,8 +18,9 @@ use Rattle.rules.specs.Refusals.{Buffers, callLengths, buildLengths, len
 use Rattle.rules.specs.Siblings.{sibling, siblingEntry, sibhe, v2he, SiblingBuffers, siblingLengths, siblingsAnswer, siblingsLeaves}
 use Rattle.rules.specs.Queries.{Mesh, seen, told, columnsAnswer, queryLengths, asked, defined, found, listed, listLeaves, andThen, prepend, readAll, follow, over, isBorderCode, isHalfEdge, isEntry, isVertex}
 use Rattle.rules.specs.Queries.{readOpposite, readBorderSide, readVertexEntry, readOrigin, readDestination, opposite, oppositeAnswer, borderNext, vertexBorderAnswer, startSide, onward, ringSides}
-use Rattle.rules.specs.Queries.{ring, neighbours, loopNext, borderLoop, listedAnswer}
+use Rattle.rules.specs.Queries.{ring, neighbours, nextBorder, loopNext, borderLoop, listedAnswer}
 use Rattle.rules.specs.Queries.{ringAnswer, ringLeaves, neighboursAnswer, neighboursLeaves, borderLoopAnswer, borderLoopLeaves}
+use Rattle.rules.specs.Holes.{lists, broken, HoleBuffers, leastOf, holesUpTo, holeOf, holes, holeCount, holeLengths, holesFit, holesAnswer, holesLeaves}
 
 -- an element's row, or a row of E2e, in three columns or in four; lists are rows joined by ++
 unfoldable pub three : ℕ → ℕ → ℕ → List ℕ
@@ -56,6 +57,13 @@ built n L = let w = left n L in told n 0 L (w .vertices) (w .opposites) (w .bord
 unfoldable pub siblingRoom : ℕ → List ℕ → ℕ → SiblingBuffers
 siblingRoom n L long = record { vertices = blank n; siblings = blank long; work = replicate (n + 16 * elements L) 1 }
 
+-- outputs and a work buffer of these lengths for the holes, and the mesh with this V2e and the other tables of build
+unfoldable pub holeRoom : ℕ → ℕ → ℕ → HoleBuffers
+holeRoom hole lengths work = record { hole = replicate hole 9; lengths = replicate lengths 9; work = replicate work 1 }
+
+unfoldable pub openings : ℕ → List ℕ → List ℕ → Mesh
+openings n L V2e = let w = left n L in told n 0 L V2e (w .opposites) (w .border)
+
 -- a row: what is asked of n vertices and a list, and the outcome
 pub data Case : Type 0 where
   -- build's answer
@@ -78,6 +86,10 @@ pub data Case : Type 0 where
   -- the vertices' sides and the map of siblings; with a map of this length, the refusal, which leaves both as they were
   siblingsAre : ℕ → List ℕ → List ℕ → List ℕ → Case
   siblingsRefused : ℕ → List ℕ → ℕ → Answer → Case
+  -- with this V2e, the hole of each border half-edge and the length of each hole, in outputs of an entry more than the border has
+  holesAre : ℕ → List ℕ → List ℕ → List ℕ → List ℕ → Case
+  -- with outputs and a work buffer of these lengths, the refusal, which leaves both outputs as they were, and what it leaves of the work
+  holesRefused : ℕ → List ℕ → List ℕ → ℕ → ℕ → ℕ → Answer → List ℕ → Case
 
 unfoldable pub sameAnswer : Answer → Answer → Bool
 sameAnswer (gives a b) (gives c d) = both (eqb a c) (eqb b d)
@@ -125,6 +137,18 @@ holds (siblingsRefused n L long a) =
     let w = siblingRoom n L long in
     let left = siblingsLeaves n L w in
     both (sameAnswer (siblingsAnswer n L w) a) (both (same (left .vertices) (w .vertices)) (same (left .siblings) (w .siblings)))
+holds (holesAre n L V2e hs ls) =
+    let k = borders L in
+    let w = holeRoom (k + 1) (k + 1) (n + 16 * elements L) in
+    let left = holesLeaves (openings n L V2e) w in
+    both (sameAnswer (holesAnswer (openings n L V2e) w) (gives (length ls) 0))
+    (both (same (left .hole) (hs ++ (9 ∷ [])))
+    (both (same (left .lengths) (ls ++ replicate (k + 1 - length ls) 9)) (same (left .work) (blank (length (w .work))))))
+holds (holesRefused n L V2e hole lengths work a work′) =
+    let w = holeRoom hole lengths work in
+    let left = holesLeaves (openings n L V2e) w in
+    both (sameAnswer (holesAnswer (openings n L V2e) w) a)
+    (both (same (left .hole) (w .hole)) (both (same (left .lengths) (w .lengths)) (same (left .work) work′)))
 
 unfoldable pub every : (Case → Bool) → List Case → Bool
 every p [] = true
@@ -159,6 +183,13 @@ diagonal = quad 1 2 3 4 ++ quad 1 5 3 6 ++ tri 1 4 5 ++ tri 3 5 4
 
 unfoldable pub threeCorners : List ℕ
 threeCorners = quad 1 2 3 4 ++ tri 3 2 1
+
+-- two triangles apart, and a triangle between two that share a side
+unfoldable pub apart : List ℕ
+apart = tri 1 2 3 ++ tri 4 5 6
+
+unfoldable pub between : List ℕ
+between = tri 1 2 3 ++ tri 5 6 7 ++ tri 1 3 4
 
 -- "Where no n is named, it is the greatest corner"
 unfoldable pub cases : List Case
@@ -267,6 +298,26 @@ cases =
     siblingsRefused 2 (tri 1 2 3) 3 (refused 2 0 0) ∷
     siblingsRefused 3 (tri 1 2 3) 5 (refused 2 0 0) ∷
     siblingsRefused 2 (1 ∷ 2 ∷ 3 ∷ []) 4 (refused 1 0 0) ∷
+    -- document 02, point 11: "gives each border half-edge its hole, numbered from 1 by least border number, with the length of each hole"
+    holesAre 0 [] [] [] [] ∷
+    holesAre 4 tetrahedron (9 ∷ 10 ∷ 11 ∷ 18 ∷ []) [] [] ∷
+    holesAre 4 listing (32 ∷ 8 ∷ 16 ∷ 24 ∷ []) (1 ∷ 1 ∷ 1 ∷ 1 ∷ []) (4 ∷ []) ∷
+    holesAre 7 between (56 ∷ 8 ∷ 16 ∷ 48 ∷ 40 ∷ 24 ∷ 32 ∷ []) (1 ∷ 1 ∷ 2 ∷ 2 ∷ 2 ∷ 1 ∷ 1 ∷ []) (4 ∷ 3 ∷ []) ∷
+    -- the two rims of a band; and two rims whose loops V2e makes one
+    holesAre 6 (quad 1 2 5 4 ++ quad 2 3 6 5 ++ quad 3 1 4 6) (40 ∷ 8 ∷ 24 ∷ 16 ∷ 32 ∷ 48 ∷ []) (1 ∷ 2 ∷ 1 ∷ 2 ∷ 1 ∷ 2 ∷ []) (3 ∷ 3 ∷ []) ∷
+    holesAre 6 apart (48 ∷ 8 ∷ 16 ∷ 24 ∷ 32 ∷ 40 ∷ []) (1 ∷ 1 ∷ 1 ∷ 1 ∷ 1 ∷ 1 ∷ []) (6 ∷ []) ∷
+    -- "It gives 12 if any loop does": by a side for a border, into another loop, into its own middle
+    holesRefused 6 apart (24 ∷ 8 ∷ 16 ∷ 48 ∷ 17 ∷ 40 ∷ []) 6 6 38 (refused 12 0 0) (blank 38) ∷
+    holesRefused 6 apart (24 ∷ 8 ∷ 16 ∷ 48 ∷ 8 ∷ 40 ∷ []) 6 6 38 (refused 12 0 0) (blank 38) ∷
+    holesRefused 6 apart (24 ∷ 24 ∷ 16 ∷ 48 ∷ 32 ∷ 40 ∷ []) 6 6 38 (refused 12 0 0) (blank 38) ∷
+    -- "each output needs k entries", after 12
+    holesRefused 6 apart (24 ∷ 8 ∷ 16 ∷ 48 ∷ 32 ∷ 40 ∷ []) 5 6 38 (refused 13 6 0) (blank 38) ∷
+    holesRefused 6 apart (24 ∷ 8 ∷ 16 ∷ 48 ∷ 32 ∷ 40 ∷ []) 6 5 38 (refused 13 6 0) (blank 38) ∷
+    holesRefused 6 apart (24 ∷ 8 ∷ 16 ∷ 48 ∷ 8 ∷ 40 ∷ []) 0 0 38 (refused 12 0 0) (blank 38) ∷
+    -- a work buffer one short, before 12; V2e too short
+    holesRefused 6 apart (24 ∷ 8 ∷ 16 ∷ 48 ∷ 8 ∷ 40 ∷ []) 6 6 37 (refused 2 0 0) (replicate 37 1) ∷
+    holesRefused 6 apart (24 ∷ 8 ∷ 16 ∷ 48 ∷ 32 ∷ []) 6 6 38 (refused 2 0 0) (replicate 38 1) ∷
+    holesRefused 3 (1 ∷ 2 ∷ 3 ∷ []) (24 ∷ 8 ∷ []) 3 3 2 (refused 1 0 0) (1 ∷ 1 ∷ []) ∷
     []
 
 -- the rules give every row of the table
@@ -279,7 +330,8 @@ unfolding three quad tri blank room left built sameAnswer gave holds every listi
     buildLengths lengthChecks roomCheck buildAnswer after onto buildLeaves recoverLengths recovers recoverAnswer recoverList seen
     columnsAnswer queryLengths asked defined found listed listLeaves
     andThen prepend readAll follow over isBorderCode isHalfEdge isEntry isVertex readOpposite readBorderSide readVertexEntry readOrigin
-    readDestination opposite oppositeAnswer borderNext vertexBorderAnswer startSide onward ringSides ring neighbours loopNext borderLoop listedAnswer ringAnswer ringLeaves
+    readDestination opposite oppositeAnswer borderNext vertexBorderAnswer startSide onward ringSides ring neighbours nextBorder loopNext borderLoop listedAnswer ringAnswer ringLeaves
     neighboursAnswer neighboursLeaves borderLoopAnswer borderLoopLeaves
     siblingRoom workAfter sibling siblingEntry sibhe v2he siblingLengths siblingsAnswer siblingsLeaves
+    has holeRoom openings apart between lists broken leastOf holesUpTo holeOf holes holeCount holeLengths holesFit holesAnswer holesLeaves
 cases-hold = tt

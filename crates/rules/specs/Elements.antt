@@ -101,3 +101,7 @@ firstNumber n t =
 -- one of them has the test t
 abbrev pub someNumber : ℕ → (ℕ → Bool) → Bool
 someNumber n t = not (eqb (firstNumber n t) 0)
+
+-- how many of them have it
+abbrev pub countNumbers : ℕ → (ℕ → Bool) → ℕ
+countNumbers n t = count (λ j. t (j + 1)) n

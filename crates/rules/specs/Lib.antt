@@ -5,4 +5,5 @@ pub mod Recovery
 pub mod Refusals
 pub mod Siblings
 pub mod Queries
+pub mod Holes
 pub mod Cases

@@ -8,8 +8,8 @@ use Prim.Native.Nat.{ℕ, suc, _+_, _*_, _-_, _≤_, _<_}
 use lib.Dec.{T, leb, ltb, eqb}
 use lib.ListN.{length}
 use Rattle.lists.specs.Tests.{both, either}
-use Rattle.lists.specs.Search.{at, count}
-use Rattle.rules.specs.Elements.{maxVertex, maxElement, elements, corner, sides, element, Side, origin, destination, next, firstSide, someNumber}
+use Rattle.lists.specs.Search.{at}
+use Rattle.rules.specs.Elements.{maxVertex, maxElement, elements, corner, sides, element, Side, origin, destination, next, firstSide, someNumber, countNumbers}
 
 -- two sides run alike between the same two vertices; "in opposite directions"; "join the same two vertices"
 unfoldable pub alike : List ℕ → ℕ → ℕ → Bool
@@ -89,7 +89,7 @@ isCorner L f v = someNumber (sides L f) (λ i. eqb (corner L f i) v)
 
 -- how many corners of f are corners of g too
 unfoldable pub sharedCorners : List ℕ → ℕ → ℕ → ℕ
-sharedCorners L f g = count (λ i. isCorner L g (corner L f (i + 1))) (sides L f)
+sharedCorners L f g = countNumbers (sides L f) (λ i. isCorner L g (corner L f i))
 
 -- a side of f and a side of g join the same two vertices
 unfoldable pub shareSide : List ℕ → ℕ → ℕ → Bool

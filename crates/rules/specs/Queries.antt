@@ -206,10 +206,13 @@ module _ (M : Mesh) where
       andThen (readVertexEntry v)
       (λ c. byEntry c (some []) ends (andThen (readBorderSide c) (λ s. andThen (readOrigin s) (λ u. prepend u ends))))
 
-  -- "Border loop of b: b and then next, and next, until b returns; when k are listed and b hasn't come, 12", "as border numbers"
+  -- next of a border half-edge, "as border numbers"
+  unfoldable pub nextBorder : ℕ → Option ℕ
+  nextBorder x = andThen (borderNext (8 * x)) (λ c. some (element c))
+
+  -- "Border loop of b: b and then next, and next, until b returns; when k are listed and b hasn't come, 12"
   unfoldable pub loopNext : ℕ → ℕ → Option ℕ
-  loopNext b x =
-      andThen (borderNext (8 * x)) (λ c. elim (eqb (element c) b) [ true ↦ some 0 | false ↦ some (element c) ])
+  loopNext b x = andThen (nextBorder x) (λ y. elim (eqb y b) [ true ↦ some 0 | false ↦ some y ])
 
   unfoldable pub borderLoop : ℕ → Option (List ℕ)
   borderLoop b = follow (loopNext b) (length (M .border)) b

@@ -1,19 +1,19 @@
 -- Following a step that is one to one and never returns to its start: it stops in time, and meets nothing twice.
 -- Assumes nothing.
-use mathlib.Core.Path.{_≡_, refl, ap, sym, _∙_}
+use mathlib.Core.Path.{_≡_, refl, ap, sym, subst, _∙_}
 use mathlib.Core.Logic.{_⊎_, inl, inr}
-use mathlib.Core.Option.{Option, some}
+use mathlib.Core.Option.{Option, none, some}
 use mathlib.Core.List.{List, [], _∷_}
-use Prim.Native.Nat.{ℕ, zero, suc, _-_, _≤_, _<_}
+use Prim.Native.Nat.{ℕ, zero, suc, _+_, _-_, _≤_, _<_}
 use native.Mathlib.Omega.{arith}
 use lib.Dec.{eqb}
-use lib.ListN.{length}
+use lib.ListN.{length, List·getD-eq-default}
 use Rattle.lists.specs.TestLaws.{false-of, means-eq, means-not, zero-or}
 use Rattle.lists.specs.Search.{at}
 use Rattle.lists.specs.SearchLaws.{le-not-lt}
 use Rattle.lists.specs.Distinct.{crowded}
-use Rattle.rules.specs.Queries.{prepend, follow}
-use Rattle.theory.specs.Reads.{and-then}
+use Rattle.rules.specs.Queries.{andThen, prepend, follow}
+use Rattle.theory.specs.Reads.{and-then, and-none, and-some, either-read, nothing}
 
 -- o begins at x, and each entry is what follows the one before it. Past the end of a list stands 0: an empty one begins at 0
 pub record Trail (P : ℕ → Type 0) (step : ℕ → Option ℕ) (x : ℕ) (o : List ℕ) : Type 0 where
@@ -59,7 +59,7 @@ module _ (P : ℕ → Type 0) (step : ℕ → Option ℕ) (m : ℕ) where
   nonempty start (x ∷ o) f d = omega arith
 
 module _ (step : ℕ → Option ℕ) (j x y : ℕ) (d : x ≡ 0 → ⊥) (e : step x ≡ some y) where
-  follow-on : (o : List ℕ) → follow step j y ≡ some o → follow step (suc j) x ≡ some (x ∷ o)
+  pub follow-on : (o : List ℕ) → follow step j y ≡ some o → follow step (suc j) x ≡ some (x ∷ o)
   unfolding follow prepend
   follow-on o f =
       rw (false-of (eqb x 0) (means-not (means-eq x 0) .shows d), follow) (and-then _ e ∙ ap (prepend x) f)
@@ -140,3 +140,86 @@ module _ (P : ℕ → Type 0) (step : ℕ → Option ℕ) (m start : ℕ) (key :
       go : Outcome P step m start → (o : List ℕ) × (follow step m start ≡ some o) × Followed P step m start o
       go (ended o l f t z) = (o, f, record { trail = t; stops = λ h. z; once = trail-once o t; short = trail-short o t })
       go (going o l t) = absurd (omega (arith, trail-short o t))
+
+-- what following gave, for any step: each entry is what follows the one before it, and 0, which stands past the end, follows the last
+pub record Course (step : ℕ → Option ℕ) (x : ℕ) (o : List ℕ) : Type 0 where
+  pub first : at o 0 ≡ x
+  pub steps : (i : ℕ) → i < length o → step (at o i) ≡ some (at o (suc i))
+  pub positive : (i : ℕ) → i < length o → at o i ≡ 0 → ⊥
+
+module _ (step : ℕ → Option ℕ) (x : ℕ) (o : List ℕ) (c : Course step x o) where
+  same : (i j : ℕ) → i < length o → j < length o → at o i ≡ at o j → at o (suc i) ≡ at o (suc j)
+  same i j h k e = let f = sym (c .steps i h) ∙ ap step e ∙ c .steps j k in cc
+
+  -- two equal entries are followed by equal ones, and so up to the end; but after the earlier one the end hasn't come yet
+  apart : (d i j : ℕ) → i < j → j + suc d ≡ length o → at o i ≡ at o j → ⊥
+  apart zero i j h l e =
+      let end : at o (suc j) ≡ 0 = List·getD-eq-default o 0 (omega arith) in
+      c .positive (suc i) (omega arith) (same i j (omega arith) (omega arith) e ∙ end)
+  apart (suc d) i j h l e = apart d (suc i) (suc j) (omega arith) (omega arith) (same i j (omega arith) (omega arith) e)
+
+  pub course-once : (i j : ℕ) → i < length o → j < length o → at o i ≡ at o j → i ≡ j
+  course-once i j h k e =
+      let a : j ≤ i = le-not-lt j i (λ l. apart (length o - suc j) i j l (omega arith) e) in
+      let b : i ≤ j = le-not-lt i j (λ l. apart (length o - suc i) j i l (omega arith) (sym e)) in
+      omega arith
+
+module _ (step : ℕ → Option ℕ) where
+  -- from 0 nothing is listed
+  none-listed : (j x : ℕ) (o : List ℕ) → x ≡ 0 → follow step j x ≡ some o → Course step x o × (length o ≤ j)
+  none-listed j x o z e =
+      let f : some [] ≡ some o = sym (follow-none step j) ∙ ap (follow step j) (sym z) ∙ e in
+      let g : [] ≡ o = cc in
+      subst (λ (r : List ℕ). Course step x r × (length r ≤ j)) g
+      (record { first = sym z; steps = λ i h. absurd (omega arith); positive = λ i h. absurd (omega arith) }, omega arith)
+
+  -- from another number: it comes first, and then what following from the next one lists
+  first-listed : (j x y : ℕ) (o : List ℕ) → (x ≡ 0 → ⊥) → step x ≡ some y → Course step y o × (length o ≤ j) → Course step x (x ∷ o) × (length (x ∷ o) ≤ suc j)
+  first-listed j x y o d p (c, h) = (record { first = refl; steps = steps; positive = positive }, omega arith)
+    where
+      steps : (i : ℕ) → i < suc (length o) → step (at (x ∷ o) i) ≡ some (at o i)
+      steps zero l = p ∙ ap some (sym (c .first))
+      steps (suc i) l = c .steps i (omega arith)
+
+      positive : (i : ℕ) → i < suc (length o) → at (x ∷ o) i ≡ 0 → ⊥
+      positive zero l = d
+      positive (suc i) l = c .positive i (omega arith)
+
+  -- what following says of a number other than 0
+  follow-on-none : (x : ℕ) → (x ≡ 0 → ⊥) → follow step zero x ≡ none
+  unfolding follow
+  follow-on-none x d = rw (false-of (eqb x 0) (means-not (means-eq x 0) .shows d), follow) refl
+
+  follow-rest : (j x : ℕ) → (x ≡ 0 → ⊥) → follow step (suc j) x ≡ andThen (step x) (λ y. prepend x (follow step j y))
+  unfolding follow
+  follow-rest j x d = rw (false-of (eqb x 0) (means-not (means-eq x 0) .shows d), follow) refl
+
+  prepended : (x : ℕ) (r : Option (List ℕ)) (o : List ℕ) → prepend x r ≡ some o → (q : List ℕ) × (r ≡ some q) × (x ∷ q ≡ o)
+  unfolding prepend
+  prepended x (some q) o e = (q, refl, cc)
+  prepended x none o e = absurd (nothing e)
+
+  pub course : (j x : ℕ) (o : List ℕ) → follow step j x ≡ some o → Course step x o × (length o ≤ j)
+  course zero x o e = go (zero-or x)
+    where
+      go : (x ≡ 0) ⊎ (x ≡ 0 → ⊥) → Course step x o × (length o ≤ 0)
+      go (inl z) = none-listed zero x o z e
+      go (inr d) = absurd (nothing (sym (follow-on-none x d) ∙ e))
+  course (suc j) x o e = go (zero-or x) (λ y r. course j y r)
+    where
+      go : (x ≡ 0) ⊎ (x ≡ 0 → ⊥) → ((y : ℕ) (r : List ℕ) → follow step j y ≡ some r → Course step y r × (length r ≤ j)) → Course step x o × (length o ≤ suc j)
+      go (inl z) later = none-listed (suc j) x o z e
+      go (inr d) later =
+          let (y, p, q) = and-some (step x) (λ y. prepend x (follow step j y)) o (sym (follow-rest j x d) ∙ e) in
+          let (r, f, g) = prepended x (follow step j y) o q in
+          subst (λ (u : List ℕ). Course step x u × (length u ≤ suc j)) g (first-listed j x y r d p (later y r f))
+
+  -- among numbers other than 0 whose next ones are among them, or can't be read, nothing is ever listed
+  pub never : (P : ℕ → Type 0) → ((x : ℕ) → P x → (x ≡ 0 → ⊥) × ((y : ℕ) → step x ≡ some y → P y)) → (j x : ℕ) → P x → follow step j x ≡ none
+  unfolding prepend
+  never P f zero x p = follow-on-none x (f x p .0)
+  never P f (suc j) x p = follow-rest j x (f x p .0) ∙ go (either-read (step x)) (λ y e. never P f j y (f x p .1 y e))
+    where
+      go : ((y : ℕ) × (step x ≡ some y)) ⊎ (step x ≡ none) → ((y : ℕ) → step x ≡ some y → follow step j y ≡ none) → andThen (step x) (λ y. prepend x (follow step j y)) ≡ none
+      go (inl (y, e)) later = and-then _ e ∙ ap (prepend x) (later y e)
+      go (inr e) later = and-none _ e

@@ -22,6 +22,7 @@ pub mod Calls
 pub mod Recovering
 pub mod Reads
 pub mod Follows
+pub mod Reaching
 pub mod Built
 pub mod Rims
 pub mod Rings

@@ -1,23 +1,23 @@
 -- The border loop of a border of built tables: it returns to its start within k steps and lists nothing twice.
 -- Assumes nothing.
 use mathlib.Core.Path.{_≡_, refl, ap, sym, _∙_}
-use mathlib.Core.Logic.{_⊎_, inl, inr}
+use mathlib.Core.Logic.{inl, inr}
 use mathlib.Core.Option.{some}
 use mathlib.Core.List.{List}
 use Prim.Native.Nat.{ℕ, _*_, _-_, _/_, _≤_, _<_}
 use native.Mathlib.Omega.{arith}
-use lib.Dec.{eqb}
 use lib.ListN.{length}
-use Rattle.lists.specs.TestLaws.{true-of, false-of, decide, means-not, means-eq}
+use Rattle.lists.specs.TestLaws.{decide, means-eq}
 use Rattle.lists.specs.Search.{at}
 use Rattle.rules.specs.Elements.{Side, origin, destination}
 use Rattle.rules.specs.Tables.{partner, borderNumber, borders, b2e, v2e}
-use Rattle.rules.specs.Queries.{isBorderCode, borderNext, loopNext, borderLoop}
+use Rattle.rules.specs.Queries.{isBorderCode, borderNext, nextBorder, loopNext, borderLoop}
 use Rattle.theory.specs.Entries.{length-b2e, number-from, number-to, number-inj, numbered-border, VertexEntry, rim, inner, unused, vertex-entry}
 use Rattle.theory.specs.Orders.{Good}
 use Rattle.theory.specs.Follows.{Steady, nonempty, followed}
 use Rattle.theory.specs.Built.{built, border-code, read-valid, read-border-side, read-origin}
 use Rattle.theory.specs.Reads.{and-then}
+use Rattle.theory.specs.Reaching.{loop-back, loop-on}
 use Rattle.theory.specs.Rims.{BorderInto, border-leads, one-border-from}
 
 -- b is a border number
@@ -58,21 +58,16 @@ module _ (n : ℕ) (L : List ℕ) (g : Good n L) where
           absurd (f r b y d)
 
   onward : (b x : ℕ) → Border L x → Onward n L b x
-  unfolding loopNext
+  unfolding nextBorder
   onward b x (h, k) =
       let (s, a, z, e) = numbered-border L x h k in
       let (r, q, f) = border-next s a z in
-      let f′ : borderNext (built n L) (8 * x) ≡ some (8 * borderNumber L r) = rw e at f in
-      go s r a z e q f′ (decide (means-eq (borderNumber L r) b))
-    where
-      go : (s r : ℕ) → Side L s → partner L s ≡ 0 → borderNumber L s ≡ x → BorderInto L (origin L s) r
-          → borderNext (built n L) (8 * x) ≡ some (8 * borderNumber L r) → (borderNumber L r ≡ b) ⊎ (borderNumber L r ≡ b → ⊥) → Onward n L b x
-      go s r a z e q f (inl c) =
-          let i : 8 * borderNumber L r / 8 ≡ borderNumber L r = omega arith in
-          back (and-then _ f ∙ rw (i, true-of (eqb (borderNumber L r) b) (means-eq _ _ .shows c)) refl)
-      go s r a z e q f (inr d) =
-          let i : 8 * borderNumber L r / 8 ≡ borderNumber L r = omega arith in
-          on s r a z e q d (and-then _ f ∙ rw (i, false-of (eqb (borderNumber L r) b) (means-not (means-eq _ _) .shows d)) (ap some i))
+      let c : 8 * borderNumber L r / 8 ≡ borderNumber L r = omega arith in
+      let g : nextBorder (built n L) x ≡ some (borderNumber L r) = and-then _ (rw e at f) ∙ ap some c in
+      elim (decide (means-eq (borderNumber L r) b)) [
+        | inl i ↦ back (loop-back (built n L) b x _ g i)
+        | inr d ↦ on s r a z e q d (loop-on (built n L) b x _ g d)
+      ]
 
   -- one border side begins at a vertex at most, so two borders with the same next one are one
   onward-inj : (b x y z : ℕ) → 1 ≤ z → loopNext (built n L) b x ≡ some z → loopNext (built n L) b y ≡ some z → Onward n L b x → Onward n L b y → x ≡ y

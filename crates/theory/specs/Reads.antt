@@ -1,10 +1,13 @@
 -- What is read from what was read, and from each entry of a list; and what isn't read.
 -- Assumes nothing.
-use mathlib.Core.Path.{_≡_, refl, ap, _∙_}
+use mathlib.Core.Path.{_≡_, refl, ap, subst, _∙_}
+use mathlib.Core.Bool.{Bool, true, false}
+use mathlib.Core.Logic.{_⊎_, inl, inr}
 use mathlib.Core.Option.{Option, none, some}
 use mathlib.Core.List.{List, [], _∷_}
 use Prim.Native.Nat.{ℕ, zero, suc, _%_, _<_}
 use native.Mathlib.Omega.{arith}
+use lib.Dec.{T}
 use lib.ListN.{length}
 use Rattle.lists.specs.Search.{at}
 use Rattle.rules.specs.Elements.{isSide}
@@ -14,6 +17,33 @@ use Rattle.theory.specs.Columns.{entry-past}
 pub and-then {ℓ} : {A : Type ℓ} {r : Option ℕ} {x : ℕ} (f : ℕ → Option A) → r ≡ some x → andThen r f ≡ f x
 unfolding andThen
 and-then f e = ap (λ r. andThen r f) e
+
+pub and-none {ℓ} : {A : Type ℓ} {r : Option ℕ} (f : ℕ → Option A) → r ≡ none → andThen r f ≡ none
+unfolding andThen
+and-none f e = ap (λ (r : Option ℕ). andThen r f) e
+
+-- what was read from what was read
+pub and-some {ℓ} : {A : Type ℓ} (r : Option ℕ) (f : ℕ → Option A) (y : A) → andThen r f ≡ some y → (x : ℕ) × (r ≡ some x) × (f x ≡ some y)
+unfolding andThen
+and-some (some x) f y e = (x, refl, e)
+and-some none f y e = let z : _≡_ {A = ℕ} 0 1 = cc in absurd (omega arith)
+
+-- something was read, or nothing
+pub either-read : (r : Option ℕ) → ((x : ℕ) × (r ≡ some x)) ⊎ (r ≡ none)
+either-read (some x) = inl (x, refl)
+either-read none = inr refl
+
+pub nothing : {A : Type 0} {x : A} → none ≡ some x → ⊥
+nothing p = let z : _≡_ {A = ℕ} 0 1 = cc in omega arith
+
+-- what was read is valid
+read-by : (b : Bool) (x y : ℕ) → read (λ _. b) x ≡ some y → (b ≡ true) × (x ≡ y)
+read-by true x y e = (refl, (cc))
+read-by false x y e = let z : _≡_ {A = ℕ} 0 1 = cc in absurd (omega arith)
+
+pub was-valid : (valid : ℕ → Bool) (x y : ℕ) → read valid x ≡ some y → T (valid y)
+was-valid valid x y e =
+    let (t, p) = read-by (valid x) x y e in subst (λ (z : ℕ). T (valid z)) p (rw t tt)
 
 -- ys holds f of each entry of xs
 pub record Mapped (f : ℕ → ℕ) (xs ys : List ℕ) : Type 0 where

@@ -16,8 +16,7 @@ use Rattle.rules.specs.Refusals.{Answer, gives, refused}
 use Rattle.rules.specs.Queries.{Mesh, asked, defined, found, andThen, isVertex, onward, startSide, Walker, Walked, walked, started, startAnswer, walkerStart, goesTo, moved, walkerStep}
 use Rattle.reads.specs.Meshes.{Admits}
 use Rattle.admission.proofs.Admitted.{turned-away, admitted}
-use Rattle.theory.specs.Reads.{and-then}
-use Rattle.reads.proofs.Readings.{and-none, nothing}
+use Rattle.theory.specs.Reads.{and-then, and-none, nothing}
 
 abbrev pub left-with : Answer → Walker → Walked
 left-with a w = record { answer = a; walker = w }

@@ -5,7 +5,7 @@ use mathlib.Core.Path.{_≡_}
 use Prim.Native.Nat.{ℕ, _-_, _≤_}
 use native.Mathlib.Omega.{arith}
 use borrow.Author.Needs.{needs}
-use Rattle.reads.proofs.Readings.{nothing}
+use Rattle.theory.specs.Reads.{nothing}
 use Rattle.reads.specs.Meshes.{mesh}
 use Rattle.passes.proofs.Passes.{Passing, passing-none, counted, left, left-broken, overlong, lost, passing-on}
 use Rattle.passes.proofs.pass.Statement.{statement}

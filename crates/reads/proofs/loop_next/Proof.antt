@@ -1,30 +1,14 @@
--- `reads::loop_next` meets its contract: by the border half-edge after that of x.
+-- `reads::loop_next` meets its contract: by the border half-edge after x.
 -- Assumes nothing.
-use Prim.Native.Nat.{_*_}
-use Rattle.halfedge.specs.Codes.{border-code}
 use Rattle.reads.proofs.Readings.{value-then, broken-then, stops, goes-on}
-use Rattle.reads.proofs.Tested.{border-numbered}
 use Rattle.rules.specs.Queries.{loopNext}
 use borrow.Author.Needs.{needs}
-use mathlib.Core.Path.{_≡_, sym, _∙_}
-use native.Mathlib.Omega.{arith}
+use mathlib.Core.Path.{refl, sym}
 use Rattle.reads.proofs.loop_next.Statement.{statement}
 use Rattle.reads.proofs.loop_next.Tie as tie
 
-abbrev begun : tie.After-border → tie.Start
-begun c = c .before .before .before .before .before
-
--- the code of border half-edge x
-coded : (c : tie.After-border) → c .border .result .code ≡ 8 * begun c .args .x
-coded c =
-    let (fit, (low, high)) = begun c .pre in
-    c .border .ensures ∙ border-code _ low (omega (arith, fit .border, fit .elements))
-
-border-requires : tie.Need-border-requires
-border-requires c κs = search needs
-
-border-next-requires : tie.Need-border-next-requires
-border-next-requires c κs = rw (coded c) (begun c .pre .0, border-numbered _ _ (begun c .pre .1))
+next-border-requires : tie.Need-next-border-requires
+next-border-requires c κs = search needs
 
 enum-known-following : tie.Need-enum-known-following
 enum-known-following c = search needs
@@ -35,37 +19,21 @@ enum-told c = search needs
 returns : tie.Need-returns
 unfolding loopNext
 returns c =
-    let read = c .before .before in
-    rw (sym (coded (read .before))) (broken-then _ (read .border-next .ensures) (c .enum-told .given .1))
-
-element-of-requires : tie.Need-element-of-requires
-element-of-requires c κs = search needs
+    let read = c .before .before in broken-then _ (read .next-border .ensures) (c .enum-told .given .1)
 
 returns-2 : tie.Need-returns-2
 unfolding loopNext
 returns-2 c =
-    let named = c .before .before .before in
-    let read = named .before .before in
-    rw (sym (coded (read .before)))
-    (value-then _ (read .border-next .ensures) (named .following .given .1) (sym (stops (c .before .element-of .ensures) (c .if1 .taken))))
+    let named = c .before .before in
+    value-then _ (named .before .before .next-border .ensures) (named .following .given .1) (sym (stops refl (c .if1 .taken)))
 
 returns-3 : tie.Need-returns-3
 unfolding loopNext
 returns-3 c =
-    let named = c .before .before .before in
-    let read = named .before .before in
-    rw (sym (coded (read .before)))
-    (value-then _ (read .border-next .ensures) (named .following .given .1) (sym (goes-on (c .before .element-of .ensures) (c .if1 .left))))
+    let named = c .before .before in
+    value-then _ (named .before .before .next-border .ensures) (named .following .given .1) (sym (goes-on refl (c .if1 .left)))
 
 pub loop-next-spec : {M : Type 1} → statement M
 loop-next-spec =
     tie.close
-    (tie.spec
-    border-requires
-    border-next-requires
-    enum-known-following
-    enum-told
-    returns
-    element-of-requires
-    returns-2
-    returns-3)
+    (tie.spec next-border-requires enum-known-following enum-told returns returns-2 returns-3)

@@ -1,8 +1,9 @@
 -- `reads::ring_next` meets its contract: by the side across.
 -- Assumes nothing.
 use Prim.Native.Nat.{ℕ}
+use Rattle.theory.specs.Reads.{was-valid}
 use Rattle.halfedge.specs.Codes.{of-side}
-use Rattle.reads.proofs.Readings.{value-of, value-then, broken-then, border-then, side-then, was-valid, stops, goes-on}
+use Rattle.reads.proofs.Readings.{value-of, value-then, broken-then, border-then, side-then, stops, goes-on}
 use Rattle.reads.proofs.Tested.{half-side}
 use Rattle.rules.specs.Queries.{isHalfEdge, readOpposite, onward}
 use borrow.Author.Needs.{needs}
