@@ -8,3 +8,4 @@ pub mod Stores
 pub mod CountLaws
 pub mod Steps
 pub mod Changes
+pub mod Totals

@@ -2,7 +2,7 @@
 -- Assumes nothing.
 use mathlib.Core.Bool.{Bool, true, false}
 use mathlib.Core.List.{List, [], _∷_, _++_}
-use Prim.Native.Nat.{ℕ, zero, suc}
+use Prim.Native.Nat.{ℕ, zero, suc, _+_}
 use lib.Dec.{ltb, eqb}
 use lib.ListN.{length, getD}
 
@@ -34,3 +34,8 @@ tab (suc n) f = tab n f ++ (f n ∷ [])
 -- how many entries are 0
 unfoldable pub zeros : List ℕ → ℕ
 zeros xs = count (λ i. eqb (at xs i) 0) (length xs)
+
+-- the entries added up
+unfoldable pub total : List ℕ → ℕ
+total [] = 0
+total (x ∷ xs) = x + total xs

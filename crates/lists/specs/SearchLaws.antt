@@ -9,7 +9,8 @@ use native.Mathlib.Omega.{arith}
 use lib.Dec.{T, ltb, eqb, T-not, nltb→le}
 use lib.ListN.{length, set, replicate, length-append, length-set, List·getD-append}
 use lib.Seq.{getD-at, getD-set-same, getD-set-other, ext-getD}
-use Rattle.lists.specs.TestLaws.{Test, pass, fail, test, true-of, false-of, means-lt, means-eq, means-not, decide}
+use Rattle.lists.specs.TestLaws.{Test, pass, fail, test, true-of, false-of, Means, means-lt, means-eq, means-not, means-either, decide}
+use Rattle.lists.specs.Tests.{either, has}
 use Rattle.lists.specs.Search.{at, least, count, upto, tab, zeros}
 
 pub lt-or-eq : (j n : ℕ) → j < suc n → (j < n) ⊎ (j ≡ n)
@@ -260,6 +261,21 @@ member (y ∷ o) x = go (decide (means-eq y x)) (member o x)
     go (inl e) r = inl (0, (omega arith), e)
     go (inr d) (inl (i, h, e)) = inl (suc i, (omega arith), e)
     go (inr d) (inr f) = inr (λ i. elim i as (λ j. j < suc (length o) → at (y ∷ o) j ≡ x → ⊥) [ zero ↦ λ h e. d e | suc j ↦ λ h e. f j (omega arith) e ])
+
+pub means-has : (o : List ℕ) (x : ℕ) → Means (has o x) (Met o x)
+unfolding has
+means-has [] x = record { says = λ t. absurd t; shows = λ (i, h, e). absurd (omega arith) }
+means-has (y ∷ o) x =
+    let first = means-either (means-eq y x) (means-has o x) in
+    record { says = λ t. says (first .says t); shows = λ (i, h, e). first .shows (shows i h e) }
+  where
+    says : (y ≡ x) ⊎ Met o x → Met (y ∷ o) x
+    says (inl e) = (0, (omega arith), e)
+    says (inr (i, h, e)) = (suc i, (omega arith), e)
+
+    shows : (i : ℕ) → i < suc (length o) → at (y ∷ o) i ≡ x → (y ≡ x) ⊎ Met o x
+    shows zero h e = inl e
+    shows (suc i) h e = inr (i, (omega arith), e)
 
 pub at-blank : (n i : ℕ) → at (replicate n 0) i ≡ 0
 at-blank zero i = refl

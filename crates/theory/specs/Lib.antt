@@ -23,6 +23,7 @@ pub mod Recovering
 pub mod Reads
 pub mod Follows
 pub mod Reaching
+pub mod Holes
 pub mod Built
 pub mod Rims
 pub mod Rings

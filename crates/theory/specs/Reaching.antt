@@ -106,7 +106,7 @@ module _ (M : Mesh) where
         le-not-lt 1 (length bs)
         (λ l. let z : at bs 0 ≡ 0 = List·getD-eq-default bs 0 (omega arith) in omega (arith, listed .0 .first, h .0))
 
-    after : (i : ℕ) → i < length bs → nextTimes M i b ≡ some (at bs i)
+    pub after : (i : ℕ) → i < length bs → nextTimes M i b ≡ some (at bs i)
     unfolding nextTimes
     after zero l = ap some (sym (listed .0 .first))
     after (suc i) l = times-next i b (at bs i) (at bs (suc i)) (after i (omega arith)) (goes i l)
