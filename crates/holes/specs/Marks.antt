@@ -1,0 +1,81 @@
+-- The work of the call: for each border half-edge the number of its hole, 0 until it is known, and after those k entries the length of each
+-- hole. M is the mesh, U and W what the work holds.
+-- Assumes nothing.
+use mathlib.Core.Path.{_≡_}
+use mathlib.Core.Logic.{_⊎_}
+use mathlib.Core.Option.{Option, none, some}
+use mathlib.Core.List.{List}
+use Prim.Native.Nat.{ℕ, _+_, _-_, _≤_, _<_}
+use lib.Dec.{eqb}
+use lib.ListN.{length}
+use Rattle.lists.specs.Search.{at, count}
+use Rattle.lists.specs.Stores.{Kept}
+use Rattle.rules.specs.Elements.{countNumbers}
+use Rattle.rules.specs.Queries.{Mesh, nextBorder, borderLoop}
+use Rattle.rules.specs.Holes.{HoleBuffers, Reachable, leastOf, holesUpTo, holeOf}
+use Rattle.theory.specs.Reaching.{In}
+use Rattle.theory.specs.Holes.{Back}
+
+-- the three buffers
+abbrev pub lentHoles : List ℕ → List ℕ → List ℕ → HoleBuffers
+lentHoles hole lengths work = record { hole = hole; lengths = lengths; work = work }
+
+-- the mark of border half-edge z
+abbrev pub mark : List ℕ → ℕ → ℕ
+mark W z = at W (z - 1)
+
+module _ (M : Mesh) where
+  abbrev k : ℕ
+  k = length (M .border)
+
+  -- marks up to h; next of what is marked is marked alike
+  pub record Closed (h : ℕ) (W : List ℕ) : Type 0 where
+    pub up-to : (z : ℕ) → In M z → mark W z ≤ h
+    pub alike : (z y : ℕ) → In M z → (mark W z ≡ 0 → ⊥) → nextBorder M z ≡ some y → mark W y ≡ mark W z
+
+  -- the loop of b is to be marked with h, a number more than there is
+  pub record Open (b h : ℕ) (W : List ℕ) : Type 0 where
+    pub inside : In M b
+    pub unmarked : mark W b ≡ 0
+    pub positive : 1 ≤ h
+    pub closed : Closed (h - 1) W
+    pub room : k ≤ length W
+
+  -- each mark is as it was, or was 0 and is h
+  abbrev pub Over : ℕ → List ℕ → List ℕ → Type 0
+  Over h U W = (z : ℕ) → In M z → (mark W z ≡ mark U z) ⊎ ((mark U z ≡ 0) × (mark W z ≡ h))
+
+  -- the loop of b has come back, it is marked with h, and has r border half-edges
+  pub record Looped (b h r : ℕ) (U W : List ℕ) : Type 0 where
+    pub back : Back M b
+    pub over : Over h U W
+    pub closed : Closed h W
+    pub reached : (z : ℕ) → In M z → mark W z ≡ h → Reachable M b z
+    pub marked : (z : ℕ) → Reachable M b z → mark W z ≡ h
+    pub counted : r ≡ count (λ j. eqb (at W j) h) k
+
+  -- or, with 0, it doesn't come back
+  pub record Followed (b h r : ℕ) (U W : List ℕ) : Type 0 where
+    pub kept : Kept k U W
+    pub found : (r ≡ 0 → ⊥) → Looped b h r U W
+    pub lost : r ≡ 0 → borderLoop M b ≡ none
+
+  -- what is known of a border half-edge that is marked, once 1 to b are
+  pub record Known (b : ℕ) (W : List ℕ) (z : ℕ) : Type 0 where
+    pub back : Back M z
+    pub earlier : leastOf M z ≤ b
+    pub hole : mark W z ≡ holeOf M z
+
+  -- border half-edges 1 to b are marked, in h holes
+  pub record Marked (b h : ℕ) (W : List ℕ) : Type 0 where
+    pub room : k + k ≤ length W
+    pub closed : Closed h W
+    pub known : (z : ℕ) → In M z → (mark W z ≡ 0 → ⊥) → Known b W z
+    pub all : (z : ℕ) → 1 ≤ z → z ≤ b → mark W z ≡ 0 → ⊥
+    pub many : h ≡ holesUpTo M b
+    pub measured : (i : ℕ) → i < h → at W (k + i) ≡ countNumbers k (λ c. eqb (holeOf M c) (i + 1))
+
+  -- so they are, or a loop doesn't come back
+  pub data Numbered (b : ℕ) (W : List ℕ) : Option ℕ → Type 0 where
+    numbered : (h : ℕ) → Marked b h W → Numbered b W (some h)
+    broken : (c : ℕ) → In M c → borderLoop M c ≡ none → Numbered b W none

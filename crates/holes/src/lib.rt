@@ -1,0 +1,58 @@
+// The holes of a mesh, document 02, point 11: for each border half-edge the number of its hole, and for each hole its length.
+//
+// The work holds a mark for each border half-edge, the number of its hole, and then the length of each hole. Border half-edges are gone
+// over in order; from one that has no mark its loop is followed and marked. A loop that meets a mark elsewhere than at its start runs into
+// another loop, or into its own middle, and never comes back.
+ghost use mathlib.Core.Path.{_≡_};
+ghost use Prim.Native.Nat.{_+_, _*_, _-_, _≤_};
+ghost use lib.ListN.{length};
+ghost use Rattle.rules.specs.Elements.{elements};
+ghost use Rattle.rules.specs.Holes.{holesAnswer, holesLeaves};
+ghost use Rattle.answer.specs.Numbers.{numbers};
+ghost use Rattle.theory.specs.Reaching.{In};
+ghost use Rattle.reads.specs.Meshes.{mesh, Fit};
+ghost use Rattle.reads.specs.Readings.{readOf};
+ghost use Rattle.holes.specs.Marks.{Open, Followed, Marked, Numbered, lentHoles};
+use admission::length_refusal;
+use answer::Answer;
+use answer::give;
+use answer::refuse;
+use answer::refuse_at;
+use buffers::clear;
+use buffers::clear_first;
+use buffers::copy;
+use halfedge::wide;
+use reads::Read;
+use reads::next_border;
+
+// Marks the loop of b with h: how many border half-edges it has, 0 where it doesn't come back.
+fn mark_loop(
+    n: u32,
+    columns: u32,
+    list: &[u32],
+    v2e: &[u32],
+    e2e: &[u32],
+    b2e: &[u32],
+    b: u32,
+    h: u32,
+    work: &mut [u32],
+) -> u32
+    requires { ⌜ (let M = mesh n columns (now list) (now v2e) (now e2e) (now b2e) in Fit M × Open M b h (now work)) ⌝ }
+    ensures { λ r. ⌜ Followed (mesh n columns (now (list .entry)) (now (v2e .entry)) (now (e2e .entry)) (now (b2e .entry))) b h r (now (work .entry)) (now (work .exit)) ⌝ }
+{
+    let mut x = b;
+    let mut count = 0;
+    while work[wide(x) - 1] == 0 {
+        work[wide(x) - 1] = h;
+        let following = next_border(n, columns, list, v2e, e2e, b2e, x);
+        let Read::Value(y) = following else {
+            return 0;
+        };
+        count += 1;
+        x = y;
+    }
+    if x != b {
+        return 0;
+    }
+    count
+}
