@@ -75,7 +75,7 @@ module _ (M : Mesh) where
     pub many : h ≡ holesUpTo M b
     pub measured : (i : ℕ) → i < h → at W (k + i) ≡ countNumbers k (λ c. eqb (holeOf M c) (i + 1))
 
-  -- so they are, or a loop doesn't come back
-  pub data Numbered (b : ℕ) (W : List ℕ) : Option ℕ → Type 0 where
-    numbered : (h : ℕ) → Marked b h W → Numbered b W (some h)
-    broken : (c : ℕ) → In M c → borderLoop M c ≡ none → Numbered b W none
+  -- the number of holes once 1 to b are marked; `none` where a loop doesn't come back
+  pub record Numbered (b : ℕ) (W : List ℕ) (r : Option ℕ) : Type 0 where
+    pub counted : (h : ℕ) → r ≡ some h → Marked b h W
+    pub broken : r ≡ none → (c : ℕ) × In M c × (borderLoop M c ≡ none)

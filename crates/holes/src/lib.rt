@@ -56,3 +56,58 @@ fn mark_loop(
     }
     count
 }
+
+// Goes on from border half-edge b, up to which all are marked in h holes, to the next one: how many holes there are then. Broken where its
+// loop doesn't come back.
+fn mark_next(
+    n: u32,
+    columns: u32,
+    list: &[u32],
+    v2e: &[u32],
+    e2e: &[u32],
+    b2e: &[u32],
+    b: u32,
+    h: u32,
+    work: &mut [u32],
+) -> Read
+    requires { ⌜ (let M = mesh n columns (now list) (now v2e) (now e2e) (now b2e) in Fit M × In M (b + 1) × Marked M b h (now work)) ⌝ }
+    ensures { λ r. ⌜ Numbered (mesh n columns (now (list .entry)) (now (v2e .entry)) (now (e2e .entry)) (now (b2e .entry))) (b + 1) (now (work .exit)) (readOf r) ⌝ }
+    ensures { λ _. ⌜ length (now (work .exit)) ≡ length (now (work .entry)) ⌝ }
+{
+    if work[wide(b)] != 0 {
+        return Read::Value(h);
+    }
+    let length = mark_loop(n, columns, list, v2e, e2e, b2e, b + 1, h + 1, work);
+    if length == 0 {
+        return Read::Broken;
+    }
+    work[b2e.len() + wide(h)] = length;
+    Read::Value(h + 1)
+}
+
+// All border half-edges one after another: how many holes they have.
+fn mark_all(
+    n: u32,
+    columns: u32,
+    list: &[u32],
+    v2e: &[u32],
+    e2e: &[u32],
+    b2e: &[u32],
+    work: &mut [u32],
+) -> Read
+    requires { ⌜ (let M = mesh n columns (now list) (now v2e) (now e2e) (now b2e) in Fit M × Marked M 0 0 (now work)) ⌝ }
+    ensures { λ r. ⌜ Numbered (mesh n columns (now (list .entry)) (now (v2e .entry)) (now (e2e .entry)) (now (b2e .entry))) (length (now (b2e .entry))) (now (work .exit)) (readOf r) ⌝ }
+    ensures { λ _. ⌜ length (now (work .exit)) ≡ length (now (work .entry)) ⌝ }
+{
+    let mut h = 0;
+    let mut b: u32 = 0;
+    while wide(b) < b2e.len() {
+        let counted = mark_next(n, columns, list, v2e, e2e, b2e, b, h, work);
+        let Read::Value(holes) = counted else {
+            return Read::Broken;
+        };
+        h = holes;
+        b += 1;
+    }
+    Read::Value(h)
+}

@@ -34,6 +34,13 @@ pub record Means (b : Bool) (P : Type 0) : Type 0 where
 pub means-itself : (b : Bool) → Means b (T b)
 means-itself b = record { says = λ t. t; shows = λ t. t }
 
+-- tests that mean the same are one
+pub means-one : {a b : Bool} {P Q : Type 0} → Means a P → Means b Q → (P → Q) → (Q → P) → a ≡ b
+means-one {a = true} {b = true} p q f g = refl
+means-one {a = true} {b = false} p q f g = absurd (q .shows (f (p .says tt)))
+means-one {a = false} {b = true} p q f g = absurd (p .shows (g (q .says tt)))
+means-one {a = false} {b = false} p q f g = refl
+
 -- a test that means P decides P
 pub decide : {b : Bool} {P : Type 0} → Means b P → P ⊎ (P → ⊥)
 decide {b = true} m = inl (m .says tt)

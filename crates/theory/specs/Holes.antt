@@ -20,7 +20,7 @@ use Rattle.rules.specs.Queries.{Mesh, borderLoop}
 use Rattle.rules.specs.Holes.{lists, nextTimes, Reachable, leastOf, holesUpTo, holeOf, holeCount, holeLengths}
 use Rattle.theory.specs.Least.{FirstNumber, nobody, somebody, first-number}
 use Rattle.theory.specs.Reads.{nothing}
-use Rattle.theory.specs.Reaching.{In, times-on, reached-in, further, nonempty, after, comes-back, short, once, listed-reached, reached-listed, has-loop}
+use Rattle.theory.specs.Reaching.{In, times-on, reached-in, itself, further, nonempty, after, comes-back, short, once, listed-reached, reached-listed, has-loop}
 
 module _ (M : Mesh) where
   -- the loop of b comes back
@@ -33,7 +33,7 @@ module _ (M : Mesh) where
   lists-some (some bs) c t = (bs, refl, means-has bs c .says t)
   lists-some none c t = absurd t
 
-  pub lists-back : (b c : ℕ) → T (lists (borderLoop M b) c) → Back b
+  lists-back : (b c : ℕ) → T (lists (borderLoop M b) c) → Back b
   lists-back b c t = let (bs, e, m) = lists-some (borderLoop M b) c t in (bs, e)
 
   pub means-lists : (b c : ℕ) → In M b → Back b → Means (lists (borderLoop M b) c) (Reachable M b c)
@@ -44,6 +44,15 @@ module _ (M : Mesh) where
             let (o, f, m) = lists-some (borderLoop M b) c t in listed-reached M b h o f c m;
         shows = λ r. rw e (means-has bs c .shows (reached-listed M b h bs e c r));
       }
+
+  -- what has a hole has a loop
+  pub hole-back : (b : ℕ) → (holeOf M b ≡ 0 → ⊥) → Back b
+  unfolding holeOf holesUpTo count leastOf
+  hole-back b d = go (first-number (length (M .border)) (lists (borderLoop M b)))
+    where
+      go : FirstNumber (length (M .border)) (lists (borderLoop M b)) (leastOf M b) → Back b
+      go (nobody e f) = absurd (d (ap (holesUpTo M) e))
+      go (somebody l k t f) = lists-back b (leastOf M b) t
 
   -- with a number that is the least of its loop one hole more has been met
   pub hole-more : (j : ℕ) → leastOf M (suc j) ≡ suc j → holesUpTo M (suc j) ≡ suc (holesUpTo M j)
@@ -91,11 +100,11 @@ module _ (M : Mesh) where
         ((length bs - i, home), has-loop M c (length bs - 1) (reached-in M b c h r) (omega (arith, short M b h bs e)) whole)
 
     pub least-of : LeastIn b (leastOf M b)
-    unfolding leastOf nextTimes
+    unfolding leastOf
     least-of = go (first-number (length (M .border)) (lists (borderLoop M b)))
       where
         go : FirstNumber (length (M .border)) (lists (borderLoop M b)) (leastOf M b) → LeastIn b (leastOf M b)
-        go (nobody e f) = absurd (T-not (lists (borderLoop M b) b) (f b (h .0) (h .1)) (means-lists b b h back .shows (0, refl)))
+        go (nobody e f) = absurd (T-not (lists (borderLoop M b) b) (f b (h .0) (h .1)) (means-lists b b h back .shows (itself M b)))
         go (somebody l k t f) =
             record {
               inside = (l, k);

@@ -84,6 +84,10 @@ module _ (M : Mesh) where
   pub reached-in : (b c : ℕ) → In b → Reachable M b c → In c
   reached-in b c h (i, e) = kept In (λ x y p. next-in x y) i b c h e
 
+  pub itself : (b : ℕ) → Reachable M b b
+  unfolding nextTimes
+  itself b = (0, refl)
+
   pub further : (a b c : ℕ) → Reachable M a b → Reachable M b c → Reachable M a c
   further a b c (i, e) (j, f) = (i + j, times-on i j a b e ∙ f)
 
