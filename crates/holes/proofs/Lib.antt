@@ -1,2 +1,4 @@
 pub mod Marking
 pub mod Numbering
+pub mod Leaving
+pub mod Whole

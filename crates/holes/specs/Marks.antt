@@ -11,8 +11,9 @@ use lib.ListN.{length}
 use Rattle.lists.specs.Search.{at, count}
 use Rattle.lists.specs.Stores.{Kept}
 use Rattle.rules.specs.Elements.{countNumbers}
+use Rattle.rules.specs.Refusals.{Answer, after, onto}
 use Rattle.rules.specs.Queries.{Mesh, nextBorder, borderLoop}
-use Rattle.rules.specs.Holes.{HoleBuffers, Reachable, leastOf, holesUpTo, holeOf}
+use Rattle.rules.specs.Holes.{HoleBuffers, Reachable, leastOf, holesUpTo, holeOf, holes, holeLengths, holesFound}
 use Rattle.theory.specs.Reaching.{In}
 use Rattle.theory.specs.Holes.{Back}
 
@@ -79,3 +80,9 @@ module _ (M : Mesh) where
   pub record Numbered (b : ℕ) (W : List ℕ) (r : Option ℕ) : Type 0 where
     pub counted : (h : ℕ) → r ≡ some h → Marked b h W
     pub broken : r ≡ none → (c : ℕ) × In M c × (borderLoop M c ≡ none)
+
+  -- what checks 12 and 13 say, and the two outputs after it
+  pub record Outcome (a : Answer) (hole lengths hole′ lengths′ : List ℕ) : Type 0 where
+    pub answer : a ≡ holesFound M hole lengths
+    pub holes-left : hole′ ≡ after a (onto (holes M) hole) hole
+    pub lengths-left : lengths′ ≡ after a (onto (holeLengths M) lengths) lengths

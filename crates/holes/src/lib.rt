@@ -5,14 +5,17 @@
 // another loop, or into its own middle, and never comes back.
 ghost use mathlib.Core.Path.{_≡_};
 ghost use Prim.Native.Nat.{_+_, _*_, _-_, _≤_};
+ghost use lib.Dec.{leb};
 ghost use lib.ListN.{length};
-ghost use Rattle.rules.specs.Elements.{elements};
+ghost use Rattle.lists.specs.Tests.{both};
+ghost use Rattle.lists.specs.Parts.{part};
+ghost use Rattle.rules.specs.Refusals.{onto};
 ghost use Rattle.rules.specs.Holes.{holesAnswer, holesLeaves};
 ghost use Rattle.answer.specs.Numbers.{numbers};
 ghost use Rattle.theory.specs.Reaching.{In};
 ghost use Rattle.reads.specs.Meshes.{mesh, Fit};
 ghost use Rattle.reads.specs.Readings.{readOf};
-ghost use Rattle.holes.specs.Marks.{Open, Followed, Marked, Numbered, lentHoles};
+ghost use Rattle.holes.specs.Marks.{Open, Followed, Marked, Numbered, Outcome, lentHoles};
 use admission::length_refusal;
 use answer::Answer;
 use answer::give;
@@ -110,4 +113,84 @@ fn mark_all(
         b += 1;
     }
     Read::Value(h)
+}
+
+// Each output has k entries.
+fn is_room(k: usize, hole: usize, lengths: usize) -> bool
+    ensures { λ r. ⌜ r ≡ both (leb k hole) (leb k lengths) ⌝ }
+{
+    if hole < k {
+        return false;
+    }
+    k <= lengths
+}
+
+// The first k entries of the work, and the h entries after them.
+fn write(k: usize, h: usize, work: &[u32], hole: &mut [u32], lengths: &mut [u32])
+    requires { ⌜ (k + h ≤ length (now work)) × (k ≤ length (now hole)) × (h ≤ length (now lengths)) ⌝ }
+    ensures { λ _. ⌜ now (hole .exit) ≡ onto (part 0 k (now (work .entry))) (now (hole .entry)) ⌝ }
+    ensures { λ _. ⌜ now (lengths .exit) ≡ onto (part k h (now (work .entry))) (now (lengths .entry)) ⌝ }
+{
+    let end = k + h;
+    copy(&work[0..k], hole);
+    copy(&work[k..end], lengths);
+}
+
+// The holes and their lengths where the lengths of all buffers are fit. The work buffer isn't cleared yet.
+fn holes_fit(
+    n: u32,
+    columns: u32,
+    list: &[u32],
+    v2e: &[u32],
+    e2e: &[u32],
+    b2e: &[u32],
+    hole: &mut [u32],
+    lengths: &mut [u32],
+    work: &mut [u32],
+) -> Answer
+    requires { ⌜ Fit (mesh n columns (now list) (now v2e) (now e2e) (now b2e)) × (length (now b2e) + length (now b2e) ≤ length (now work)) ⌝ }
+    ensures { λ r. ⌜ Outcome (mesh n columns (now (list .entry)) (now (v2e .entry)) (now (e2e .entry)) (now (b2e .entry))) (numbers r) (now (hole .entry)) (now (lengths .entry)) (now (hole .exit)) (now (lengths .exit)) ⌝ }
+    ensures { λ _. ⌜ length (now (work .exit)) ≡ length (now (work .entry)) ⌝ }
+{
+    let k = b2e.len();
+    clear_first(k, work);
+    let counted = mark_all(n, columns, list, v2e, e2e, b2e, work);
+    let Read::Value(h) = counted else {
+        return refuse(12);
+    };
+    if !is_room(k, hole.len(), lengths.len()) {
+        return refuse_at(13, k as u32, 0);
+    }
+    write(k, wide(h), work, hole, lengths);
+    give(h)
+}
+
+// For each border half-edge the number of its hole, holes numbered from 1 by their least border half-edge; for each hole how many border
+// half-edges it has; and how many holes there are. A refusal leaves both outputs as they were. The work buffer is all zero afterwards, but
+// after refusals 1 and 2, which leave it as it was.
+pub fn holes(
+    n: u32,
+    columns: u32,
+    list: &[u32],
+    v2e: &[u32],
+    e2e: &[u32],
+    b2e: &[u32],
+    hole: &mut [u32],
+    lengths: &mut [u32],
+    work: &mut [u32],
+) -> Answer
+    ensures { λ r. ⌜ numbers r ≡ holesAnswer (mesh n columns (now (list .entry)) (now (v2e .entry)) (now (e2e .entry)) (now (b2e .entry))) (lentHoles (now (hole .entry)) (now (lengths .entry)) (now (work .entry))) ⌝ }
+    ensures { λ _. ⌜ lentHoles (now (hole .exit)) (now (lengths .exit)) (now (work .exit)) ≡ holesLeaves (mesh n columns (now (list .entry)) (now (v2e .entry)) (now (e2e .entry)) (now (b2e .entry))) (lentHoles (now (hole .entry)) (now (lengths .entry)) (now (work .entry))) ⌝ }
+{
+    let refusal = length_refusal(n, columns, list, v2e, e2e, b2e);
+    if 0 < refusal {
+        return refuse(refusal);
+    }
+    let m = list.len() / 4;
+    if work.len() < wide(n) + 16 * m {
+        return refuse(2);
+    }
+    let a = holes_fit(n, columns, list, v2e, e2e, b2e, hole, lengths, work);
+    clear(work);
+    a
 }

@@ -20,7 +20,7 @@ use Rattle.rules.specs.Queries.{Mesh, seen, told, columnsAnswer, queryLe
 use Rattle.rules.specs.Queries.{readOpposite, readBorderSide, readVertexEntry, readOrigin, readDestination, opposite, oppositeAnswer, borderNext, vertexBorderAnswer, startSide, onward, ringSides}
 use Rattle.rules.specs.Queries.{ring, neighbours, nextBorder, loopNext, borderLoop, listedAnswer}
 use Rattle.rules.specs.Queries.{ringAnswer, ringLeaves, neighboursAnswer, neighboursLeaves, borderLoopAnswer, borderLoopLeaves}
-use Rattle.rules.specs.Holes.{lists, broken, HoleBuffers, leastOf, holesUpTo, holeOf, holes, holeCount, holeLengths, holesFit, holesAnswer, holesLeaves}
+use Rattle.rules.specs.Holes.{lists, broken, HoleBuffers, leastOf, holesUpTo, holeOf, holes, holeCount, holeLengths, holesFound, holesFit, holesAnswer, holesLeaves}
 
 -- an element's row, or a row of E2e, in three columns or in four; lists are rows joined by ++
 unfoldable pub three : ℕ → ℕ → ℕ → List ℕ
@@ -333,5 +333,5 @@ unfolding three quad tri blank room left built sameAnswer gave holds every listi
     readDestination opposite oppositeAnswer borderNext vertexBorderAnswer startSide onward ringSides ring neighbours nextBorder loopNext borderLoop listedAnswer ringAnswer ringLeaves
     neighboursAnswer neighboursLeaves borderLoopAnswer borderLoopLeaves
     siblingRoom workAfter sibling siblingEntry sibhe v2he siblingLengths siblingsAnswer siblingsLeaves
-    has holeRoom openings apart between lists broken leastOf holesUpTo holeOf holes holeCount holeLengths holesFit holesAnswer holesLeaves
+    has holeRoom openings apart between lists broken leastOf holesUpTo holeOf holes holeCount holeLengths holesFound holesFit holesAnswer holesLeaves
 cases-hold = tt

@@ -66,17 +66,18 @@ module _ (M : Mesh) where
   unfoldable pub holeLengths : List ℕ
   holeLengths = tab holeCount (λ i. countNumbers k (λ b. eqb (holeOf b) (i + 1)))
 
+  -- 12: "It gives 12 if any loop does"; then 13: "each output needs k entries"
+  unfoldable pub holesFound : List ℕ → List ℕ → Answer
+  holesFound hole lengths =
+      checkFound (firstNumber k (λ b. broken (borderLoop M b))) (refused 12 0 0)
+      (elim (both (leb k (length hole)) (leb k (length lengths))) [ true ↦ gives holeCount 0 | false ↦ refused 13 k 0 ])
+
   -- check 2: that of a query, and a work buffer as long as build's
   unfoldable pub holesFit : HoleBuffers → Bool
   holesFit w = both (queryLengths M) (leb (M .n + 16 * elements (M .list)) (length (w .work)))
 
-  -- 12: "It gives 12 if any loop does"; then 13: "each output needs k entries"
   unfoldable pub holesAnswer : HoleBuffers → Answer
-  holesAnswer w =
-      let room = both (leb k (length (w .hole))) (leb k (length (w .lengths))) in
-      lengthChecks (sizesFit (M .n) (M .list)) (holesFit w)
-      (checkFound (firstNumber k (λ b. broken (borderLoop M b))) (refused 12 0 0)
-      (elim room [ true ↦ gives holeCount 0 | false ↦ refused 13 k 0 ]))
+  holesAnswer w = lengthChecks (sizesFit (M .n) (M .list)) (holesFit w) (holesFound (w .hole) (w .lengths))
 
   -- what the call leaves in its buffers; it never writes the list or the tables
   unfoldable pub holesLeaves : HoleBuffers → HoleBuffers

@@ -1,0 +1,157 @@
+-- `holes::holes_fit` meets its contract.
+-- Assumes nothing.
+use mathlib.Core.Path.{_≡_, refl, sym, _∙_}
+use mathlib.Core.Bool.{true, false}
+use native.Mathlib.Omega.{arith}
+use borrow.Author.Needs.{needs}
+use borrow.Author.Tests.{not-true, not-false}
+use lib.Dec.{leb}
+use lib.ListN.{length}
+use Rattle.lists.specs.Tests.{both}
+use Rattle.lists.specs.TestLaws.{means-both, means-le}
+use Rattle.rules.specs.Queries.{Mesh}
+use Rattle.reads.specs.Meshes.{mesh}
+use Rattle.reads.proofs.Readings.{value-of, broken-of}
+use Rattle.holes.specs.Marks.{Marked}
+use Rattle.holes.proofs.Numbering.{none-marked, holes-short}
+use Rattle.holes.proofs.Leaving.{refuses-12, refuses-13, answers}
+use Rattle.holes.proofs.holes_fit.Statement.{statement}
+use Rattle.holes.proofs.holes_fit.Tie as tie
+
+-- the marks were cleared, and all border half-edges marked
+abbrev begun : tie.After-clear-first → tie.Start
+begun c = c .before .before .before .before .before .before .before .before .before
+
+abbrev cleared : tie.After-mark-all → tie.After-clear-first
+cleared c = c .before .before .before .before
+
+-- the room was asked for, and there is room
+abbrev counted : tie.After-is-room → tie.After-counted
+counted c = c .before .before
+
+abbrev marked : tie.After-is-room → tie.After-mark-all
+marked c = counted c .before .before .before .before
+
+abbrev asked : tie.After-write → tie.After-is-room
+asked c = c .before .before .before .before .before .before
+
+abbrev meshOf : tie.Start → Mesh
+meshOf s = mesh (s .args .n) (s .args .columns) (s .args .list .now) (s .args .v2e .now) (s .args .e2e .now) (s .args .b2e .now)
+
+-- the work is as long as it was
+long : (c : tie.After-mark-all) → length (c .mark-all .last .1 .1 .1 .1 .1 .1 .0) ≡ length (begun (cleared c) .args .work .now)
+long c = c .mark-all .ensures .1 ∙ cleared c .clear-first .ensures .0 .long
+
+-- h holes, and the test for room
+found : (c : tie.After-is-room) → let m = marked c in
+    Marked (meshOf (begun (cleared m))) (length (begun (cleared m) .args .b2e .now)) (counted c .counted .given .0 .0) (m .mark-all .last .1 .1 .1 .1 .1 .1 .0)
+found c = marked c .mark-all .ensures .0 .counted _ (value-of refl (counted c .counted .given .1))
+
+clear-first-requires : tie.Need-clear-first-requires
+clear-first-requires c κs = search needs
+
+mark-all-requires : tie.Need-mark-all-requires
+mark-all-requires c κs =
+    let emptied = c .before .before .before in
+    let s = begun emptied in
+    let (kept, blank) = emptied .clear-first .ensures in
+    (s .pre .0, none-marked (meshOf s) _ (omega (arith, s .pre .1, kept .long)) blank)
+
+enum-known-counted : tie.Need-enum-known-counted
+enum-known-counted c = search needs
+
+enum-told : tie.Need-enum-told
+enum-told c = search needs
+
+refuse-requires : tie.Need-refuse-requires
+refuse-requires c κs = search needs
+
+same-length : tie.Need-same-length
+same-length c = search needs
+
+returns : tie.Need-returns
+returns c =
+    let m = c .before .before .before .before .before in
+    let (b, i, e) = m .mark-all .ensures .0 .broken (broken-of refl (c .before .enum-told .given .1)) in
+    (refuses-12 (meshOf (begun (cleared m))) _ _ b i e (c .refuse .ensures), long m)
+
+is-room-requires : tie.Need-is-room-requires
+is-room-requires c κs = search needs
+
+cast-refuse-at : tie.Need-cast-refuse-at
+cast-refuse-at c = search needs
+
+refuse-at-requires : tie.Need-refuse-at-requires
+refuse-at-requires c κs = search needs
+
+same-length-2 : tie.Need-same-length-2
+same-length-2 c = search needs
+
+returns-2 : tie.Need-returns-2
+returns-2 c =
+    let room = c .before .before in
+    let no = sym (room .is-room .ensures) ∙ not-true _ (c .before .if1 .taken) in
+    (refuses-13 (meshOf (begun (cleared (marked room)))) _ _ _ _ (found room) no (c .refuse-at .ensures), long (marked room))
+
+wide-requires : tie.Need-wide-requires
+wide-requires c κs = search needs
+
+-- both outputs have room
+enough : (c : tie.Else1) → let a = begun (cleared (marked (c .before))) .args in
+    both (leb (length (a .b2e .now)) (length (a .hole .now))) (leb (length (a .b2e .now)) (length (a .lengths .now))) ≡ true
+enough c = sym (c .before .is-room .ensures) ∙ not-false _ (c .if1 .left)
+
+write-requires : tie.Need-write-requires
+write-requires c κs =
+    let room = c .before .before .before .before .before in
+    let s = begun (cleared (marked room)) in
+    let k = length (s .args .b2e .now) in
+    let test = means-both (means-le k (length (s .args .hole .now))) (means-le k (length (s .args .lengths .now))) in
+    let (a, b) = test .says (rw (enough (c .before .before .before .before)) tt) in
+    let h = holes-short (meshOf s) _ _ _ (found room) in
+    let w = c .before .before .before .wide .ensures in
+    (omega (arith, found room .room), a, omega arith)
+
+give-requires : tie.Need-give-requires
+give-requires c κs = search needs
+
+same-length-3 : tie.Need-same-length-3
+same-length-3 c = search needs
+
+same-length-4 : tie.Need-same-length-4
+same-length-4 c = search needs
+
+same-length-5 : tie.Need-same-length-5
+same-length-5 c = search needs
+
+returns-3 : tie.Need-returns-3
+returns-3 c =
+    let wrote = c .before .before .before .before .before in
+    let room = asked wrote in
+    let (hole, lengths) = wrote .write .ensures in
+    let w = wrote .before .before .before .before .wide .ensures in
+    (answers (meshOf (begun (cleared (marked room)))) _ _ _ _ (found room) (enough (wrote .before .before .before .before .before)) (c .give .ensures) hole (rw w at lengths), long (marked room))
+
+pub holes-fit-spec : {M : Type 1} → statement M
+holes-fit-spec =
+    tie.close
+    (tie.spec
+    clear-first-requires
+    mark-all-requires
+    enum-known-counted
+    enum-told
+    refuse-requires
+    same-length
+    returns
+    is-room-requires
+    cast-refuse-at
+    refuse-at-requires
+    same-length-2
+    returns-2
+    wide-requires
+    write-requires
+    give-requires
+    same-length-3
+    same-length-4
+    same-length-5
+    returns-3)
