@@ -27,9 +27,15 @@ module _ {n x y : ℕ} {L V2e E2e B2e : List ℕ} (looked : x ≡ y) where
       u ≡ packedAnswer (rule (mesh n y L V2e E2e B2e) c)
   packs-seen rule {c} f e = packs e (by-seen (λ M. rule M c) f)
 
-  -- a list, and what it leaves in the output
+  -- of a call that also says what it leaves
+  pub packs-left : {A : Type 0} (rule : Mesh → Answer) (leaves : Mesh → A) {u : ℕ} {r : Answer} {left : A} →
+      (r ≡ rule (mesh n x L V2e E2e B2e)) × (left ≡ leaves (mesh n x L V2e E2e B2e)) → u ≡ packedAnswer r →
+      (u ≡ packedAnswer (rule (mesh n y L V2e E2e B2e))) × (left ≡ leaves (mesh n y L V2e E2e B2e))
+  packs-left rule leaves (f, g) e = (packs e (by-seen rule f), by-seen leaves g)
+
+  -- of a list, which it leaves in the output
   pub packs-listed :
       (rule : Mesh → ℕ → List ℕ → Answer) (leaves : Mesh → ℕ → List ℕ → List ℕ) {c u : ℕ} {r : Answer} {out left : List ℕ} →
       (r ≡ rule (mesh n x L V2e E2e B2e) c out) × (left ≡ leaves (mesh n x L V2e E2e B2e) c out) → u ≡ packedAnswer r →
       (u ≡ packedAnswer (rule (mesh n y L V2e E2e B2e) c out)) × (left ≡ leaves (mesh n y L V2e E2e B2e) c out)
-  packs-listed rule leaves {c} {out = out} (f, g) e = (packs e (by-seen (λ M. rule M c out) f), by-seen (λ M. leaves M c out) g)
+  packs-listed rule leaves {c} {out = out} = packs-left (λ M. rule M c out) (λ M. leaves M c out)

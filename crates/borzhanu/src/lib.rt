@@ -8,8 +8,10 @@ ghost use Rattle.rules.specs.Queries.{told, columnsAnswer, oppositeAnswer, next
 ghost use Rattle.rules.specs.Queries.{halfEdgeBorderAnswer, vertexBorderAnswer, ringAnswer, ringLeaves, neighboursAnswer, neighboursLeaves, borderLoopAnswer};
 ghost use Rattle.rules.specs.Queries.{borderLoopLeaves, walkerStart, walkerStep};
 ghost use Rattle.rules.specs.Siblings.{siblingsAnswer, siblingsLeaves};
+ghost use Rattle.rules.specs.Holes.{holesAnswer, holesLeaves};
 ghost use Rattle.build.specs.Building.{lent};
 ghost use Rattle.sibling_map.specs.Mapping.{lentMaps};
+ghost use Rattle.holes.specs.Marks.{lentHoles};
 ghost use Rattle.walker.specs.Walkers.{calledBy};
 ghost use Rattle.borzhanu.specs.Walkers.{walkerIn, entriesOf};
 
@@ -277,6 +279,28 @@ pub extern "C" fn borzhanu_border_loop(
 {
     let seen = columns::seen(columns, elements);
     answer::pack(rings::border_loop(n, seen, elements, v2e, e2e, b2e, b, out))
+}
+
+// The hole of each border half-edge and the length of each hole: how many holes there are.
+#[no_mangle]
+pub extern "C" fn borzhanu_holes(
+    n: u32,
+    columns: u32,
+    elements: &[u32],
+    v2e: &[u32],
+    e2e: &[u32],
+    b2e: &[u32],
+    hole: &mut [u32],
+    lengths: &mut [u32],
+    work: &mut [u32],
+) -> u64
+    ensures { λ r. ⌜ r ≡ packedAnswer (holesAnswer (told n columns (now (elements .entry)) (now (v2e .entry)) (now (e2e .entry)) (now (b2e .entry))) (lentHoles (now (hole .entry)) (now (lengths .entry)) (now (work .entry)))) ⌝ }
+    ensures { λ _. ⌜ lentHoles (now (hole .exit)) (now (lengths .exit)) (now (work .exit)) ≡ holesLeaves (told n columns (now (elements .entry)) (now (v2e .entry)) (now (e2e .entry)) (now (b2e .entry))) (lentHoles (now (hole .entry)) (now (lengths .entry)) (now (work .entry))) ⌝ }
+{
+    let seen = columns::seen(columns, elements);
+    answer::pack(holes::holes(
+        n, seen, elements, v2e, e2e, b2e, hole, lengths, work,
+    ))
 }
 
 // A walker call on a record that a host holds as three numbers.
