@@ -298,9 +298,7 @@ pub extern "C" fn borzhanu_holes(
     ensures { λ _. ⌜ lentHoles (now (hole .exit)) (now (lengths .exit)) (now (work .exit)) ≡ holesLeaves (told n columns (now (elements .entry)) (now (v2e .entry)) (now (e2e .entry)) (now (b2e .entry))) (lentHoles (now (hole .entry)) (now (lengths .entry)) (now (work .entry))) ⌝ }
 {
     let seen = columns::seen(columns, elements);
-    answer::pack(holes::holes(
-        n, seen, elements, v2e, e2e, b2e, hole, lengths, work,
-    ))
+    answer::pack(holes::holes(n, seen, elements, v2e, e2e, b2e, hole, lengths, work))
 }
 
 // A walker call on a record that a host holds as three numbers.

@@ -1,35 +1,28 @@
 -- What is said and left once all border half-edges are marked, or a loop was found that doesn't come back.
 -- Assumes nothing.
 use mathlib.Core.Path.{_≡_, ap, sym, _∙_}
-use mathlib.Core.Bool.{Bool, true, false}
+use mathlib.Core.Bool.{true, false}
 use mathlib.Core.Option.{none}
 use mathlib.Core.List.{List}
 use Prim.Native.Nat.{ℕ, _+_, _-_, _<_}
 use native.Mathlib.Omega.{arith}
-use lib.Dec.{T, leb, eqb}
+use lib.Dec.{eqb}
 use lib.ListN.{length}
-use Rattle.lists.specs.Tests.{both}
-use Rattle.lists.specs.TestLaws.{means-eq, means-not}
 use Rattle.lists.specs.Search.{at, tab}
 use Rattle.lists.specs.SearchLaws.{is-tab}
 use Rattle.lists.specs.Parts.{part, at-part, length-part}
 use Rattle.rules.specs.Elements.{countNumbers}
 use Rattle.rules.specs.Refusals.{Answer, gives, refused, after, onto}
 use Rattle.rules.specs.Queries.{Mesh, borderLoop}
-use Rattle.rules.specs.Holes.{broken, holeOf, holes, holeCount, holeLengths, holesFound}
-use Rattle.theory.specs.Least.{means-no-number, means-some-number}
-use Rattle.theory.specs.Answers.{check-clear, check-refuses}
+use Rattle.rules.specs.Holes.{holeOf, holes, holeCount, holeLengths, holesFound}
 use Rattle.theory.specs.Reaching.{In}
-use Rattle.theory.specs.Holes.{Back, AllBack}
+use Rattle.theory.specs.Holes.{AllBack, room, found-broken, found-back}
 use Rattle.holes.specs.Marks.{Marked, Outcome}
 use Rattle.holes.proofs.Numbering.{holes-short}
 
 module _ (M : Mesh) (hole lengths : List ℕ) where
   abbrev k : ℕ
   k = length (M .border)
-
-  abbrev room : Bool
-  room = both (leb k (length hole)) (leb k (length lengths))
 
   -- a refusal leaves both outputs
   refusing : {a : Answer} {r p q : ℕ} → a ≡ refused r p q → holesFound M hole lengths ≡ refused r p q → Outcome M a hole lengths hole lengths
@@ -42,26 +35,14 @@ module _ (M : Mesh) (hole lengths : List ℕ) where
       }
 
   pub refuses-12 : {a : Answer} (c : ℕ) → In M c → borderLoop M c ≡ none → a ≡ refused 12 0 0 → Outcome M a hole lengths hole lengths
-  unfolding holesFound broken
-  refuses-12 c (from, to) e f =
-      let found = means-some-number k (λ b. broken (borderLoop M b)) .shows (c, from, to, rw e tt) in
-      refusing f (check-refuses _ _ _ (means-not (means-eq _ 0) .says found))
+  refuses-12 c i e f = refusing f (found-broken M hole lengths c i e)
 
   module _ (h : ℕ) (W : List ℕ) (s : Marked M k h W) where
     all-back : AllBack M
     all-back b i = s .known b i (s .all b (i .0) (i .1)) .back
 
-    back-broken : (b : ℕ) → Back M b → T (broken (borderLoop M b)) → ⊥
-    unfolding broken
-    back-broken b (bs, e) t = rw e at t
-
-    past-12 : holesFound M hole lengths ≡ elim room [ true ↦ gives (holeCount M) 0 | false ↦ refused 13 k 0 ]
-    unfolding holesFound
-    past-12 =
-        check-clear _ _ _ (means-eq _ 0 .says (means-no-number k (λ b. broken (borderLoop M b)) .shows (λ b from to t. back-broken b (all-back b (from, to)) t)))
-
-    pub refuses-13 : {a : Answer} → room ≡ false → a ≡ refused 13 k 0 → Outcome M a hole lengths hole lengths
-    refuses-13 e f = refusing f (past-12 ∙ rw e)
+    pub refuses-13 : {a : Answer} → room M hole lengths ≡ false → a ≡ refused 13 k 0 → Outcome M a hole lengths hole lengths
+    refuses-13 e f = refusing f (found-back M hole lengths all-back ∙ rw e)
 
     holes-are : part 0 k W ≡ holes M
     unfolding holes
@@ -81,12 +62,12 @@ module _ (M : Mesh) (hole lengths : List ℕ) where
         (λ i l. at-part k h W i l ∙ s .measured i l)
         ∙ ap (λ (j : ℕ). tab j (λ i. countNumbers k (λ b. eqb (holeOf M b) (i + 1)))) (s .many)
 
-    pub answers : {a : Answer} {hole′ lengths′ : List ℕ} → room ≡ true → a ≡ gives h 0 → hole′ ≡ onto (part 0 k W) hole → lengths′ ≡ onto (part k h W) lengths →
+    pub answers : {a : Answer} {hole′ lengths′ : List ℕ} → room M hole lengths ≡ true → a ≡ gives h 0 → hole′ ≡ onto (part 0 k W) hole → lengths′ ≡ onto (part k h W) lengths →
         Outcome M a hole lengths hole′ lengths′
     unfolding after holeCount
     answers e f p q =
         record {
-          answer = f ∙ ap (λ (x : ℕ). gives x 0) (s .many) ∙ sym (past-12 ∙ rw e);
+          answer = f ∙ ap (λ (x : ℕ). gives x 0) (s .many) ∙ sym (found-back M hole lengths all-back ∙ rw e);
           holes-left = p ∙ ap (λ (x : List ℕ). onto x hole) holes-are ∙ sym (ap (λ (x : Answer). after x (onto (holes M) hole) hole) f);
           lengths-left = q ∙ ap (λ (x : List ℕ). onto x lengths) lengths-are ∙ sym (ap (λ (x : Answer). after x (onto (holeLengths M) lengths) lengths) f);
         }

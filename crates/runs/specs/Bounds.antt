@@ -10,7 +10,7 @@ use native.Mathlib.Omega.{arith}
 use lib.Dec.{T, leb, eqb}
 use lib.ListN.{length}
 use Rattle.lists.specs.Tests.{both, within}
-use Rattle.lists.specs.TestLaws.{Test, pass, fail, test, means-itself, means-both, means-either, means-eq, means-le, means-within}
+use Rattle.lists.specs.TestLaws.{passes, Test, pass, fail, test, means-itself, means-both, means-either, means-eq, means-le, means-within}
 use Rattle.lists.specs.SearchLaws.{count-bound}
 use Rattle.rules.specs.Elements.{maxVertex, maxElement, elements, element, number, sides, isSide, Side, next, sideWith, firstSide, countSides}
 use Rattle.rules.specs.Elements.{firstNumber}
@@ -19,6 +19,7 @@ use Rattle.rules.specs.Tables.{borders, columns, edges}
 use Rattle.rules.specs.Refusals.{clashOf, clashing, Answer, gives, refused, Buffers, crowdedSide, alikeSide, unorderedVertex, checkFound}
 use Rattle.rules.specs.Refusals.{rowChecks, listAnswer, lengthChecks, roomCheck, buildAnswer, recovers, recoverAnswer}
 use Rattle.rules.specs.Siblings.{SiblingBuffers, siblingsAnswer}
+use Rattle.rules.specs.Holes.{HoleBuffers, leastOf, holesUpTo, holeCount, holesFound, holesFit, holesAnswer}
 use Rattle.rules.specs.Queries.{Mesh, columnsAnswer, queryLengths, asked, defined, found, listed, andThen, prepend, readAll, read, bySide, byEntry, follow, over, isBorderCode, isHalfEdge, isEntry}
 use Rattle.rules.specs.Queries.{isVertex, readOpposite, readBorderSide, readVertexEntry, readOrigin, readDestination, opposite, borderNext, startSide}
 use Rattle.rules.specs.Queries.{onward, ringSides, ring, neighbours, loopNext, borderLoop, listedAnswer, oppositeAnswer, nextAnswer, previousAnswer}
@@ -224,16 +225,18 @@ record Bounded (M : Mesh) : Type 0 where
   border : length (M .border) ≤ 4 * elements (M .list)
 
 module _ (M : Mesh) where
-  asked-fits : (a : Answer) → (Bounded M → Fits a) → Fits (asked M a)
-  unfolding asked queryLengths
-  asked-fits a f =
-      lengths-fit (sizesFit (M .n) (M .list)) (queryLengths M) a
-      (λ s l.
+  bounded : T (sizesFit (M .n) (M .list)) → T (queryLengths M) → Bounded M
+  unfolding queryLengths
+  bounded s l =
       let (v, (e, q)) = means-sizes (M .n) (M .list) .says s in
       let m = elements (M .list) in
       let tables = means-both (means-eq (length (M .opposites)) (M .columns * m)) (means-le (length (M .border)) (4 * m)) in
       let (c, (p, (o, b))) = means-both (means-within 3 4 (M .columns)) (means-both (means-eq (length (M .vertices)) (M .n)) tables) .says l in
-      f (record { vertices = v; size = e; border = b }))
+      record { vertices = v; size = e; border = b }
+
+  asked-fits : (a : Answer) → (Bounded M → Fits a) → Fits (asked M a)
+  unfolding asked
+  asked-fits a f = lengths-fit (sizesFit (M .n) (M .list)) (queryLengths M) a (λ s l. f (bounded s l))
 
   module _ (k : Bounded M) where
     border-small : (c : ℕ) → T (isBorderCode M c) → c < 200_000_000
@@ -416,6 +419,22 @@ module _ (M : Mesh) where
   border-loop-fits b out =
       let j = length (M .border) in
       lists-fit (within 1 j b) j _ out (λ k. omega (arith, k .border, k .size)) (follow-short (loopNext M b) j b)
+
+  -- no more holes than border half-edges
+  pub holes-fits : (w : HoleBuffers) → Fits (holesAnswer M w)
+  unfolding holesAnswer holesFit holesFound holeCount holesUpTo
+  holes-fits w =
+      lengths-fit (sizesFit (M .n) (M .list)) _ _
+      (λ s l.
+      let z = bounded s (passes (queryLengths M) _ l .0) in
+      check-fits _ _ _ (omega arith) (go z (both (leb j (length (w .hole))) (leb j (length (w .lengths))))))
+    where
+      j : ℕ
+      j = length (M .border)
+
+      go : Bounded M → (room : Bool) → Fits (elim room [ true ↦ gives (holeCount M) 0 | false ↦ refused 13 j 0 ])
+      go z true = omega (arith, z .size, z .border, count-bound (λ i. eqb (leastOf M (i + 1)) (i + 1)) j)
+      go z false = omega (arith, z .size, z .border)
 
   pub start-fits : (v : ℕ) (w : Walker) → Fits (walkerStart M v w .answer)
   unfolding walkerStart startAnswer andThen

@@ -22,6 +22,9 @@ use Rattle.columns.proofs.columns.Kinds as columns-kinds
 use Rattle.columns.proofs.columns.Reads as columns-reads
 use Rattle.recover.proofs.recover.Kinds as recover-kinds
 use Rattle.recover.proofs.recover.Reads as recover-reads
+use Rattle.holes.specs.Marks.{lentHoles}
+use Rattle.holes.proofs.holes.Kinds as holes-kinds
+use Rattle.holes.proofs.holes.Reads as holes-reads
 use Rattle.sibling_map.specs.Mapping.{lentMaps}
 use Rattle.sibling_map.proofs.siblings.Kinds as siblings-kinds
 use Rattle.sibling_map.proofs.siblings.Reads as siblings-reads
@@ -44,7 +47,7 @@ use Rattle.walker.specs.declared.Call.the-variants.{Start, Step}
 use Rattle.walker.specs.Walkers.{recordOf, movedOf, calledBy}
 use Rattle.walker.proofs.call_at.Kinds as call-at-kinds
 use Rattle.walker.proofs.call_at.Reads as call-at-reads
-use Rattle.runs.specs.Runs.{StartRun, StepRun, BuildRun, RecoverRun, SiblingsRun, RingRun, NeighboursRun, BorderLoopRun}
+use Rattle.runs.specs.Runs.{StartRun, StepRun, BuildRun, RecoverRun, SiblingsRun, RingRun, NeighboursRun, BorderLoopRun, HolesRun}
 
 -- next_side(row, i) and previous_side(row, i)
 module _ (κs : Lfts 0) (a : Dens κs next-side-kinds.ps) (r : resT next-side-kinds.r κs .Denot) (s : AtExit (endedOf 0 next-side-kinds.ps next-side-kinds.r) κs) where
@@ -135,6 +138,14 @@ module _ (κs : Lfts 5) (a : Dens κs ring-kinds.ps) (r : resT ring-kinds.r κs 
   pub border-loop-run : border-loop-reads.Post κs a r s
       → BorderLoopRun (listed κs a) (a .1 .1 .1 .1 .1 .1 .0) (a .1 .1 .1 .1 .1 .1 .1 .0 .now) (numbers r) (s .1 .1 .1 .1 .1 .1 .1 .0 .now)
   border-loop-run p = record { answer = p .0; leaves = p .1 }
+
+-- holes(n, columns, list, v2e, e2e, b2e, hole, lengths, work)
+module _ (κs : Lfts 7) (a : Dens κs holes-kinds.ps) (r : resT holes-kinds.r κs .Denot) (s : AtExit (endedOf 7 holes-kinds.ps holes-kinds.r) κs) where
+  pub holes-run : holes-reads.Post κs a r s
+      → HolesRun (mesh (a .0) (a .1 .0) (a .1 .1 .0 .now) (a .1 .1 .1 .0 .now) (a .1 .1 .1 .1 .0 .now) (a .1 .1 .1 .1 .1 .0 .now))
+      (lentHoles (a .1 .1 .1 .1 .1 .1 .0 .now) (a .1 .1 .1 .1 .1 .1 .1 .0 .now) (a .1 .1 .1 .1 .1 .1 .1 .1 .0 .now)) (numbers r)
+      (lentHoles (s .1 .1 .1 .1 .1 .1 .0 .now) (s .1 .1 .1 .1 .1 .1 .1 .0 .now) (s .1 .1 .1 .1 .1 .1 .1 .1 .0 .now))
+  holes-run p = record { answer = p .0; leaves = p .1 }
 
 -- a walker's call by value (record, n, columns, list, v2e, e2e, b2e, call): walker::move_on over `&mut` and the exports go through it
 module _ (κs : Lfts 4) (a : Dens κs call-at-kinds.ps) (r : resT call-at-kinds.r κs .Denot) (s : AtExit (endedOf 4 call-at-kinds.ps call-at-kinds.r) κs) where

@@ -6,6 +6,7 @@ use borrow.Fn.Kinds.{Dens, resT, endedOf}
 use denote.Triple.Clauses.{AtExit}
 use Rattle.rules.specs.Refusals.{buildAnswer, recoverAnswer}
 use Rattle.rules.specs.Siblings.{siblingsAnswer}
+use Rattle.rules.specs.Holes.{holesAnswer}
 use Rattle.rules.specs.Queries.{told as mesh-of}
 use Rattle.rules.specs.Queries.{Mesh, columnsAnswer, oppositeAnswer, nextAnswer, previousAnswer, elementAnswer, originAnswer, destinationAnswer, acrossAnswer}
 use Rattle.rules.specs.Queries.{halfEdgeBorderAnswer, vertexBorderAnswer, ringAnswer, neighboursAnswer, borderLoopAnswer, walkerStart, walkerStep}
@@ -32,16 +33,19 @@ use Rattle.borzhanu.proofs.borzhanu_ring.Kinds as ring-kinds
 use Rattle.borzhanu.proofs.borzhanu_ring.Reads as ring-reads
 use Rattle.borzhanu.proofs.borzhanu_neighbours.Reads as neighbours-reads
 use Rattle.borzhanu.proofs.borzhanu_border_loop.Reads as border-loop-reads
+use Rattle.borzhanu.proofs.borzhanu_holes.Kinds as holes-kinds
+use Rattle.borzhanu.proofs.borzhanu_holes.Reads as holes-reads
 use Rattle.borzhanu.proofs.borzhanu_walker_start.Kinds as start-kinds
 use Rattle.borzhanu.proofs.borzhanu_walker_start.Reads as start-reads
 use Rattle.borzhanu.proofs.borzhanu_walker_step.Kinds as step-kinds
 use Rattle.borzhanu.proofs.borzhanu_walker_step.Reads as step-reads
 use Rattle.sibling_map.specs.Mapping.{lentMaps}
+use Rattle.holes.specs.Marks.{lentHoles}
 use Rattle.borzhanu.specs.Walkers.{walkerIn}
 use Rattle.answer.specs.Packing.{told}
 use Rattle.runs.specs.Contracts.{buffers, of}
 use Rattle.runs.specs.Bounds.{build-fits, columns-fits, recover-fits, siblings-fits, opposite-fits, next-fits, previous-fits, element-fits, origin-fits, destination-fits}
-use Rattle.runs.specs.Bounds.{across-fits, half-edge-border-fits, vertex-border-fits, ring-fits, neighbours-fits, border-loop-fits, start-fits, step-fits}
+use Rattle.runs.specs.Bounds.{across-fits, half-edge-border-fits, vertex-border-fits, ring-fits, neighbours-fits, border-loop-fits, holes-fits, start-fits, step-fits}
 
 module _ (κs : Lfts 5) (a : Dens κs build-kinds.ps) (r : resT build-kinds.r κs .Denot) (s : AtExit (endedOf 5 build-kinds.ps build-kinds.r) κs) where
   pub build-told : build-reads.Post κs a r s → unpacked r ≡ buildAnswer (a .0) (a .1 .0 .now) (buffers κs a)
@@ -105,6 +109,13 @@ module _ (κs : Lfts 5) (a : Dens κs ring-kinds.ps) (r : resT ring-kinds.r κs 
 
   pub border-loop-told : border-loop-reads.Post κs a r s → unpacked r ≡ borderLoopAnswer (exported-list κs a) (a .1 .1 .1 .1 .1 .1 .0) (a .1 .1 .1 .1 .1 .1 .1 .0 .now)
   border-loop-told p = told _ (border-loop-fits (exported-list κs a) _ _) r (p .0)
+
+-- borzhanu_holes(n, columns, elements, v2e, e2e, b2e, hole, lengths, work)
+module _ (κs : Lfts 7) (a : Dens κs holes-kinds.ps) (r : resT holes-kinds.r κs .Denot) (s : AtExit (endedOf 7 holes-kinds.ps holes-kinds.r) κs) where
+  pub holes-told : holes-reads.Post κs a r s
+      → unpacked r ≡ holesAnswer (mesh-of (a .0) (a .1 .0) (a .1 .1 .0 .now) (a .1 .1 .1 .0 .now) (a .1 .1 .1 .1 .0 .now) (a .1 .1 .1 .1 .1 .0 .now))
+      (lentHoles (a .1 .1 .1 .1 .1 .1 .0 .now) (a .1 .1 .1 .1 .1 .1 .1 .0 .now) (a .1 .1 .1 .1 .1 .1 .1 .1 .0 .now))
+  holes-told p = told _ (holes-fits _ _) r (p .0)
 
 -- borzhanu_walker_start(n, columns, elements, v2e, e2e, b2e, v, walker) and borzhanu_walker_step(n, columns, elements, v2e, e2e, b2e, walker)
 module _ (κs : Lfts 5) (a : Dens κs start-kinds.ps) (r : resT start-kinds.r κs .Denot) (s : AtExit (endedOf 5 start-kinds.ps start-kinds.r) κs) where

@@ -5,6 +5,7 @@ pub mod OnBuilt
 pub mod Told
 pub mod Unused
 pub mod Siblings
+pub mod Holes
 pub mod RoundTrip
 pub mod Bounds
 pub mod Exports

@@ -1,8 +1,8 @@
 -- Theorem 6 over runs of the calls: what the queries answer and leave on the tables that a run of build left.
 --
 -- "On built tables opposite undoes itself and 12 never comes, but to a walker record that these calls didn't make on them"; "the ring of a
--- vertex lists every element there exactly once"; a border loop "lists at most k, none twice"; a walker's calls "hand out the ring in order,
--- then 0 for ever with the record unchanged". Also: neighbours are the vertices joined to v, each once, the border test tells a vertex as
+-- vertex lists every element there exactly once"; a border loop "lists at most k, none twice", and by document 02, point 11, "exactly the
+-- border half-edges reachable from b by next"; a walker's calls "hand out the ring in order, then 0 for ever with the record unchanged". Also: neighbours are the vertices joined to v, each once, the border test tells a vertex as
 -- inner, rim or unused exactly where it is, next and previous of a side undo each other, and next first comes back after as many steps as
 -- the element has sides.
 -- Assumes nothing.
@@ -31,7 +31,7 @@ use Rattle.theory.specs.Steps.{FirstBack, next-side, previous-side, previous-ne
 use Rattle.theory.specs.Entries.{length-b2e}
 use Rattle.theory.specs.Built.{built, by-side}
 use Rattle.theory.specs.Rings.{ListsOnce}
-use Rattle.theory.specs.Loops.{LoopOf}
+use Rattle.theory.specs.Reaching.{LoopOf}
 use Rattle.theory.specs.Neighbours.{ListsJoined}
 use Rattle.theory.specs.Walkers.{stepped}
 use Rattle.theory.specs.Vertices.{Tells}
@@ -145,9 +145,9 @@ module _ (n : ℕ) (L : List ℕ) (M : Mesh) (x : LeftBy n L M) where
       let (us, e, l) = on .joined v h k in
       (us, e, l, written M (on .checks) (isVertex M v) (neighbours M v) us out a out′ (on .vertices v .shows (h, k)) e (run .answer) (run .leaves))
 
-  -- a border loop lists b and on, at most k borders and none twice
+  -- a border loop lists b and on, at most k borders and none twice, exactly those reachable
   pub border-loop-on-built : (b : ℕ) (out : List ℕ) (a : Answer) (out′ : List ℕ) → BorderLoopRun M b out a out′ → 1 ≤ b → b ≤ x .k
-      → (bs : List ℕ) × (borderLoop M b ≡ some bs) × LoopOf L b bs × Written bs out a out′
+      → (bs : List ℕ) × (borderLoop M b ≡ some bs) × LoopOf M b bs × Written bs out a out′
   unfolding borderLoopAnswer borderLoopLeaves
   border-loop-on-built b out a out′ run h k =
       let (bs, e, l) = on .loops b (h, omega (arith, k, counts .borders-are)) in

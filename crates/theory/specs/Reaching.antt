@@ -3,7 +3,7 @@
 -- Assumes nothing.
 use mathlib.Core.Path.{_≡_, refl, ap, sym, subst, _∙_}
 use mathlib.Core.Bool.{true, false}
-use mathlib.Core.Logic.{_⊎_, inl, inr}
+use mathlib.Core.Logic.{_⊎_, inl, inr, _↔_}
 use mathlib.Core.Option.{none, some}
 use mathlib.Core.List.{List, [], _∷_}
 use Prim.Native.Nat.{ℕ, zero, suc, _+_, _*_, _-_, _/_, _%_, _≤_, _<_}
@@ -158,6 +158,26 @@ module _ (M : Mesh) where
 
     pub once : (i j : ℕ) → i < length bs → j < length bs → at bs i ≡ at bs j → i ≡ j
     once = course-once (loopNext M b) b bs (listed .0)
+
+  -- bs lists b and then next, and next: at most k border half-edges, none twice, exactly those reachable
+  pub record LoopOf (b : ℕ) (bs : List ℕ) : Type 0 where
+    pub nonempty : 0 < length bs
+    pub first : at bs 0 ≡ b
+    pub short : length bs ≤ length (M .border)
+    pub inside : (i : ℕ) → i < length bs → In (at bs i)
+    pub once : (i j : ℕ) → i < length bs → j < length bs → at bs i ≡ at bs j → i ≡ j
+    pub reachable : (c : ℕ) → Met bs c ↔ Reachable M b c
+
+  pub loop-of : (b : ℕ) → In b → (bs : List ℕ) → borderLoop M b ≡ some bs → LoopOf b bs
+  loop-of b h bs e =
+      record {
+        nonempty = nonempty b h bs e;
+        first = first b h bs e;
+        short = short b h bs e;
+        inside = λ i l. reached-in b (at bs i) h (i, after b h bs e i l);
+        once = once b h bs e;
+        reachable = λ c. (listed-reached b h bs e c, reached-listed b h bs e c);
+      }
 
   -- b has a loop where some steps of next, at most k, lead back to it
   leads-back : (b i j x : ℕ) → (x ≡ 0 → ⊥) → i < j → nextTimes M (suc i) x ≡ some b → (o : List ℕ) × (follow (loopNext M b) j x ≡ some o)

@@ -23,7 +23,8 @@ use Rattle.theory.specs.Built.{built, asked-built, HalfEdge, side, borde
 use Rattle.theory.specs.Built.{read-origin, read-destination, ReadEntry, rim, inner, unused, read-entry}
 use Rattle.theory.specs.Rings.{ListsOnce, the-ring, ring-lists}
 use Rattle.theory.specs.Opposites.{opposite-undone}
-use Rattle.theory.specs.Loops.{Border, LoopOf, border-loop}
+use Rattle.theory.specs.Reaching.{LoopOf, loop-of}
+use Rattle.theory.specs.Loops.{Border, border-loop}
 use Rattle.theory.specs.Neighbours.{ListsJoined, neighbours-joined}
 use Rattle.theory.specs.Walkers.{HandsOut, walker-hands}
 use Rattle.theory.specs.Vertices.{Tells, tells}
@@ -67,7 +68,7 @@ pub record Served (n : ℕ) (L : List ℕ) (M : Mesh) : Type 0 where
   pub joined : (v : ℕ) → 1 ≤ v → v ≤ n → (us : List ℕ) × (neighbours M v ≡ some us) × ListsJoined L v us
   pub tells : (v : ℕ) → 1 ≤ v → v ≤ n → Tells L v (vertexBorderAnswer M v)
   pub undone : (c : ℕ) → T (isHalfEdge M c) → (d : ℕ) × T (isHalfEdge M d) × (opposite M c ≡ some d) × (opposite M d ≡ some c)
-  pub loops : (b : ℕ) → Border L b → (bs : List ℕ) × (borderLoop M b ≡ some bs) × LoopOf L b bs
+  pub loops : (b : ℕ) → Border L b → (bs : List ℕ) × (borderLoop M b ≡ some bs) × LoopOf M b bs
   pub sounds : Sounds M
   pub walks : (v : ℕ) → 1 ≤ v → v ≤ n → (w : Walker) → (es : List ℕ) × (ring M v ≡ some es) × (walkerStart M v w .answer ≡ gives 0 0) × HandsOut M (walkerStart M v w .walker) es
 
@@ -142,7 +143,9 @@ served n L x =
       joined = neighbours-joined n L g;
       tells = tells n L (g .fit);
       undone = opposite-undone n L (g .pairing);
-      loops = border-loop n L g;
+      loops = λ b h.
+          let (bs, e) = border-loop n L g b h in
+          (bs, e, loop-of (built n L) b (h .0, omega (arith, h .1, length-b2e L)) bs e);
       sounds = sounds-of n L g;
       walks = walker-hands n L g;
     }

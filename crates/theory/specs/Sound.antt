@@ -142,7 +142,7 @@ module _ (n : ℕ) (L : List ℕ) (g : Good n L) where
       answer-sound (within 1 (length (b2e L)) b) _
       (λ t.
       let (h, k) = means-within 1 (length (b2e L)) b .says t in
-      let (bs, e, l) = border-loop n L g b (h, omega (arith, length-b2e L)) in
+      let (bs, e) = border-loop n L g b (h, omega (arith, length-b2e L)) in
       listed-sound (length out) (borderLoop (built n L) b) bs e)
 
   pub start-sound : (v : ℕ) → Sound (startAnswer (built n L) v)

@@ -5,13 +5,11 @@ use mathlib.Core.Bool.{true, false}
 use native.Mathlib.Omega.{arith}
 use borrow.Author.Needs.{needs}
 use borrow.Author.Tests.{not-true, not-false}
-use lib.Dec.{leb}
 use lib.ListN.{length}
-use Rattle.lists.specs.Tests.{both}
-use Rattle.lists.specs.TestLaws.{means-both, means-le}
 use Rattle.rules.specs.Queries.{Mesh}
 use Rattle.reads.specs.Meshes.{mesh}
 use Rattle.reads.proofs.Readings.{value-of, broken-of}
+use Rattle.theory.specs.Holes.{room, means-room}
 use Rattle.holes.specs.Marks.{Marked}
 use Rattle.holes.proofs.Numbering.{none-marked, holes-short}
 use Rattle.holes.proofs.Leaving.{refuses-12, refuses-13, answers}
@@ -89,28 +87,25 @@ same-length-2 c = search needs
 
 returns-2 : tie.Need-returns-2
 returns-2 c =
-    let room = c .before .before in
-    let no = sym (room .is-room .ensures) ∙ not-true _ (c .before .if1 .taken) in
-    (refuses-13 (meshOf (begun (cleared (marked room)))) _ _ _ _ (found room) no (c .refuse-at .ensures), long (marked room))
+    let test = c .before .before in
+    let no = sym (test .is-room .ensures) ∙ not-true _ (c .before .if1 .taken) in
+    (refuses-13 (meshOf (begun (cleared (marked test)))) _ _ _ _ (found test) no (c .refuse-at .ensures), long (marked test))
 
 wide-requires : tie.Need-wide-requires
 wide-requires c κs = search needs
 
 -- both outputs have room
-enough : (c : tie.Else1) → let a = begun (cleared (marked (c .before))) .args in
-    both (leb (length (a .b2e .now)) (length (a .hole .now))) (leb (length (a .b2e .now)) (length (a .lengths .now))) ≡ true
+enough : (c : tie.Else1) → let s = begun (cleared (marked (c .before))) in room (meshOf s) (s .args .hole .now) (s .args .lengths .now) ≡ true
 enough c = sym (c .before .is-room .ensures) ∙ not-false _ (c .if1 .left)
 
 write-requires : tie.Need-write-requires
 write-requires c κs =
-    let room = c .before .before .before .before .before in
-    let s = begun (cleared (marked room)) in
-    let k = length (s .args .b2e .now) in
-    let test = means-both (means-le k (length (s .args .hole .now))) (means-le k (length (s .args .lengths .now))) in
-    let (a, b) = test .says (rw (enough (c .before .before .before .before)) tt) in
-    let h = holes-short (meshOf s) _ _ _ (found room) in
+    let test = c .before .before .before .before .before in
+    let s = begun (cleared (marked test)) in
+    let (a, b) = means-room (meshOf s) (s .args .hole .now) (s .args .lengths .now) .says (rw (enough (c .before .before .before .before)) tt) in
+    let h = holes-short (meshOf s) _ _ _ (found test) in
     let w = c .before .before .before .wide .ensures in
-    (omega (arith, found room .room), a, omega arith)
+    (omega (arith, found test .room), a, omega arith)
 
 give-requires : tie.Need-give-requires
 give-requires c κs = search needs
@@ -127,10 +122,10 @@ same-length-5 c = search needs
 returns-3 : tie.Need-returns-3
 returns-3 c =
     let wrote = c .before .before .before .before .before in
-    let room = asked wrote in
+    let test = asked wrote in
     let (hole, lengths) = wrote .write .ensures in
     let w = wrote .before .before .before .before .wide .ensures in
-    (answers (meshOf (begun (cleared (marked room)))) _ _ _ _ (found room) (enough (wrote .before .before .before .before .before)) (c .give .ensures) hole (rw w at lengths), long (marked room))
+    (answers (meshOf (begun (cleared (marked test)))) _ _ _ _ (found test) (enough (wrote .before .before .before .before .before)) (c .give .ensures) hole (rw w at lengths), long (marked test))
 
 pub holes-fit-spec : {M : Type 1} → statement M
 holes-fit-spec =
