@@ -95,7 +95,7 @@ enum {
        aren't those of the list. A V2e entry of 0 is fit where a vertex is asked about: the vertex is
        unused. */
     BORZHANU_TABLE_BROKEN = 12,
-    /* The output is too short. Place: the length that it needs, 0. */
+    /* An output is too short. Place: the length that it needs, 0. */
     BORZHANU_OUTPUT_SHORT = 13,
     /* A text isn't in the form that the listing program reads. Place: the first bad line, 0.
        No call below gives it. */
@@ -197,7 +197,7 @@ static inline uint32_t borzhanu_number_of(uint32_t code) {
     return code % 8u;
 }
 
-/* The least length of the work buffer of build, recovery and siblings, in entries. */
+/* The least length of the work buffer of build, recovery, siblings and holes, in entries. */
 static inline size_t borzhanu_work_length(uint32_t n, size_t m) {
     return (size_t)n + 16u * m;
 }
@@ -444,6 +444,33 @@ uint64_t borzhanu_border_loop(uint32_t n, uint32_t columns,
                               const uint32_t *b2e, size_t b2e_len,
                               uint32_t b, uint32_t *out, size_t out_len);
 
+/*
+ * The hole of each border half-edge and the length of each hole, as a duct's openings are checked by their
+ * rims. Answers the number of holes. Two border half-edges have one hole exactly when the border loop of one
+ * lists the other. Holes are numbered from 1, in the order of the least border half-edge of each.
+ *
+ *   hole     at least k entries
+ *   lengths  at least k entries, however few holes there are
+ *   work     at least n + 16 * m entries
+ *
+ * After an answer hole[b - 1] is the hole of border half-edge b, and lengths[h - 1] says how many border
+ * half-edges hole h has; all lengths add up to k. Entries of hole past k are as they were, and so are those of
+ * lengths past the number of holes.
+ *
+ * It refuses 1 and 2 as every query does, and 2 where work is too short; 12 where any border loop does, else 13,
+ * which names k. Of E2e only the length is looked at. After a refusal hole and lengths are as they were. What
+ * they and work hold before doesn't matter. After 1 and 2 work is as it was; after everything else it is all
+ * zero.
+ */
+uint64_t borzhanu_holes(uint32_t n, uint32_t columns,
+                        const uint32_t *elements, size_t elements_len,
+                        const uint32_t *v2e, size_t v2e_len,
+                        const uint32_t *e2e, size_t e2e_len,
+                        const uint32_t *b2e, size_t b2e_len,
+                        uint32_t *hole, size_t hole_len,
+                        uint32_t *lengths, size_t lengths_len,
+                        uint32_t *work, size_t work_len);
+
 /* How far a walk about a vertex has come. */
 typedef struct borzhanu_walker {
     uint32_t start; /* the side where the ring begins; 0 for an unused vertex */
@@ -556,6 +583,12 @@ static inline uint64_t borzhanu_mesh_neighbours(const borzhanu_mesh *mesh, uint3
 static inline uint64_t borzhanu_mesh_border_loop(const borzhanu_mesh *mesh, uint32_t b, uint32_t *out,
                                                  size_t room) {
     return borzhanu_border_loop(BORZHANU_LENT_(mesh), b, out, room);
+}
+
+static inline uint64_t borzhanu_mesh_holes(const borzhanu_mesh *mesh, uint32_t *hole, size_t hole_len,
+                                           uint32_t *lengths, size_t lengths_len, uint32_t *work,
+                                           size_t work_len) {
+    return borzhanu_holes(BORZHANU_LENT_(mesh), hole, hole_len, lengths, lengths_len, work, work_len);
 }
 
 static inline uint64_t borzhanu_mesh_walker_start(const borzhanu_mesh *mesh, uint32_t v,
