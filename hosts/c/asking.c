@@ -1,5 +1,7 @@
 #include "asking.h"
 
+#include "rims.h"
+#include "room.h"
 #include "rounds.h"
 
 #include <stdlib.h>
@@ -129,6 +131,14 @@ struct call query_of(const struct exported *exported, const struct mesh *t, uint
     return call;
 }
 
+struct call holes_of(const struct mesh *t) {
+    struct call call = query_of(&holes_call, t, 0);
+    call.given[HOLE] = noise_of(HOLE, t->b2e.len);
+    call.given[LENGTHS] = noise_of(LENGTHS, t->b2e.len);
+    call.given[WORK] = noise_of(WORK, t->n + 16 * elements_of(t));
+    return call;
+}
+
 /* ---- asking ---- */
 
 void ask_code(const struct mesh *t, uint32_t code) {
@@ -147,6 +157,32 @@ void ask_list(const struct exported *exported, const struct mesh *t, uint32_t nu
         call.given[OUT] = noise_of(OUT, len);
         compare(&call, NULL);
     }
+}
+
+struct answer compare_holes(const struct mesh *t, const struct call *call) {
+    struct slice results[ROLES];
+    struct answer answer = compare(call, results);
+    if (answer.refusal == 0)
+        check_rims(t, answer.first, results[HOLE], results[LENGTHS]);
+    return answer;
+}
+
+struct answer ask_holes(const struct mesh *t) {
+    size_t k = t->b2e.len;
+    const size_t rooms[] = {0, k > 0 ? k - 1 : 0, k, k + 2};
+    struct call call = holes_of(t);
+    struct answer answer = compare_holes(t, &call);
+    for (size_t i = 0; i < COUNT(rooms) * COUNT(rooms); i++) {
+        call.given[HOLE].len = rooms[i % COUNT(rooms)];
+        call.given[LENGTHS].len = rooms[i / COUNT(rooms)];
+        compare(&call, NULL);
+        call.given[WORK].len += i % 2;
+    }
+    call = holes_of(t);
+    if (call.given[WORK].len > 0)
+        call.given[WORK].len -= 1;
+    compare(&call, NULL);
+    return answer;
 }
 
 void ask_walker(const struct mesh *t, uint32_t v) {
@@ -179,6 +215,7 @@ void ask_everything(const struct mesh *t) {
         ask_vertex(t, v);
     for (uint32_t b = 0; b <= t->b2e.len + 1; b++)
         ask_list(&border_list, t, b);
+    ask_holes(t);
 }
 
 static uint32_t any_code(const struct mesh *t, struct dice *dice) {
@@ -200,12 +237,34 @@ static void ask_any_record(const struct mesh *t, struct dice *dice) {
     compare(&call, NULL);
 }
 
+static size_t any_room(size_t needed, struct dice *dice) {
+    switch (below(dice, 6)) {
+    case 0:
+        return below(dice, (uint32_t)needed + 1);
+    case 1:
+        return needed > 0 ? needed - 1 : 0;
+    case 2:
+        return needed + 1 + below(dice, 3);
+    default:
+        return needed;
+    }
+}
+
+static void ask_any_holes(const struct mesh *t, struct dice *dice) {
+    struct call call = holes_of(t);
+    call.given[HOLE].len = any_room(call.given[HOLE].len, dice);
+    call.given[LENGTHS].len = any_room(call.given[LENGTHS].len, dice);
+    call.given[WORK].len = any_room(call.given[WORK].len, dice);
+    compare_holes(t, &call);
+}
+
 void ask_something(const struct mesh *t, struct dice *dice, int times) {
     while (times-- > 0) {
         ask_code(t, any_code(t, dice));
         ask_vertex(t, below(dice, 50) == 0 ? any_number(dice) : below(dice, t->n + 2));
         ask_list(&border_list, t, below(dice, 50) == 0 ? any_number(dice) : below(dice, (uint32_t)t->b2e.len + 2));
         ask_any_record(t, dice);
+        ask_any_holes(t, dice);
     }
 }
 
@@ -298,6 +357,9 @@ void try_zeroed(const struct mesh *t, uint32_t v) {
     ask_vertex(&zeroed, v);
     ask_code(&zeroed, 8 * b);
     ask_list(&border_list, &zeroed, b);
+    struct call call = holes_of(&zeroed);
+    if ((compare(&call, NULL).refusal == 12) != (b != 0))
+        fail(b != 0 ? "no 12, though a rim comes to an entry of 0" : "12, though no rim comes to an entry of 0");
     recover(&zeroed);
     drop_tables(&zeroed);
 }
@@ -363,12 +425,13 @@ static void tell_other_columns(struct mesh *t, struct dice *dice) {
     t->e2e = e2e;
 }
 
-/* A query told what is no number of columns. */
+/* A query told what is no number of columns, and so holes. */
 static void ask_without_columns(const struct mesh *t, struct dice *dice) {
     static const uint32_t numbers[] = {1, 2, 5, 7, UINT32_MAX};
-    struct call call = query_of(queries[below(dice, QUERIES)], t, any_code(t, dice));
-    call.columns = numbers[below(dice, sizeof numbers / sizeof *numbers)];
+    struct call call = query_of(queries[below(dice, QUERIES)], t, any_code(t, dice)), holes = holes_of(t);
+    call.columns = holes.columns = numbers[below(dice, COUNT(numbers))];
     compare(&call, NULL);
+    compare(&holes, NULL);
 }
 
 static void ask_damaged(const struct mesh *t, struct dice *dice, int times) {

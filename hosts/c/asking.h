@@ -28,6 +28,7 @@ struct call siblings_of(const struct list *list);
 struct call look_at(const struct list *list);
 struct call recovery_of(const struct mesh *t);
 struct call query_of(const struct exported *exported, const struct mesh *t, uint32_t number);
+struct call holes_of(const struct mesh *t);
 
 /* Every query of a half-edge; every query of a vertex; every query of everything. */
 void ask_code(const struct mesh *t, uint32_t code);
@@ -35,6 +36,11 @@ void ask_vertex(const struct mesh *t, uint32_t v);
 void ask_everything(const struct mesh *t);
 /* A list with no room, and then with one entry too few, just enough and more than enough. */
 void ask_list(const struct exported *exported, const struct mesh *t, uint32_t number);
+/* Holes, a call of holes_of with any lengths; where there is an answer, the border loops are held up to it. */
+struct answer compare_holes(const struct mesh *t, const struct call *call);
+/* Holes with outputs just long enough, and then with each of them empty, one entry too short, long enough and longer,
+   and with a work buffer too short. Returns the first answer. */
+struct answer ask_holes(const struct mesh *t);
 /* A walker from the start until the walk is over or refused, and a little further. */
 void ask_walker(const struct mesh *t, uint32_t v);
 /* All queries, each of something chosen at random. */

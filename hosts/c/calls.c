@@ -11,7 +11,8 @@
 #include <time.h>
 #include <unistd.h>
 
-static const char *const role_names[ROLES] = {"elements", "v2e", "e2e", "b2e", "siblings", "work", "out", "walker"};
+static const char *const role_names[ROLES] = {"elements", "v2e", "e2e", "b2e",     "siblings",
+                                              "work",     "out", "hole", "lengths", "walker"};
 
 /* what the calls that compare one case may take */
 enum { SECONDS = 120 };
@@ -60,6 +61,16 @@ static uint64_t kernel_siblings(const struct call *call, const struct slice *b) 
 static struct answer expect_siblings(const struct call *call, const struct slice *b) {
     struct mesh mesh = mesh_of(call, b);
     return reference_siblings(&mesh, b[SIBLINGS], b[WORK]);
+}
+
+static uint64_t kernel_holes(const struct call *call, const struct slice *b) {
+    return borzhanu_holes(MESH(call, b), b[HOLE].at, b[HOLE].len, b[LENGTHS].at, b[LENGTHS].len, b[WORK].at,
+                          b[WORK].len);
+}
+
+static struct answer expect_holes(const struct call *call, const struct slice *b) {
+    struct mesh mesh = mesh_of(call, b);
+    return reference_holes(&mesh, b[HOLE], b[LENGTHS], b[WORK]);
 }
 
 static uint64_t kernel_walker_start(const struct call *call, const struct slice *b) {
@@ -118,6 +129,7 @@ const struct exported build_call = EXPORTED(build, BIT(V2E) | BIT(E2E) | BIT(B2E
 const struct exported columns_call = EXPORTED(columns, 0);
 const struct exported recover_call = EXPORTED(recover, BIT(ELEMENTS) | BIT(WORK));
 const struct exported siblings_call = EXPORTED(siblings, BIT(V2E) | BIT(SIBLINGS) | BIT(WORK));
+const struct exported holes_call = QUERY(holes, BIT(HOLE) | BIT(LENGTHS) | BIT(WORK));
 const struct exported start_call = QUERY(walker_start, BIT(RECORD));
 const struct exported step_call = QUERY(walker_step, BIT(RECORD));
 
@@ -192,7 +204,7 @@ static uint32_t *expected_room[ROLES];
 
 size_t room_of(enum role role) {
     const size_t m = BORZHANU_MAX_ELEMENTS + 2, n = BORZHANU_MAX_VERTICES + 2;
-    const size_t room[ROLES] = {4 * m, n, 4 * m, 4 * m, 4 * m, n + 16 * m, 4 * m, RECORD_LENGTH};
+    const size_t room[ROLES] = {4 * m, n, 4 * m, 4 * m, 4 * m, n + 16 * m, 4 * m, 4 * m, 4 * m, RECORD_LENGTH};
     return room[role];
 }
 
@@ -226,7 +238,9 @@ static void check_same(const char *what, int role, const uint32_t *want, const u
 static size_t written_entries(const struct call *call, int role, struct answer answer) {
     if (answer.refusal != 0 || (call->exported->writes & BIT(role)) == 0)
         return 0;
-    return role == B2E || role == OUT ? answer.first : call->given[role].len;
+    if (role == HOLE)
+        return call->given[B2E].len;
+    return role == B2E || role == OUT || role == LENGTHS ? answer.first : call->given[role].len;
 }
 
 /* What doesn't depend on the reference: what must be as it was is, and the work buffer is clean. */

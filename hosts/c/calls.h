@@ -7,7 +7,7 @@
 #include <stddef.h>
 #include <stdint.h>
 
-enum role { ELEMENTS, V2E, E2E, B2E, SIBLINGS, WORK, OUT, RECORD, ROLES };
+enum role { ELEMENTS, V2E, E2E, B2E, SIBLINGS, WORK, OUT, HOLE, LENGTHS, RECORD, ROLES };
 
 enum { RECORD_LENGTH = 3, CODE_CALLS = 8, VERTEX_LISTS = 2, QUERIES = CODE_CALLS + VERTEX_LISTS + 4 };
 
@@ -31,9 +31,9 @@ struct call {
 };
 
 extern const struct exported build_call, columns_call, recover_call, siblings_call;
-extern const struct exported vertex_test, border_list, start_call, step_call;
+extern const struct exported vertex_test, border_list, holes_call, start_call, step_call;
 extern const struct exported code_calls[CODE_CALLS], vertex_lists[VERTEX_LISTS];
-/* all of these that are told columns */
+/* all of these that are told columns, but for holes, which has a work buffer */
 extern const struct exported *const queries[QUERIES];
 
 /* What a report of a mismatch names beside the call. */

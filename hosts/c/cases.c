@@ -229,6 +229,29 @@ const struct told_case told_cases[] = {
 };
 const size_t told_case_count = sizeof told_cases / sizeof *told_cases;
 
+const struct hole_case hole_cases[] = {
+    {"nothing", {0, 0}, 0, {0}, {0}},
+    {"three vertices alone", {0, 0}, 0, {0}, {0}},
+    {"four triangles about a solid", {0, 0}, 0, {0}, {0}},
+    {"the listing", {0, 0}, 1, {1, 1, 1, 1}, {4}},
+    {"the listing, spare vertices between", {0, 0}, 1, {1, 1, 1, 1}, {4}},
+    {"one quadrilateral", {0, 0}, 1, {1, 1, 1, 1}, {4}},
+    {"the last row a quadrilateral", {0, 0}, 1, {1, 1, 1, 1, 1}, {5}},
+    {"sample surface mesh", {0, 0}, 1, {1, 1, 1, 1, 1, 1, 1, 1}, {8}},
+    {"a tube three around", {0, 0}, 2, {1, 2, 1, 2, 1, 2}, {3, 3}},
+    {"four triangles apart", {0, 0}, 4, {1, 1, 1, 2, 2, 2, 3, 3, 3, 4, 4, 4}, {3, 3, 3, 3}},
+    {"three quadrilaterals apart", {0, 0}, 3, {1, 1, 1, 1, 2, 2, 2, 2, 3, 3, 3, 3}, {4, 4, 4}},
+    /* of one rim, two; of two rims, one */
+    {"the listing", {1, 3}, 2, {1, 1, 2, 2}, {2, 2}},
+    {"the listing", {1, 2}, 2, {1, 2, 2, 2}, {1, 3}},
+    {"a tube three around", {1, 4}, 1, {1, 1, 1, 1, 1, 1}, {6}},
+    {"four triangles apart", {2, 8}, 3, {1, 1, 1, 2, 2, 2, 1, 1, 1, 3, 3, 3}, {6, 3, 3}},
+    /* an inner vertex's side, and the 0 of a spare vertex */
+    {"sample surface mesh", {1, 5}, 0, {0}, {0}},
+    {"the listing, spare vertices between", {3, 5}, 0, {0}, {0}},
+};
+const size_t hole_case_count = sizeof hole_cases / sizeof *hole_cases;
+
 const struct recovery_case recovery_cases[] = {
     {"the listing", 4, 2, 3, {32, 8, 16, 24}, {8, 16, 17, 11, 24, 32}, 0, {{1, 2, 3, 0}, {1, 3, 4, 0}}},
     {"the listing in four columns", 4, 2, 4, {32, 8, 16, 24}, {8, 16, 17, 0, 11, 24, 32, 0}, 10, {{0}}},

@@ -76,6 +76,13 @@ struct sibling_case {
     uint32_t v2e[CASE_VERTICES], siblings[CASE_ENTRIES];
 };
 
+/* The holes of the case, with the V2e entries of two vertices exchanged; 0, 0: of none. `count` 0 where the case has
+   borders: a loop doesn't come back, or meets an entry that is no border. */
+struct hole_case {
+    const char *build_case;
+    uint32_t exchanged[2], count, hole[CASE_BORDERS], lengths[CASE_BORDERS];
+};
+
 extern const struct build_case build_cases[];
 extern const size_t build_case_count;
 extern const struct list_case list_cases[];
@@ -90,6 +97,8 @@ extern const struct figure figures[];
 extern const size_t figure_count;
 extern const struct told_case told_cases[];
 extern const size_t told_case_count;
+extern const struct hole_case hole_cases[];
+extern const size_t hole_case_count;
 extern const struct recovery_case recovery_cases[];
 extern const size_t recovery_case_count;
 extern const struct sibling_case sibling_cases[];

@@ -105,20 +105,23 @@ void columns_of_lists(struct dice *dice) {
 
 /* ---- queries ---- */
 
-/* Every query, with E2e as long as it is: refused by check 2 exactly where the columns told don't ask for that length.
-   A list not in fours and too many vertices are refused before. */
+/* E2e being as long as it is: refused by check 2 exactly where the columns told don't ask for that length. A list not
+   in fours and too many vertices are refused before. */
+static void ask_told(struct call call, int fits) {
+    struct call other = call;
+    if ((compare(&call, NULL).refusal == 2) == fits)
+        fail(fits ? "refused, though E2e has the length of the columns told"
+                  : "not refused by check 2, though E2e hasn't the length of the columns told");
+    other.n = BORZHANU_MAX_VERTICES + 1;
+    compare_with(&other, 1, 0);
+    call.given[ELEMENTS] = noise_of(ELEMENTS, call.given[ELEMENTS].len + 1);
+    compare_with(&call, 1, 0);
+}
+
 static void ask_each(const struct mesh *t, int fits) {
-    for (size_t i = 0; i < QUERIES; i++) {
-        struct call call = query_of(queries[i], t, 1);
-        if ((compare(&call, NULL).refusal == 2) == fits)
-            fail(fits ? "refused, though E2e has the length of the columns told"
-                      : "not refused by check 2, though E2e hasn't the length of the columns told");
-        call.n = BORZHANU_MAX_VERTICES + 1;
-        compare_with(&call, 1, 0);
-        call.n = t->n;
-        call.given[ELEMENTS] = noise_of(ELEMENTS, t->elements.len + 1);
-        compare_with(&call, 1, 0);
-    }
+    for (size_t i = 0; i < QUERIES; i++)
+        ask_told(query_of(queries[i], t, 1), fits);
+    ask_told(holes_of(t), fits);
 }
 
 static void try_told_lengths(const struct mesh *t) {
@@ -241,15 +244,6 @@ static void try_recovery(const struct mesh *t) {
         recover_into_length(t, len);
     recover_widened(t);
     recover_narrowed(t);
-}
-
-/* `count` elements of `corners` vertices each, none shared: their borders, like their vertices, are numbered in order,
-   and border b leaves vertex b. */
-static struct list apart(uint32_t corners, uint32_t count) {
-    struct list list = empty_list(corners * count, count);
-    for (uint32_t v = 0; v < list.n; v += corners)
-        add_row(&list, v + corners, v + 1, v + 2, corners == 4 ? v + 3 : 0);
-    return list;
 }
 
 static void check_apart(const struct list *list, struct slice codes) {

@@ -11,6 +11,7 @@
 #include "borzhanu.h"
 #include "columns.h"
 #include "header.h"
+#include "holes.h"
 #include "meeting.h"
 #include "pillows.h"
 #include "printed.h"
@@ -291,7 +292,8 @@ static void try_list_lengths(const struct list *list, const struct mesh *t, stru
 }
 
 static void lengths(struct dice *dice) {
-    static const int of_query[] = {ELEMENTS, V2E, E2E, B2E};
+    static const int of_query[] = {ELEMENTS, V2E, E2E, B2E},
+                     of_holes[] = {ELEMENTS, V2E, E2E, B2E, HOLE, LENGTHS, WORK};
     for (int i = 0; i < 12; i++) {
         struct list list = sheet(1 + below(dice, 3), 1 + below(dice, 3), 0, 0, (enum kinds)(i % 3), dice);
         add_spare(&list, below(dice, list.n + 1), (uint32_t)i % 4 * 30);
@@ -311,6 +313,8 @@ static void lengths(struct dice *dice) {
         call = query_of(&step_call, &t, 0);
         call.given[RECORD] = (struct slice){ring_over, RECORD_LENGTH};
         try_lengths(&call, of_query, COUNT(of_query), m, dice);
+        call = holes_of(&t);
+        try_lengths(&call, of_holes, COUNT(of_holes), m, dice);
         drop_tables(&t);
         drop_list(&list);
     }
@@ -354,6 +358,7 @@ static void try_emptied_calls(const struct list *list) {
         try_emptied(query_of(&code_calls[i], &t, borzhanu_side(1, 1)));
     for (size_t i = 0; i < COUNT(of_number_1); i++)
         try_emptied(query_of(of_number_1[i], &t, 1));
+    try_emptied(holes_of(&t));
     drop_tables(&t);
 }
 
@@ -392,6 +397,7 @@ static void far_lengths(struct dice *dice) {
     t.columns = 3;
     for (size_t i = 0; i < QUERIES; i++)
         try_far(query_of(queries[i], &t, 1));
+    try_far(holes_of(&t));
     drop_tables(&t);
 }
 
@@ -441,7 +447,7 @@ static void about_the_largest(uint32_t n, size_t m, uint32_t e2e_rows) {
     struct mesh t = {n, 0, noise_of(ELEMENTS, 4 * m), noise_of(V2E, n), noise_of(E2E, 4 * e2e_rows), noise_of(B2E, 9)};
     struct list list = {n, m, m, t.elements.at};
     struct call calls[] = {build_of(&list, 9), look_at(&list), recovery_of(&t), query_of(&code_calls[0], &t, 9),
-                           siblings_of(&list)};
+                           siblings_of(&list), holes_of(&t)};
     calls[0].given[E2E] = t.e2e;
     calls[2].m = e2e_rows;
     calls[4].given[SIBLINGS] = noise_of(SIBLINGS, 4 * e2e_rows);
@@ -473,6 +479,7 @@ static const struct {
     {"tables of spare vertices", small_spare_tables},
     {"tables of noise", noise_tables},
     {"time of siblings", time_of_siblings},
+    {"time of holes", time_of_holes},
     {"columns of lists", columns_of_lists},
     {"told columns", told_columns},
     {"recovery told m", recovery_told_m},
@@ -492,6 +499,7 @@ static const struct {
     {"elements that clash", elements_that_clash},
     {"lengths of clashes", lengths_of_clashes},
     {"edges of plates", edges_of_plates},
+    {"openings of housings", openings_of_housings},
 };
 
 static double seconds(void) {

@@ -113,6 +113,13 @@ struct list book(uint32_t n, uint32_t count) {
     return list;
 }
 
+struct list apart(uint32_t corners, uint32_t count) {
+    struct list list = empty_list(corners * count, count);
+    for (uint32_t v = 0; v < list.n; v += corners)
+        add_row(&list, v + corners, v + 1, v + 2, corners == 4 ? v + 3 : 0);
+    return list;
+}
+
 void add_spare(struct list *list, uint32_t after, uint32_t count) {
     for (size_t p = 0; p < 4 * list->m; p++)
         if (list->rows[p] > after)

@@ -39,6 +39,9 @@ struct list fan(uint32_t count, int closed);
 struct list bipyramid(uint32_t count);
 /* `count` triangles on the edge of vertices 1 and 2, over n vertices. */
 struct list book(uint32_t n, uint32_t count);
+/* `count` elements of `corners` vertices each, none shared: their borders, like their vertices, are numbered in order,
+   and border b leaves vertex b. */
+struct list apart(uint32_t corners, uint32_t count);
 /* `count` spare vertices, numbered from `after` + 1 on; the vertices that had these numbers come after them. */
 void add_spare(struct list *list, uint32_t after, uint32_t count);
 /* One of these, or two of them side by side, of up to about `size` elements, with and without spare vertices; or

@@ -117,6 +117,30 @@ static void check_refused(const char *name, struct call call, uint32_t refusal) 
         fail_case(name, call.exported->name);
 }
 
+static void exchange(uint32_t *a, uint32_t *b) {
+    uint32_t kept = *a;
+    *a = *b;
+    *b = kept;
+}
+
+static void check_hole_case(const struct hole_case *c, const struct mesh *t) {
+    struct mesh exchanged = copied_tables(t);
+    struct slice results[ROLES];
+    if (c->exchanged[0] != 0)
+        exchange(&exchanged.v2e.at[c->exchanged[0] - 1], &exchanged.v2e.at[c->exchanged[1] - 1]);
+    struct call call = holes_of(&exchanged);
+    if (t->b2e.len != 0 && c->count == 0) {
+        check_refused(c->build_case, call, 12);
+    } else {
+        if (!answers(compare(&call, results), c->count))
+            fail_case(c->build_case, "the number of holes");
+        check_printed(c->build_case, "the hole of each border", c->hole, results[HOLE]);
+        check_printed(c->build_case, "the length of each hole", c->lengths, (struct slice){results[LENGTHS].at, c->count});
+    }
+    ask_holes(&exchanged);
+    drop_tables(&exchanged);
+}
+
 static const struct exported *code_call(const char *name) {
     for (size_t i = 0; i < CODE_CALLS; i++)
         if (strcmp(code_calls[i].name, name) == 0)
@@ -174,6 +198,9 @@ static void check_queries(const char *name, const struct mesh *t) {
     for (size_t i = 0; i < list_case_count; i++)
         if (strcmp(list_cases[i].build_case, name) == 0)
             check_list_case(&list_cases[i], t);
+    for (size_t i = 0; i < hole_case_count; i++)
+        if (strcmp(hole_cases[i].build_case, name) == 0)
+            check_hole_case(&hole_cases[i], t);
     for (size_t i = 0; i < walk_case_count; i++)
         if (strcmp(walk_cases[i].build_case, name) == 0)
             check_walk(name, t, walk_cases[i].vertex, walk_cases[i].start, walk_cases[i].elements, walk_cases[i].count);

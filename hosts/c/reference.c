@@ -1,6 +1,7 @@
 #include "reference.h"
 
 #include "clash.h"
+#include "loops.h"
 #include "room.h"
 #include "sorting.h"
 
@@ -762,6 +763,64 @@ struct answer reference_border_loop(const struct mesh *mesh, uint32_t b, struct 
     uint32_t *list = room_for(mesh->b2e.len, sizeof *list);
     answer = list_into(list, list_border_loop(mesh, b, list), out);
     free(list);
+    return answer;
+}
+
+/* ---- holes ---- */
+
+/* Following every loop must come to the same as sets. */
+static void check_loops(const uint32_t *next, size_t k, const uint32_t *hole, int all_come_back) {
+    uint32_t *walked = room_for(k, sizeof *walked);
+    int comes_back = loops_by_walks(next, k, walked);
+    if (comes_back != all_come_back || (comes_back && memcmp(walked, hole, k * sizeof *hole) != 0)) {
+        fprintf(stderr, "reference: following every loop finds other holes than sets\n");
+        exit(2);
+    }
+    free(walked);
+}
+
+/* The hole of each border half-edge into `hole`, in both ways where there are few. Returns 0 where a loop gives 12. */
+static int find_holes(const struct mesh *mesh, uint32_t *hole) {
+    enum { FEW = 60 };
+    size_t k = mesh->b2e.len;
+    uint32_t *next = room_for(k, sizeof *next);
+    for (uint32_t b = 1; b <= k; b++)
+        next[b - 1] = element_of(next_border(mesh, 8 * b));
+    int all_come_back = loops_by_sets(next, k, hole);
+    if (k <= FEW)
+        check_loops(next, k, hole, all_come_back);
+    free(next);
+    return all_come_back;
+}
+
+/* Returns the number of holes. */
+static uint32_t write_holes(const uint32_t *found, size_t k, uint32_t *hole, uint32_t *lengths) {
+    uint32_t holes = 0;
+    for (size_t i = 0; i < k; i++) {
+        if (found[i] > holes)
+            lengths[holes++] = 0;
+        hole[i] = found[i];
+        lengths[found[i] - 1]++;
+    }
+    return holes;
+}
+
+struct answer reference_holes(const struct mesh *mesh, struct slice hole, struct slice lengths, struct slice work) {
+    size_t k = mesh->b2e.len;
+    struct answer answer = check_query(mesh);
+    if (answer.refusal == 0 && work_short(mesh->n, elements_in(mesh), work))
+        answer = refused(2, 0, 0);
+    if (answer.refusal != 0)
+        return answer;
+    uint32_t *found = room_for(k, sizeof *found);
+    if (!find_holes(mesh, found))
+        answer = refused(12, 0, 0);
+    else if (hole.len < k || lengths.len < k)
+        answer = refused(13, (uint32_t)k, 0);
+    else
+        answer = gives(write_holes(found, k, hole.at, lengths.at), 0);
+    free(found);
+    clear_entries(work);
     return answer;
 }
 

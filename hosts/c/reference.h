@@ -56,6 +56,7 @@ struct answer reference_vertex_is_border(const struct mesh *mesh, uint32_t v);
 struct answer reference_ring(const struct mesh *mesh, uint32_t v, struct slice out);
 struct answer reference_neighbours(const struct mesh *mesh, uint32_t v, struct slice out);
 struct answer reference_border_loop(const struct mesh *mesh, uint32_t b, struct slice out);
+struct answer reference_holes(const struct mesh *mesh, struct slice hole, struct slice lengths, struct slice work);
 
 struct answer reference_walker_start(const struct mesh *mesh, uint32_t v, struct record *walker);
 struct answer reference_walker_step(const struct mesh *mesh, struct record *walker);

@@ -137,6 +137,13 @@ static void ask_half_edges(const struct mesh *t) {
         ask_code(t, borzhanu_side(1, i));
 }
 
+/* There is one rim, or there is none. */
+static void ask_rim(const struct few *few, const struct mesh *t) {
+    struct call call = holes_of(t);
+    check_answer(few, call, 0, few->first != 0, 0);
+    refuse_lengths(few, &call);
+}
+
 /* An entry of 0 for a vertex with elements, and other entries for vertices without. */
 static void try_changed(const struct few *few, const struct mesh *t) {
     for_corners(few, t, try_zeroed);
@@ -163,6 +170,7 @@ static void try_accepted(const struct few *few) {
     refuse_lengths(few, &call);
     ask_vertices(few, &t);
     ask_half_edges(&t);
+    ask_rim(few, &t);
     try_changed(few, &t);
     drop_tables(&t);
     drop_list(&list);
