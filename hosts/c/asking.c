@@ -250,11 +250,15 @@ static size_t any_room(size_t needed, struct dice *dice) {
     }
 }
 
+/* With outputs and a work buffer of any lengths, and noise from any place on. */
 static void ask_any_holes(const struct mesh *t, struct dice *dice) {
+    static const enum role written[] = {HOLE, LENGTHS, WORK};
     struct call call = holes_of(t);
-    call.given[HOLE].len = any_room(call.given[HOLE].len, dice);
-    call.given[LENGTHS].len = any_room(call.given[LENGTHS].len, dice);
-    call.given[WORK].len = any_room(call.given[WORK].len, dice);
+    for (size_t i = 0; i < COUNT(written); i++) {
+        struct slice *given = &call.given[written[i]];
+        given->len = any_room(given->len, dice);
+        given->at += below(dice, (uint32_t)(room_of(written[i]) - given->len + 1));
+    }
     compare_holes(t, &call);
 }
 
@@ -400,9 +404,8 @@ static void recover_damaged(const struct mesh *t, struct dice *dice) {
     if (how == 4)
         bring_to_columns(&damaged, other_columns(t));
     if (how == 0 && t->n > 0) {
-        uint32_t a = below(dice, t->n), b = below(dice, t->n), kept = damaged.v2e.at[a];
-        damaged.v2e.at[a] = damaged.v2e.at[b];
-        damaged.v2e.at[b] = kept;
+        uint32_t a = below(dice, t->n), b = below(dice, t->n);
+        swap(&damaged.v2e.at[a], &damaged.v2e.at[b]);
     }
     if (how == 1 || how == 3)
         damage_table(damaged.v2e.at, damaged.v2e.len, code_bound(t), dice);

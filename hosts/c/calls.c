@@ -294,7 +294,7 @@ static void call_kernel(const struct call *call, struct answer want, const struc
     check_left(call, buffers, got);
     for (int role = 0; role < ROLES; role++)
         if (call->exported->writes & BIT(role))
-            check_same("another result", role, expected[role].at, buffers[role].at, 0, buffers[role].len);
+            check_same("another result", role, expected[role].at, buffers[role].at, 0, call->given[role].len);
 }
 
 static void call_placed(const struct call *call, struct answer want, const struct slice *expected,
@@ -340,14 +340,15 @@ void compare_with(const struct call *call, uint32_t refusal, uint32_t first) {
     compare_answer(call, (struct answer){refusal, first, 0});
 }
 
+static const size_t far = (size_t)1 << 32;
+
 void refuse_far(const struct call *call, enum role role, uint32_t refusal) {
-    const size_t more = (size_t)1 << 32;
     static uint32_t *closed;
     struct slice buffers[ROLES];
     if (closed == NULL)
-        closed = closed_memory(2 * more);
+        closed = closed_memory(2 * far);
     place_buffers(call, END_AT_GUARD, buffers);
-    buffers[role] = (struct slice){closed, call->given[role].len + more};
+    buffers[role] = (struct slice){closed, call->given[role].len + far};
     alarm(SECONDS);
     struct answer want = {refusal, 0, 0}, got = kernel_answer(call, buffers);
     progress.calls++;
@@ -355,6 +356,15 @@ void refuse_far(const struct call *call, enum role role, uint32_t refusal) {
         fail_answer(want, got);
     buffers[role] = call->given[role];
     check_left(call, buffers, got);
+}
+
+void compare_far(const struct call *call, enum role role) {
+    struct slice expected[ROLES], buffers[ROLES];
+    struct answer want = compare(call, expected);
+    place_buffers(call, END_AT_GUARD, buffers);
+    buffers[role] = (struct slice){closed_but_for_a_page(far), far};
+    copy_into(buffers[role].at, call->given[role]);
+    call_kernel(call, want, expected, buffers);
 }
 
 /* ---- time ---- */

@@ -62,6 +62,10 @@ void compare_with(const struct call *call, uint32_t refusal, uint32_t first);
    when touched. */
 void refuse_far(const struct call *call, enum role role, uint32_t refusal);
 
+/* A call whose output has 2^32 entries has the same answer as with the length given; memory past the first page of it
+   faults when touched. */
+void compare_far(const struct call *call, enum role role);
+
 /* Makes a call on the kernel alone, so many times, for its processor time. Where they take more than `allowed` seconds
    three times in a row, this is printed and ends the program. */
 void check_time(const struct call *call, int times, double allowed);

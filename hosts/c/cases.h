@@ -3,8 +3,8 @@
    TRI_3 and QUAD_4 in the figures of CGNS; and some of these lists with spare vertices, worked out by hand: the entry
    of a spare vertex is 0, and nothing else changes but the numbers of the vertices after it. Lists in which one row
    alone is a quadrilateral, and what is read where queries are told other columns, are worked out by hand too; lists in
-   which elements meet otherwise than at one corner or one edge, or nearly do, from the rules; sibling half-edges by
-   hand. */
+   which elements meet otherwise than at one corner or one edge, or nearly do, from the rules; sibling half-edges and
+   holes by hand. */
 #ifndef CASES_H
 #define CASES_H
 

@@ -374,7 +374,7 @@ static void empty_buffers(struct dice *dice) {
 }
 
 /* Lengths that are fit but for 2^32 entries: none is cut to 32 bits. An element list that is only read then has too
-   many elements. B2e of build, the work buffer and an output may be so long. */
+   many elements. B2e of build, the work buffer and an output may be so long; the outputs of holes are tried. */
 static void try_far(struct call call) {
     uint32_t of_elements = call.exported == &recover_call ? 2 : 1;
     for (int role = 0; role < WORK; role++)
@@ -397,7 +397,10 @@ static void far_lengths(struct dice *dice) {
     t.columns = 3;
     for (size_t i = 0; i < QUERIES; i++)
         try_far(query_of(queries[i], &t, 1));
-    try_far(holes_of(&t));
+    struct call holes = holes_of(&t);
+    try_far(holes);
+    compare_far(&holes, HOLE);
+    compare_far(&holes, LENGTHS);
     drop_tables(&t);
 }
 

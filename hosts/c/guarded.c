@@ -15,19 +15,32 @@ static void *closed_bytes(size_t bytes) {
     return all;
 }
 
-struct guarded guarded_memory(size_t entries) {
-    size_t page = (size_t)sysconf(_SC_PAGESIZE);
-    size_t bytes = (entries * sizeof(uint32_t) + page - 1) / page * page;
-    unsigned char *all = closed_bytes(bytes + 2 * page);
-    if (bytes != 0 && mprotect(all + page, bytes, PROT_READ | PROT_WRITE) != 0) {
+static void open_bytes(void *first, size_t bytes) {
+    if (bytes != 0 && mprotect(first, bytes, PROT_READ | PROT_WRITE) != 0) {
         perror("guarded memory");
         exit(2);
     }
+}
+
+static size_t page_bytes(void) {
+    return (size_t)sysconf(_SC_PAGESIZE);
+}
+
+struct guarded guarded_memory(size_t entries) {
+    size_t page = page_bytes(), bytes = (entries * sizeof(uint32_t) + page - 1) / page * page;
+    unsigned char *all = closed_bytes(bytes + 2 * page);
+    open_bytes(all + page, bytes);
     return (struct guarded){all + page, bytes};
 }
 
 uint32_t *closed_memory(size_t entries) {
     return closed_bytes(entries * sizeof(uint32_t));
+}
+
+uint32_t *closed_but_for_a_page(size_t entries) {
+    uint32_t *all = closed_memory(entries);
+    open_bytes(all, page_bytes());
+    return all;
 }
 
 uint32_t *placed(const struct guarded *memory, size_t len, enum placement placement) {

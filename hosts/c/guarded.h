@@ -17,6 +17,8 @@ enum placement { END_AT_GUARD, START_AT_GUARD };
 struct guarded guarded_memory(size_t entries);
 /* Every page of it faults when touched. */
 uint32_t *closed_memory(size_t entries);
+/* Every page of it but the first, which is zeros. */
+uint32_t *closed_but_for_a_page(size_t entries);
 uint32_t *placed(const struct guarded *memory, size_t len, enum placement placement);
 
 #endif

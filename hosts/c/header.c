@@ -177,17 +177,19 @@ static void check_lists(const borzhanu_mesh *mesh, uint32_t number, size_t room)
     CHECK_LIST(border_loop, number);
 }
 
-/* With room for the holes of some, also in the work buffer. */
-static void check_holes(const borzhanu_mesh *mesh, size_t room, size_t work_len) {
-    enum { ROOM = 16, WORK_ROOM = 1000 };
+/* With room for some of the meshes in all three buffers; as `hole` has more, `lengths` has less. */
+static void check_holes(const borzhanu_mesh *mesh, uint32_t room) {
+    enum { ROOM = 16, WORK_ROOM = 500 };
+    const size_t rest = ROOM - room;
     struct {
         uint32_t hole[ROOM], lengths[ROOM], work[WORK_ROOM];
     } plain, of_mesh;
     memset(&plain, 1, sizeof plain);
     memset(&of_mesh, 1, sizeof of_mesh);
-    uint64_t returned = borzhanu_holes(LENT(mesh), plain.hole, room, plain.lengths, ROOM, plain.work, work_len);
-    int same = borzhanu_mesh_holes(mesh, of_mesh.hole, room, of_mesh.lengths, ROOM, of_mesh.work, work_len) == returned;
-    check_same("holes", same && memcmp(&plain, &of_mesh, sizeof plain) == 0, (uint32_t)room);
+    uint64_t returned = borzhanu_holes(LENT(mesh), plain.hole, room, plain.lengths, rest, plain.work, WORK_ROOM);
+    int same =
+        borzhanu_mesh_holes(mesh, of_mesh.hole, room, of_mesh.lengths, rest, of_mesh.work, WORK_ROOM) == returned;
+    check_same("holes", same && memcmp(&plain, &of_mesh, sizeof plain) == 0, room);
 }
 
 static int same_walkers(borzhanu_walker a, borzhanu_walker b) {
@@ -213,10 +215,9 @@ static void check_mesh(const borzhanu_mesh *mesh) {
     for (uint32_t number = 0; number <= vertices || number <= borders; number++) {
         CHECK(vertex_is_border, number);
         check_lists(mesh, number, number % 12);
+        check_holes(mesh, number % 17);
         check_walkers(mesh, number);
     }
-    for (size_t room = 0; room <= 16; room++)
-        check_holes(mesh, room, 1000 - 50 * (room % 4));
 }
 
 /* Looking fills in the columns where it answers, and returns what borzhanu_columns does. */

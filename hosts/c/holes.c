@@ -75,12 +75,6 @@ static void known_openings(struct dice *dice) {
 
 /* ---- damaged tables ---- */
 
-static void swap(uint32_t *a, uint32_t *b) {
-    uint32_t kept = *a;
-    *a = *b;
-    *b = kept;
-}
-
 static uint32_t one_of(const uint32_t *numbers, size_t count, struct dice *dice) {
     return numbers[below(dice, (uint32_t)count)];
 }
@@ -179,16 +173,15 @@ static void shorten(struct mesh *t, struct dice *dice) {
     t->b2e.len = by < t->b2e.len ? t->b2e.len - by : 0;
 }
 
-/* The first three keep every rim closed. */
-static void (*const damages[])(struct mesh *t, struct dice *dice) = {
-    exchange_next, exchange_sides, add_lone,      run_into_rim, run_nowhere,
-    change_side,   change_corner,  lengthen,      shorten,
-};
-
+/* Half of the times by the first three alone, after which every rim still comes round. */
 static void damage_rims(struct mesh *t, struct dice *dice) {
-    size_t kinds = below(dice, 2) == 0 ? 3 : COUNT(damages);
+    static void (*const damages[])(struct mesh *t, struct dice *dice) = {
+        exchange_next, exchange_sides, add_lone, run_into_rim, run_nowhere,
+        change_side,   change_corner,  lengthen, shorten,
+    };
+    uint32_t kinds = below(dice, 2) == 0 ? 3 : COUNT(damages);
     for (uint32_t times = 1 + below(dice, 4); times > 0; times--)
-        damages[below(dice, (uint32_t)kinds)](t, dice);
+        damages[below(dice, kinds)](t, dice);
 }
 
 static struct list any_rims(struct dice *dice, uint32_t size) {
@@ -212,7 +205,8 @@ static uint32_t try_any(struct dice *dice, uint32_t size) {
         drop_list(&list);
         return try_any(dice, size);
     }
-    ask_holes(&t);
+    if (ask_holes(&t).refusal != 0)
+        fail("refused, though the tables were built");
     damage_rims(&t, dice);
     if (below(dice, 2) == 0)
         t.columns = columns_of(t.elements);
@@ -265,7 +259,7 @@ static uint32_t end_of(const struct mesh *t, uint32_t b) {
     return t->elements.at[4 * (borzhanu_element_of(side) - 1) + borzhanu_number_of(side) - 1];
 }
 
-/* Of the tables that a list has; what is asked of them is told the columns. */
+/* The tables that a list has; what is asked of them is told the columns. */
 static struct mesh tables_of(struct list list) {
     struct slice rows = {list.rows, 4 * list.m};
     struct mesh t;
@@ -324,12 +318,6 @@ static struct mesh crowded(void) {
     for (uint32_t p = 0; p < rows.len; p++)
         t.b2e.at[p] = borzhanu_side(p / 4 + 1, p % 4 + 1);
     return parted(t);
-}
-
-static struct list shuffled(struct list list, struct dice *dice) {
-    renumber_vertices(&list, dice);
-    shuffle_rows(&list, dice);
-    return list;
 }
 
 void time_of_holes(struct dice *dice) {

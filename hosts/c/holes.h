@@ -4,7 +4,7 @@
 
 #include "meshes.h"
 
-/* Housings whose openings are known; then any housings, disguised, their tables damaged so that rims join or come apart,
+/* Housings whose openings are known; then any housings, disguised, and their tables damaged: rims join or come apart,
    run into each other, or come to an entry that names nothing. */
 void openings_of_housings(struct dice *dice);
 

@@ -64,10 +64,9 @@ static void join(uint32_t *lower, uint32_t b, uint32_t c) {
 }
 
 int loops_by_sets(const uint32_t *next, size_t k, uint32_t *loop) {
-    uint32_t count = 0, *lower;
     if (!is_one_to_one(next, k))
         return 0;
-    lower = room_for(k, sizeof *lower);
+    uint32_t count = 0, *lower = room_for(k, sizeof *lower);
     for (uint32_t b = 1; b <= k; b++)
         lower[b - 1] = b;
     for (uint32_t b = 1; b <= k; b++)

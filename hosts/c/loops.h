@@ -1,4 +1,5 @@
-/* The loops of a map that sends each of the numbers 1 to k to one of them, or to 0, which is none; found in two ways. */
+/* The loops of a map that sends each of the numbers 1 to k to one of them, or to 0, which is none: found in two
+   ways. */
 #ifndef LOOPS_H
 #define LOOPS_H
 

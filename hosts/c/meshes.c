@@ -17,6 +17,12 @@ uint32_t below(struct dice *dice, uint32_t bound) {
     return bound == 0 ? 0 : any_number(dice) % bound;
 }
 
+void swap(uint32_t *a, uint32_t *b) {
+    uint32_t kept = *a;
+    *a = *b;
+    *b = kept;
+}
+
 struct list empty_list(uint32_t n, size_t room) {
     return (struct list){n, 0, room, room_for(4 * room, sizeof(uint32_t))};
 }
@@ -181,12 +187,6 @@ struct list any_housing(struct dice *dice, uint32_t size) {
     return list;
 }
 
-static void swap(uint32_t *a, uint32_t *b) {
-    uint32_t kept = *a;
-    *a = *b;
-    *b = kept;
-}
-
 void renumber_vertices(struct list *list, struct dice *dice) {
     uint32_t *number = room_for(list->n, sizeof *number);
     for (uint32_t v = 0; v < list->n; v++)
@@ -242,6 +242,13 @@ void disguise(struct list *list, struct dice *dice) {
         rotate_rows(list, dice);
     if (below(dice, 4) == 0)
         turn_over(list);
+}
+
+struct list shuffled(struct list list, struct dice *dice) {
+    renumber_vertices(&list, dice);
+    shuffle_rows(&list, dice);
+    rotate_rows(&list, dice);
+    return list;
 }
 
 void take_row_out(struct list *list, size_t f) {

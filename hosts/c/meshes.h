@@ -14,6 +14,8 @@ uint32_t any_number(struct dice *dice);
 /* 0 to bound - 1 */
 uint32_t below(struct dice *dice, uint32_t bound);
 
+void swap(uint32_t *a, uint32_t *b);
+
 struct list {
     uint32_t n;
     size_t m, room;
@@ -55,6 +57,8 @@ void rotate_rows(struct list *list, struct dice *dice);
 void turn_over(struct list *list);
 /* Some of these, chosen at random. */
 void disguise(struct list *list, struct dice *dice);
+/* All of these, but not turned over. */
+struct list shuffled(struct list list, struct dice *dice);
 
 /* 3 or 4 */
 uint32_t corners_of(const uint32_t *row);

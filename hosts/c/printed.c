@@ -117,17 +117,11 @@ static void check_refused(const char *name, struct call call, uint32_t refusal) 
         fail_case(name, call.exported->name);
 }
 
-static void exchange(uint32_t *a, uint32_t *b) {
-    uint32_t kept = *a;
-    *a = *b;
-    *b = kept;
-}
-
 static void check_hole_case(const struct hole_case *c, const struct mesh *t) {
     struct mesh exchanged = copied_tables(t);
     struct slice results[ROLES];
     if (c->exchanged[0] != 0)
-        exchange(&exchanged.v2e.at[c->exchanged[0] - 1], &exchanged.v2e.at[c->exchanged[1] - 1]);
+        swap(&exchanged.v2e.at[c->exchanged[0] - 1], &exchanged.v2e.at[c->exchanged[1] - 1]);
     struct call call = holes_of(&exchanged);
     if (t->b2e.len != 0 && c->count == 0) {
         check_refused(c->build_case, call, 12);
@@ -135,7 +129,8 @@ static void check_hole_case(const struct hole_case *c, const struct mesh *t) {
         if (!answers(compare(&call, results), c->count))
             fail_case(c->build_case, "the number of holes");
         check_printed(c->build_case, "the hole of each border", c->hole, results[HOLE]);
-        check_printed(c->build_case, "the length of each hole", c->lengths, (struct slice){results[LENGTHS].at, c->count});
+        results[LENGTHS].len = c->count;
+        check_printed(c->build_case, "the length of each hole", c->lengths, results[LENGTHS]);
     }
     ask_holes(&exchanged);
     drop_tables(&exchanged);

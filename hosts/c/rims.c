@@ -6,27 +6,21 @@
 
 #include <stdlib.h>
 
-/* Returns how many are in the hole of each number; `hole` has k entries, each at most `holes`. */
-static uint32_t *counted(struct slice hole, size_t k, uint32_t holes) {
+/* Each border half-edge has one of the holes, and each hole as many of them as its length says. */
+static void check_lengths(struct slice hole, size_t k, struct slice lengths, uint32_t holes) {
     uint32_t *count = room_for(holes, sizeof *count);
     for (size_t i = 0; i < k; i++) {
         if (hole.at[i] < 1 || hole.at[i] > holes)
             fail("a border half-edge has a hole that isn't there");
         count[hole.at[i] - 1]++;
     }
-    return count;
-}
-
-/* The lengths are the counts, and so add up to k. */
-static void check_lengths(struct slice hole, size_t k, struct slice lengths, uint32_t holes) {
-    uint32_t *count = counted(hole, k, holes);
     for (uint32_t h = 0; h < holes; h++)
         if (lengths.at[h] != count[h])
             fail("a hole's length isn't how many border half-edges have it");
     free(count);
 }
 
-/* The loop lists as many as have the hole of b, each of them with that hole and once: `met` is b where it has come. */
+/* The loop lists as many as have the hole of b, each of them with that hole and once: `met` is b where one has come. */
 static void check_loop(const borzhanu_mesh *mesh, uint32_t b, struct slice hole, uint32_t length, uint32_t *loop,
                        uint32_t *met) {
     uint64_t returned = borzhanu_mesh_border_loop(mesh, b, loop, mesh->b2e_len);
@@ -45,9 +39,10 @@ static void check_loop(const borzhanu_mesh *mesh, uint32_t b, struct slice hole,
 void check_rims(const struct mesh *t, uint32_t holes, struct slice hole, struct slice lengths) {
     enum { FEW = 40 };
     size_t k = t->b2e.len;
-    const borzhanu_mesh mesh = {t->n,      t->columns == 0 ? columns_of(t->elements) : t->columns,
-                                t->elements.at, t->elements.len, t->v2e.at, t->v2e.len,
-                                t->e2e.at, t->e2e.len, t->b2e.at, k};
+    const borzhanu_mesh mesh = {.n = t->n, .columns = t->columns == 0 ? columns_of(t->elements) : t->columns,
+                                .elements = t->elements.at, .elements_len = t->elements.len, .v2e = t->v2e.at,
+                                .v2e_len = t->v2e.len, .e2e = t->e2e.at, .e2e_len = t->e2e.len, .b2e = t->b2e.at,
+                                .b2e_len = k};
     uint32_t *loop = room_for(k, sizeof *loop), *met = room_for(k, sizeof *met), last = 0;
     check_lengths(hole, k, lengths, holes);
     for (uint32_t b = 1; b <= k; b++) {

@@ -192,13 +192,6 @@ static struct list mirrored(struct list list) {
     return list;
 }
 
-static struct list shuffled(struct list list, struct dice *dice) {
-    renumber_vertices(&list, dice);
-    shuffle_rows(&list, dice);
-    rotate_rows(&list, dice);
-    return list;
-}
-
 void time_of_siblings(struct dice *dice) {
     static const uint32_t triangle[] = {1, 2, 3, 0}, quadrilateral[] = {1, MOST / 3, MOST / 2, MOST};
     check_large(alike());

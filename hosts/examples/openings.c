@@ -1,5 +1,5 @@
-/* Checks the openings of a duct by their rims: a duct of square section, open at its inlet and at a branch, and closed at
-   its end by plate 15. Its walls unrolled, so that the right edge is the left one again:
+/* Checks the openings of a duct by their rims. The duct is of square section, open at its inlet and at a branch, and
+   closed at its end by plate 15. Its walls unrolled, so that the right edge is the left one again:
 
        17 -- 18 -- 19 -- 20 -- 17
         | 11  | 12  | 13  | 14  |
@@ -85,6 +85,7 @@ static int check(const char *model, uint32_t m, uint32_t left_out) {
     uint64_t built = borzhanu_build(N, rows, len, v2e, N, e2e, len, b2e, N, work, N + 16 * M);
     if (refused(built))
         return 0;
+    /* No plate is a triangle, so E2e is in four columns, as long as the list. */
     const borzhanu_mesh mesh = {.n = N, .columns = 4, .elements = rows, .elements_len = len, .v2e = v2e, .v2e_len = N,
                                 .e2e = e2e, .e2e_len = len, .b2e = b2e, .b2e_len = borzhanu_first(built)};
     /* Both outputs need k entries, which are at most N, as in B2e. */
