@@ -46,6 +46,23 @@
 //! # Ok::<(), borzhanu::Refusal>(())
 //! ```
 //!
+//! Duct openings are checked by their rims. [`Holes`] has the hole of each border half-edge, and each hole's length:
+//!
+//! ```
+//! use borzhanu::{HalfEdge, Tables};
+//!
+//! // A duct of three plates: an opening at either end.
+//! let tables = Tables::build(6, &[[1, 2, 5, 4], [2, 3, 6, 5], [3, 1, 4, 6]])?;
+//! let holes = tables.holes();
+//! assert_eq!(holes.lengths(), [3, 3]);
+//!
+//! // The vertices along the rim of the second opening.
+//! let rim = tables.border_loop(holes.first(2)?)?;
+//! let vertices: Result<Vec<u32>, _> = rim.iter().map(|&b| tables.origin(HalfEdge::border(b))).collect();
+//! assert_eq!(vertices?, [4, 5, 6]);
+//! # Ok::<(), borzhanu::Refusal>(())
+//! ```
+//!
 //! Where a rib stands on a panel, three plates meet at an edge. Such a list has no E2e, and [`Tables`] refuses it.
 //! [`Siblings`] takes it, and leads from each side to the next one that joins the same two vertices:
 //!
@@ -117,12 +134,14 @@
 
 mod exports;
 mod half_edge;
+mod holes;
 mod mesh;
 mod refusal;
 mod siblings;
 mod tables;
 
 pub use half_edge::HalfEdge;
+pub use holes::{Hole, Holes};
 pub use mesh::{Mesh, VertexKind, Walker, WalkerRecord};
 pub use refusal::Refusal;
 pub use siblings::{Plates, Siblings, Sides};
@@ -145,7 +164,8 @@ pub const fn border(b: u32) -> u32 {
     8 * b
 }
 
-/// The least length of the work buffer of [`build`], [`recover`] and [`siblings()`] for n vertices and m elements.
+/// The least length of the work buffer of [`build`], [`recover`], [`siblings()`] and [`Mesh::holes`] for n vertices and m
+/// elements.
 pub const fn work_length(n: u32, m: usize) -> usize {
     n as usize + 16 * m
 }

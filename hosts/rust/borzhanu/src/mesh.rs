@@ -46,7 +46,8 @@ impl<'a> Mesh<'a> {
     ///
     /// # Errors
     ///
-    /// Refusals 1 and 2 for unfit slices. What they hold isn't judged, and no query of the mesh gives 1 or 2.
+    /// Refusals 1 and 2 for unfit slices. What they hold isn't judged, and no query of the mesh gives 1 or 2, but
+    /// [`Mesh::holes`] gives 2 for the work buffer that it is lent.
     pub fn new(
         n: u32,
         elements: &'a [u32],
@@ -215,6 +216,39 @@ impl<'a> Mesh<'a> {
     /// too short.
     pub fn border_loop(&self, b: u32, out: &mut [u32]) -> Result<usize, Refusal> {
         first_number(ask!(borzhanu_border_loop, self, b, out.as_mut_ptr(), out.len())).map(|count| count as usize)
+    }
+
+    /// The hole of each border half-edge, written to the first k entries of `hole`, and the length of each hole, from the
+    /// start of `lengths`; and the number of holes. Two border half-edges have one hole where the loop of one lists the
+    /// other, and holes are numbered from 1 by their least border half-edges. [`Holes::of`](crate::Holes::of) lends the
+    /// buffers itself.
+    ///
+    /// `hole` and `lengths` have at least k entries each, also where there are fewer holes, and `work` has at least
+    /// [`work_length`](crate::work_length). What they hold before doesn't matter. The rest of `hole` and of `lengths` is
+    /// as it was; after a refusal all of both is. `work` is all zero, unless it was too short.
+    ///
+    /// # Errors
+    ///
+    /// Refusal 2 for a work buffer that is too short, 12 where any border loop meets a broken table entry or doesn't come
+    /// back, 13 for an output that is too short.
+    ///
+    /// ```
+    /// use borzhanu::{work_length, Mesh};
+    ///
+    /// // Two triangles apart.
+    /// let elements = [1, 2, 3, 0, 4, 5, 6, 0];
+    /// let (v2e, e2e, b2e) = ([24, 8, 16, 48, 32, 40], [8, 16, 24, 32, 40, 48], [9, 10, 11, 17, 18, 19]);
+    /// let mesh = Mesh::new(6, &elements, &v2e, &e2e, &b2e)?;
+    /// let (mut hole, mut lengths, mut work) = ([0; 6], [0; 6], vec![0; work_length(6, 2)]);
+    /// assert_eq!(mesh.holes(&mut hole, &mut lengths, &mut work)?, 2);
+    /// assert_eq!((hole, &lengths[..2]), ([1, 1, 1, 2, 2, 2], &[3, 3][..]));
+    /// # Ok::<(), borzhanu::Refusal>(())
+    /// ```
+    pub fn holes(&self, hole: &mut [u32], lengths: &mut [u32], work: &mut [u32]) -> Result<usize, Refusal> {
+        let (hole_len, lengths_len, work_len) = (hole.len(), lengths.len(), work.len());
+        let (hole, lengths, work) = (hole.as_mut_ptr(), lengths.as_mut_ptr(), work.as_mut_ptr());
+        first_number(ask!(borzhanu_holes, self, hole, hole_len, lengths, lengths_len, work, work_len))
+            .map(|count| count as usize)
     }
 
     /// [`Mesh::ring`] as a vector.

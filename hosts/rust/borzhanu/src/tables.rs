@@ -1,6 +1,6 @@
 //! An element list with its tables, owned.
 
-use crate::{build, columns, work_length, Counts, HalfEdge, Mesh, Refusal, VertexKind, Walker};
+use crate::{build, columns, work_length, Counts, HalfEdge, Holes, Mesh, Refusal, VertexKind, Walker};
 
 /// An element list and the tables that were built of it. Whatever is asked of them, the only refusal is
 /// [`Refusal::NotThere`].
@@ -164,6 +164,12 @@ impl Tables {
     /// [`Refusal::NotThere`] where the mesh has no border half-edge b.
     pub fn border_loop(&self, b: u32) -> Result<Vec<u32>, Refusal> {
         self.mesh().border_loop_of(b)
+    }
+
+    /// The holes: which one each border half-edge is on, and how long each is. There is nothing to refuse here, since
+    /// every border loop of built tables comes back.
+    pub fn holes(&self) -> Holes {
+        Holes::of(&self.mesh()).expect("every border loop of built tables comes back")
     }
 
     /// Walks about a vertex, element by element, with no list to fill. About an unused vertex the walk is over at once.

@@ -38,6 +38,14 @@ queries! {
     borzhanu_ring(v: u32, out: *mut u32, out_len: usize);
     borzhanu_neighbours(v: u32, out: *mut u32, out_len: usize);
     borzhanu_border_loop(b: u32, out: *mut u32, out_len: usize);
+    borzhanu_holes(
+        hole: *mut u32,
+        hole_len: usize,
+        lengths: *mut u32,
+        lengths_len: usize,
+        work: *mut u32,
+        work_len: usize
+    );
     borzhanu_walker_start(v: u32, walker: *mut u32);
     borzhanu_walker_step(walker: *mut u32);
 }
