@@ -28,7 +28,7 @@ impl Dice {
         self.below(times) == 0
     }
 
-    fn index<T>(&mut self, of: &[T]) -> usize {
+    pub fn index<T>(&mut self, of: &[T]) -> usize {
         self.below(of.len() as u32) as usize
     }
 }
@@ -143,6 +143,18 @@ impl List {
         list.closed_up()
     }
 
+    /// About one element in so many is missing, and no two of these have a corner in common.
+    pub fn with_openings(mut self, rarity: u32, dice: &mut Dice) -> List {
+        let mut is_open = vec![false; self.n as usize + 1];
+        self.rows.retain(|row| {
+            let corners = &row[..corners_of(row)];
+            let stays = corners.iter().any(|&v| is_open[v as usize]) || !dice.once_in(rarity);
+            corners.iter().for_each(|&v| is_open[v as usize] |= !stays);
+            stays
+        });
+        self
+    }
+
     /// Vertices without an element go, and the others close up.
     fn closed_up(mut self) -> List {
         let mut used: Vec<u32> = self.entries().iter().copied().filter(|&v| v != 0).collect();
@@ -188,7 +200,7 @@ impl List {
     }
 }
 
-fn shuffle<T>(of: &mut [T], dice: &mut Dice) {
+pub fn shuffle<T>(of: &mut [T], dice: &mut Dice) {
     for last in (1..of.len()).rev() {
         of.swap(last, dice.below(last as u32 + 1) as usize);
     }

@@ -3,6 +3,7 @@
 use borzhanu::{Mesh, Refusal, VertexKind, WalkerRecord, MAX_ELEMENTS, MAX_VERTICES};
 use hosts::guarded::{Guarded, Placement};
 use hosts::raw::{borzhanu_siblings, taken_apart};
+use hosts::reference::holes::{self, Holes};
 use hosts::reference::siblings::{self, Siblings};
 use hosts::reference::{self, Built, Lengths, Refused, View};
 use hosts::told;
@@ -29,7 +30,10 @@ pub struct Call<'a> {
     pub e2e: &'a [u32],
     pub b2e: &'a [u32],
     pub work: &'a [u32],
+    /// A list, or the hole of each border half-edge.
     pub out: &'a [u32],
+    /// The lengths of the holes.
+    pub lengths: &'a [u32],
 }
 
 /// A call and its own numbers.
@@ -44,6 +48,8 @@ pub enum Question {
     /// straight to the archive
     RawSiblings,
     Query(Way, Query),
+    /// asked as a query is
+    Holes(Way),
 }
 
 /// A query goes through the wrapper, or straight to the archive, told so many columns.
@@ -51,6 +57,16 @@ pub enum Question {
 pub enum Way {
     Wrapper,
     Told(u32),
+}
+
+impl Way {
+    /// The columns told. The wrapper's answer is that of the rule, which looks at the list.
+    fn told(self) -> u32 {
+        match self {
+            Way::Wrapper => 0,
+            Way::Told(columns) => columns,
+        }
+    }
 }
 
 /// A query and its own numbers.
@@ -87,6 +103,7 @@ pub struct Left {
     pub e2e: Option<Vec<u32>>,
     pub b2e: Option<Vec<u32>>,
     pub out: Option<Vec<u32>>,
+    pub lengths: Option<Vec<u32>>,
     pub record: Option<WalkerRecord>,
     pub work_cleared: bool,
 }
@@ -120,8 +137,8 @@ pub fn fail(what: &str) -> ! {
         situation.family, situation.seed, situation.calls, situation.placement
     );
     println!("  n {}", call.n);
-    let buffers = [call.elements, call.v2e, call.e2e, call.b2e, call.work, call.out];
-    for (name, buffer) in ["elements", "v2e", "e2e", "b2e", "work", "out"].iter().zip(buffers) {
+    let buffers = [call.elements, call.v2e, call.e2e, call.b2e, call.work, call.out, call.lengths];
+    for (name, buffer) in ["elements", "v2e", "e2e", "b2e", "work", "out", "lengths"].iter().zip(buffers) {
         println!("  {name}, {}", shown(buffer));
     }
     process::exit(1)
@@ -221,15 +238,32 @@ impl Call<'_> {
         }
     }
 
+    /// Checks 1 and 2, then 12, then 13.
+    fn expected_holes(&self, told: u32) -> Outcome {
+        let mesh = match holes::check(&self.view(told), self.work.len()) {
+            Ok(mesh) => mesh,
+            Err(refused) => return refuses(refused),
+        };
+        let (k, room) = (self.b2e.len(), self.out.len().min(self.lengths.len()));
+        let (answer, left) = match holes::holes(&mesh) {
+            Ok(_) if k > room => (Err((13, k as u32, 0)), Left::default()),
+            Ok(Holes { hole, lengths }) => {
+                let count = lengths.len() as u32;
+                (Ok((count, 0)), Left { out: Some(hole), lengths: Some(lengths), ..Left::default() })
+            }
+            Err(refused) => (Err(refused), Left::default()),
+        };
+        Outcome { answer, left: Left { work_cleared: true, ..left } }
+    }
+
     pub fn expected(&self) -> Outcome {
         match self.what {
             Question::Build => self.expected_build(),
             Question::Recover(m) => self.expected_recovery(m),
             Question::Columns => one_number(reference::columns(self.n, self.elements)),
             Question::Siblings | Question::RawSiblings => self.expected_siblings(),
-            // The wrapper's answer is that of the rule, which looks at the list.
-            Question::Query(Way::Wrapper, query) => self.expected_query(0, query),
-            Question::Query(Way::Told(columns), query) => self.expected_query(columns, query),
+            Question::Query(way, query) => self.expected_query(way.told(), query),
+            Question::Holes(way) => self.expected_holes(way.told()),
         }
     }
 }
@@ -268,6 +302,7 @@ pub struct Memory {
     b2e: Guarded,
     work: Guarded,
     out: Guarded,
+    lengths: Guarded,
     record: Guarded,
 }
 
@@ -279,6 +314,7 @@ pub struct Held<'a> {
     b2e: &'a mut [u32],
     work: &'a mut [u32],
     out: &'a mut [u32],
+    lengths: &'a mut [u32],
     record: &'a mut [u32],
 }
 
@@ -292,6 +328,7 @@ impl Memory {
             b2e: Guarded::new(4 * m),
             work: Guarded::new(n + 16 * m),
             out: Guarded::new(4 * m),
+            lengths: Guarded::new(4 * m),
             record: Guarded::new(3),
         }
     }
@@ -308,6 +345,7 @@ impl Memory {
             b2e: self.b2e.hold(call.b2e, placement),
             work: self.work.hold(call.work, placement),
             out: self.out.hold(call.out, placement),
+            lengths: self.lengths.hold(call.lengths, placement),
             record: self.record.hold(&[record.start, record.next, record.count], placement),
         }
     }
@@ -334,6 +372,8 @@ impl Held<'_> {
             Question::RawSiblings => taken_apart(self.ask_raw_siblings(call.n)),
             Question::Query(Way::Wrapper, query) => self.ask_wrapper(call, query).map_err(refused),
             Question::Query(Way::Told(columns), query) => taken_apart(self.ask_told(call, columns, query)),
+            Question::Holes(Way::Wrapper) => self.ask_wrapper_holes(call).map_err(refused),
+            Question::Holes(Way::Told(columns)) => taken_apart(self.ask_told_holes(call, columns)),
         }
     }
 
@@ -356,10 +396,7 @@ impl Held<'_> {
 
     /// A query of a mesh that is put together for it.
     fn ask_wrapper(&mut self, call: &Call, query: Query) -> Result<(u32, u32), Refusal> {
-        let mesh = Mesh::new(call.n, self.elements, self.v2e, self.e2e, self.b2e)?;
-        if mesh.columns() != reference::columns_of(call.elements) {
-            fail(&format!("the mesh has {} columns", mesh.columns()));
-        }
+        let mesh = mesh_for(call, [self.elements, self.v2e, self.e2e, self.b2e])?;
         let answer = ask_mesh(&mesh, query, self.out, self.record);
         if let Err(Refusal::Sizes | Refusal::Lengths) = answer {
             fail("the mesh was made, and then a query refused its lengths");
@@ -388,12 +425,26 @@ impl Held<'_> {
         }
     }
 
+    fn ask_wrapper_holes(&mut self, call: &Call) -> Result<(u32, u32), Refusal> {
+        let mesh = mesh_for(call, [self.elements, self.v2e, self.e2e, self.b2e])?;
+        mesh.holes(self.out, self.lengths, self.work).map(|count| (count as u32, 0))
+    }
+
+    fn ask_told_holes(&mut self, call: &Call, told: u32) -> u64 {
+        let view = View { n: call.n, told, elements: self.elements, v2e: self.v2e, e2e: self.e2e, b2e: self.b2e };
+        let (hole, hole_len) = (self.out.as_mut_ptr(), self.out.len());
+        let (lengths, lengths_len) = (self.lengths.as_mut_ptr(), self.lengths.len());
+        let (work, work_len) = (self.work.as_mut_ptr(), self.work.len());
+        told!(borzhanu_holes, view, hole, hole_len, lengths, lengths_len, work, work_len)
+    }
+
     pub fn check(&self, call: &Call, want: &Left) {
         check_buffer("elements", self.elements, call.elements, &want.elements);
         check_buffer("v2e", self.v2e, call.v2e, &want.v2e);
         check_buffer("e2e", self.e2e, call.e2e, &want.e2e);
         check_buffer("b2e", self.b2e, call.b2e, &want.b2e);
         check_buffer("out", self.out, call.out, &want.out);
+        check_buffer("lengths", self.lengths, call.lengths, &want.lengths);
         if !want.work_cleared {
             check_buffer("work", self.work, call.work, &None);
         } else if self.work.iter().any(|&entry| entry != 0) {
@@ -403,6 +454,15 @@ impl Held<'_> {
         let record = want.record.unwrap_or(before);
         check_buffer("record", self.record, &[record.start, record.next, record.count], &None);
     }
+}
+
+/// A mesh that is put together for a call.
+fn mesh_for<'a>(call: &Call, [elements, v2e, e2e, b2e]: [&'a [u32]; 4]) -> Result<Mesh<'a>, Refusal> {
+    let mesh = Mesh::new(call.n, elements, v2e, e2e, b2e)?;
+    if mesh.columns() != reference::columns_of(call.elements) {
+        fail(&format!("the mesh has {} columns", mesh.columns()));
+    }
+    Ok(mesh)
 }
 
 fn ask_mesh(mesh: &Mesh, query: Query, out: &mut [u32], record: &mut [u32]) -> Result<(u32, u32), Refusal> {

@@ -1,6 +1,7 @@
 //! Tables to ask about, and what is asked of them and of lists.
 
 use crate::call::{fail, watch, Call, Left, Memory, Outcome, Query, Question, Situation, Way};
+use crate::holes::compare_holes;
 use crate::siblings::{compare_siblings, compare_with_built};
 use borzhanu::{work_length, WalkerRecord};
 use hosts::guarded::{Placement, PLACEMENTS};
@@ -10,6 +11,8 @@ use std::mem;
 use std::ptr;
 
 const SECONDS_PER_COMPARISON: u32 = 120;
+/// Of a million border half-edges too: the call is linear, and one that isn't takes longer.
+const SECONDS_FOR_HOLES: u32 = 10;
 pub const LARGE: usize = 10_000;
 
 extern "C" {
@@ -76,6 +79,7 @@ impl Tables {
             b2e: &self.b2e,
             work: &[],
             out,
+            lengths: &[],
         }
     }
 }
@@ -109,8 +113,9 @@ impl Host {
     /// Makes a call, both placements, to an outcome that is known.
     pub fn check(&mut self, call: &Call, want: &Outcome) {
         self.situation.call = (call as *const Call).cast();
+        let seconds = if let Question::Holes(_) = call.what { SECONDS_FOR_HOLES } else { SECONDS_PER_COMPARISON };
         // SAFETY: alarm only sets a timer.
-        unsafe { alarm(SECONDS_PER_COMPARISON) };
+        unsafe { alarm(seconds) };
         for placement in PLACEMENTS {
             self.situation.placement = placement;
             let mut held = self.memory.hold(call, placement);
@@ -126,7 +131,17 @@ impl Host {
 
     fn compare_columns(&mut self, list: &List) {
         let (n, elements) = (list.n, list.entries());
-        self.compare(&Call { what: Question::Columns, n, elements, v2e: &[], e2e: &[], b2e: &[], work: &[], out: &[] });
+        self.compare(&Call {
+            what: Question::Columns,
+            n,
+            elements,
+            v2e: &[],
+            e2e: &[],
+            b2e: &[],
+            work: &[],
+            out: &[],
+            lengths: &[],
+        });
     }
 
     fn compare_build(&mut self, list: &List, b2e_len: usize, work_extra: usize) -> Outcome {
@@ -147,6 +162,7 @@ impl Host {
             b2e: &noise[..b2e_len],
             work: &noise[..work_length(list.n, m) + work_extra],
             out: &[],
+            lengths: &[],
         };
         let want = known.unwrap_or_else(|| call.expected());
         self.check(&call, &want);
@@ -166,6 +182,7 @@ impl Host {
             b2e: &[],
             work: &noise[..work_length(n, m as usize) + work_extra],
             out: &[],
+            lengths: &[],
         });
         self.noise = noise;
         want
@@ -247,20 +264,21 @@ impl Host {
         self.ask_into(tables, query, &[])
     }
 
-    fn ask_into(&mut self, tables: &Tables, query: Query, out: &[u32]) -> Outcome {
-        if let Some(columns) = tables.told {
-            return self.compare(&tables.query(Way::Told(columns), query, out));
-        }
-        let want = tables.query(Way::Told(0), query, out).expected();
-        for way in self.ways(tables) {
+    pub fn ask_into(&mut self, tables: &Tables, query: Query, out: &[u32]) -> Outcome {
+        let ways = self.ways(tables);
+        let want = tables.query(ways[0], query, out).expected();
+        for way in ways {
             self.check(&tables.query(way, query, out), &want);
         }
         want
     }
 
-    /// Ways to ask that have the answer of a query told 0; for large tables one way. The wrapper tells the list's own
-    /// columns, so that this is rarely done without it.
-    fn ways(&mut self, tables: &Tables) -> Vec<Way> {
+    /// Ways to ask that have the same answer: told the columns of the tables; or else as a query told 0, and for large
+    /// tables one way. The wrapper tells the list's own columns, so that this is rarely done without it.
+    pub fn ways(&mut self, tables: &Tables) -> Vec<Way> {
+        if let Some(columns) = tables.told {
+            return vec![Way::Told(columns)];
+        }
         let ways = [Way::Wrapper, Way::Told(0), Way::Told(columns_of(&tables.elements))];
         if tables.n as usize + tables.elements.len() > LARGE {
             return vec![ways[self.dice.below(3) as usize]];
@@ -326,6 +344,7 @@ impl Host {
         for b in 0..=tables.b2e.len() as u32 + 1 {
             self.ask_list(tables, Query::BorderLoop(b));
         }
+        compare_holes(self, tables);
     }
 
     fn any_code(&mut self, tables: &Tables) -> u32 {
@@ -369,6 +388,7 @@ impl Host {
             self.ask_list(tables, Query::BorderLoop(b));
             self.ask_any_record(tables);
         }
+        compare_holes(self, tables);
     }
 
     fn ask_damaged(&mut self, tables: &Tables, times: u32) {
@@ -451,6 +471,7 @@ impl Host {
             self.ask(&changed, Query::Next(borzhanu::border(b)));
             self.ask_list(&changed, Query::BorderLoop(b));
         }
+        compare_holes(self, &changed);
         self.compare_recovery(changed.n, changed.elements_count(), &changed.v2e, &changed.e2e, 0);
     }
 

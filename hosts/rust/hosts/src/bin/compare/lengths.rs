@@ -34,6 +34,7 @@ fn any_questions(host: &mut Host, m: u32) -> Vec<Question> {
     let mut questions = vec![Question::Build, Question::Recover(count), Question::Columns];
     questions.extend([Question::Siblings, Question::RawSiblings]);
     questions.extend(QUERIES.map(|query| Question::Query(host.any_way(), query)));
+    questions.push(Question::Holes(host.any_way()));
     questions
 }
 
@@ -62,7 +63,8 @@ pub fn lengths(host: &mut Host) {
                     lens[a] = lens[a].saturating_add_signed(first);
                     lens[b] = lens[b].saturating_add_signed(second);
                     let [v2e, e2e, b2e, work] = [lens[1], lens[2], lens[3], lens[4]].map(|len| &small[..len]);
-                    host.compare(&Call { what, n, elements: &rows[..lens[0]], v2e, e2e, b2e, work, out: &small[..9] });
+                    let (elements, out, lengths) = (&rows[..lens[0]], &small[..9], &small[9..18]);
+                    host.compare(&Call { what, n, elements, v2e, e2e, b2e, work, out, lengths });
                 }
             }
         }
@@ -81,7 +83,7 @@ pub fn lengths_about(host: &mut Host, list: &List) {
         buffers[at].resize(fit[at].len().saturating_add_signed(change), 7);
         let [elements, v2e, e2e, b2e, work] = &buffers;
         for what in [Question::Build, Question::Recover(m as u32), Question::Siblings] {
-            host.compare(&Call { what, n, elements, v2e, e2e, b2e, work, out: &[] });
+            host.compare(&Call { what, n, elements, v2e, e2e, b2e, work, out: &[], lengths: &[] });
         }
     }
 }
@@ -101,9 +103,10 @@ fn compare_sizes(host: &mut Host, elements: &[u32], sizes: Sizes) {
     let Sizes { n, rows, m, e2e_len } = sizes;
     let noise = mem::take(&mut host.noise);
     let ring = Question::Query(host.any_way(), Query::Ring(1));
-    for what in [Question::Build, Question::Recover(m), Question::Columns, Question::Siblings, ring] {
+    let holes = Question::Holes(host.any_way());
+    for what in [Question::Build, Question::Recover(m), Question::Columns, Question::Siblings, ring, holes] {
         let work_len = match what {
-            Question::Build | Question::Siblings if n <= MAX_VERTICES && rows <= MAX_ELEMENTS => {
+            Question::Build | Question::Siblings | Question::Holes(_) if n <= MAX_VERTICES && rows <= MAX_ELEMENTS => {
                 work_length(n, rows as usize)
             }
             Question::Recover(m) if n <= MAX_VERTICES && m <= MAX_ELEMENTS => work_length(n, m as usize),
@@ -118,6 +121,7 @@ fn compare_sizes(host: &mut Host, elements: &[u32], sizes: Sizes) {
             b2e: &noise[..9],
             work: &noise[..work_len],
             out: &noise[..9],
+            lengths: &noise[9..18],
         });
     }
     host.noise = noise;

@@ -7,6 +7,7 @@
 
 mod call;
 mod clashes;
+mod holes;
 mod host;
 mod lengths;
 mod siblings;
@@ -14,6 +15,7 @@ mod siblings;
 use borzhanu::{MAX_ELEMENTS, MAX_VERTICES};
 use call::Query;
 use clashes::{clashes, large_clashes};
+use holes::{compare_holes, holes, large_holes};
 use host::{Host, Tables};
 use hosts::meshes::{any_housing, book, damage, fan, pillow, sheet, Kinds, List};
 use lengths::{about_the_largest, lengths};
@@ -203,6 +205,7 @@ fn largest_fan(host: &mut Host) {
     host.ask(&tables, Query::Opposite(borzhanu::side(MAX_ELEMENTS - 1, 3)));
     host.ask_list(&tables, Query::Ring(1));
     host.ask_list(&tables, Query::BorderLoop(tables.b2e.len() as u32));
+    compare_holes(host, &tables);
     longest_b2e(host, &tables);
 }
 
@@ -227,6 +230,7 @@ fn largest(host: &mut Host) {
     host.build(&book(most, most));
     large_clashes(host);
     large_siblings(host);
+    large_holes(host);
     mostly_unused(host);
     about_the_largest(host);
 }
@@ -236,7 +240,7 @@ fn main() {
     let start = Instant::now();
     let mut host = Host::new(seed);
     println!("seed {seed}");
-    let families: [Family; 13] = [
+    let families: [Family; 14] = [
         ("lists of one row", one_row),
         ("lists of two rows", two_rows),
         ("unused vertices", unused_vertices),
@@ -246,6 +250,7 @@ fn main() {
         ("lengths", lengths),
         ("elements that clash", clashes),
         ("edges of many plates", siblings),
+        ("holes", holes),
         ("small housings", small_housings),
         ("housings", housings),
         ("large housings", large_housings),

@@ -60,6 +60,7 @@ pub fn compare_siblings(host: &mut Host, list: &List) -> Outcome {
         b2e: &[],
         work: &noise[..work_length(list.n, m) + work_extra],
         out: &[],
+        lengths: &[],
     });
     let want = calls[0].expected();
     for call in &calls[..if m > LARGE { 1 } else { 2 }] {
