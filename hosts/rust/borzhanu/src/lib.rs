@@ -164,8 +164,8 @@ pub const fn border(b: u32) -> u32 {
     8 * b
 }
 
-/// The least length of the work buffer of [`build`], [`recover`], [`siblings()`] and [`Mesh::holes`] for n vertices and m
-/// elements.
+/// The least length of the work buffer of [`build`], [`recover`], [`siblings()`] and [`Mesh::holes`] for n vertices
+/// and m elements.
 pub const fn work_length(n: u32, m: usize) -> usize {
     n as usize + 16 * m
 }

@@ -218,19 +218,18 @@ impl<'a> Mesh<'a> {
         first_number(ask!(borzhanu_border_loop, self, b, out.as_mut_ptr(), out.len())).map(|count| count as usize)
     }
 
-    /// The hole of each border half-edge, written to the first k entries of `hole`, and the length of each hole, from the
-    /// start of `lengths`; and the number of holes. Two border half-edges have one hole where the loop of one lists the
-    /// other, and holes are numbered from 1 by their least border half-edges. [`Holes::of`](crate::Holes::of) lends the
-    /// buffers itself.
+    /// The hole of each border half-edge, written to the first k entries of `hole`, and the length of each hole, from
+    /// the start of `lengths`; and the number of holes. Two border half-edges have one hole where the loop of one lists
+    /// the other, and holes are numbered from 1 by their least border half-edges. [`Holes`](crate::Holes) owns all this.
     ///
     /// `hole` and `lengths` have at least k entries each, also where there are fewer holes, and `work` has at least
-    /// [`work_length`](crate::work_length). What they hold before doesn't matter. The rest of `hole` and of `lengths` is
-    /// as it was; after a refusal all of both is. `work` is all zero, unless it was too short.
+    /// [`work_length`](crate::work_length). What they hold before doesn't matter. The rest of `hole` and of `lengths`
+    /// is as it was; after a refusal all of both is. `work` is then all zero, unless it is too short.
     ///
     /// # Errors
     ///
-    /// Refusal 2 for a work buffer that is too short, 12 where any border loop meets a broken table entry or doesn't come
-    /// back, 13 for an output that is too short.
+    /// Refusal 2 for a work buffer that is too short, 12 where any border loop meets a broken table entry or doesn't
+    /// come back, 13 for an output that is too short.
     ///
     /// ```
     /// use borzhanu::{work_length, Mesh};

@@ -1,5 +1,5 @@
-//! Holes, as the parts that next joins. Every border loop comes back exactly where no two border half-edges have the same
-//! one next, and then the loops are these parts.
+//! Holes, as the parts that next joins. Every border loop comes back exactly where no two border half-edges have the
+//! same one next, and then the loops are these parts.
 
 use super::{Mesh, Refused, View, BROKEN, UNFIT};
 use std::mem;

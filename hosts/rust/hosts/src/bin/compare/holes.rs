@@ -130,7 +130,7 @@ pub fn compare_holes(host: &mut Host, tables: &Tables) {
     compare_room(host, tables, room);
 }
 
-/// Elements apart, all with three corners or all with four: border half-edge b ends at vertex b, so that V2e can say for
+/// Elements apart, all with three corners or all with four. Border half-edge b ends at vertex b, so that V2e can say of
 /// each alone which one follows.
 fn chain(nexts: &[u32], corners: u32) -> Tables {
     let k = nexts.len() as u32;
