@@ -1,6 +1,6 @@
-//! Times building, recovery, rings and siblings, and hash maps beside them, and prints tables in Markdown.
+//! Times building, recovery, rings, siblings and holes, and hash maps beside them, and prints tables in Markdown.
 //!
-//!     bench [FOLDER]    with a folder, also writes the first table's lists of triangles there, for other programs
+//!     bench [FOLDER]    with a folder, also writes lists of triangles to FOLDER/build and FOLDER/holes, for bench_cpp
 //!
 //! Runs are interleaved and medians reported, so that a slow moment of the machine meets every candidate.
 //! All buffers are allocated and touched before the first run and used again in every run.
@@ -10,7 +10,7 @@ use hosts::meshes::{book, fan, sheet, Dice, Kinds, List};
 use hosts::raw::taken_apart;
 use hosts::reference::View;
 use hosts::told;
-use std::collections::HashMap;
+use std::collections::{HashMap, HashSet};
 use std::env;
 use std::fs;
 use std::hint::black_box;
@@ -90,6 +90,36 @@ fn hash_map_siblings(elements: &[u32], v2e: &mut [u32], siblings: &mut [u32]) {
     for (first, last) in edges.into_values() {
         siblings[last] = code(first);
     }
+}
+
+/// The holes by a hash map from the vertex where each border half-edge begins to its number, and a set of those that
+/// were walked, with no check of the tables. Gives the number of holes.
+fn hash_map_holes(elements: &[u32], b2e: &[u32], hole: &mut [u32], lengths: &mut [u32]) -> usize {
+    let leaving: HashMap<u32, u32> = (1..).zip(b2e).map(|(b, &side)| (ends(elements, side).1, b)).collect();
+    let mut walked = HashSet::with_capacity(b2e.len());
+    let mut count = 0;
+    for start in 1..=b2e.len() as u32 {
+        if walked.contains(&start) {
+            continue;
+        }
+        lengths[count] = 0;
+        let mut b = start;
+        while walked.insert(b) {
+            hole[b as usize - 1] = count as u32 + 1;
+            lengths[count] += 1;
+            b = leaving[&ends(elements, b2e[b as usize - 1]).0];
+        }
+        count += 1;
+    }
+    count
+}
+
+/// Origin and destination of a side.
+fn ends(elements: &[u32], side: u32) -> (u32, u32) {
+    let (f, i) = ((side / 8) as usize, (side % 8) as usize);
+    let row = &elements[4 * (f - 1)..4 * f];
+    let corners = if row[3] == 0 { 3 } else { 4 };
+    (row[i - 1], row[i % corners])
 }
 
 /// The code of the side whose corner is this entry of the element list.
@@ -433,6 +463,139 @@ fn print_siblings(dice: &mut Dice) {
     println!();
 }
 
+/// Triangles with no corner in common.
+fn apart(count: u32) -> List {
+    List { n: 3 * count, rows: (0..count).map(|f| [3 * f + 1, 3 * f + 2, 3 * f + 3, 0]).collect() }
+}
+
+/// A strip whose whole rim is one hole, of 2 × (width + 1) border half-edges.
+fn strip(width: u32, kinds: Kinds, dice: &mut Dice) -> List {
+    sheet(width, 1, (false, false), kinds, dice)
+}
+
+/// A thousand border half-edges and a million, in one rim and in rims of three; and a plate with few of them.
+fn lists_with_rims(dice: &mut Dice) -> Vec<(String, List)> {
+    let quadrilaterals = Kinds::Quadrilaterals;
+    let lists = [
+        ("strip of quadrilaterals", strip(499, quadrilaterals, dice)),
+        ("triangles apart", apart(333)),
+        ("strip of quadrilaterals", strip(499_999, quadrilaterals, dice)),
+        ("triangles apart", apart(333_333)),
+        ("plate of quadrilaterals", sheet(400, 250, (false, false), quadrilaterals, dice)),
+    ];
+    let mut in_either_order = |(name, list): (&str, List)| {
+        [(format!("{name}, in order"), list.clone()), (format!("{name}, shuffled"), shuffled(list, dice))]
+    };
+    lists.into_iter().flat_map(&mut in_either_order).collect()
+}
+
+/// What was found, and medians of the nanoseconds per border half-edge.
+struct HoleTimes {
+    k: usize,
+    count: usize,
+    kernel: f64,
+    clearing: f64,
+    hash_map: f64,
+}
+
+/// Holes by the kernel, its work buffer cleared once more, and holes by the hash map, runs interleaved. A run asks many
+/// times where there are few border half-edges.
+fn hole_times(list: &List) -> HoleTimes {
+    let mut bench = Bench::new(list);
+    let k = bench.build().expect("the list is accepted").0 as usize;
+    let (entries, b2e) = (list.entries(), &bench.b2e[..k]);
+    let mesh = Mesh::new(list.n, entries, &bench.v2e, &bench.e2e, b2e).expect("tables as built");
+    let [mut hole, mut lengths, mut other_hole, mut other_lengths] = [(); 4].map(|()| vec![1; k]);
+    let (mut kernel, mut clearing, mut hash_map) = (Vec::new(), Vec::new(), Vec::new());
+    let (passes, mut count) = (100_000_usize.div_ceil(k), 0);
+    for _ in 0..if passes > 1 { ROUNDS } else { LARGE_ROUNDS } {
+        timed(&mut kernel, || {
+            for _ in 0..passes {
+                count = mesh.holes(&mut hole, &mut lengths, &mut bench.work).expect("tables as built");
+            }
+        });
+        timed(&mut clearing, || (0..passes).for_each(|_| black_box(&mut bench.work).fill(0)));
+        timed(&mut hash_map, || {
+            (0..passes).for_each(|_| _ = black_box(hash_map_holes(entries, b2e, &mut other_hole, &mut other_lengths)))
+        });
+        assert!(hole == other_hole && lengths[..count] == other_lengths[..count]);
+    }
+    let per_border = |times: &[f64]| median(times) * 1e6 / (passes * k) as f64;
+    let [kernel, clearing, hash_map] = [kernel, clearing, hash_map].map(|times| per_border(&times));
+    HoleTimes { k, count, kernel, clearing, hash_map }
+}
+
+fn print_holes(dice: &mut Dice) {
+    println!("## Holes\n");
+    println!("Nanoseconds of processor time per border half-edge, medians of {ROUNDS} interleaved runs, or of");
+    println!(
+        "{LARGE_ROUNDS} with a million of them, on buffers that hold what the run before left. The kernel is told"
+    );
+    println!("the columns and needs nothing cleared; its time includes looking at every loop before it writes, and");
+    println!("clearing its work buffer, n + 16 × m entries, at the end. The next column is what filling that buffer");
+    println!("takes alone. The hash map leads from the vertex where a border half-edge begins to its number, beside a");
+    println!("set of those that were walked, and checks nothing. Strip and triangles are all rim. The plate, 400 by");
+    println!("250, has few border half-edges for its elements, and most of its time is clearing.\n");
+    println!("| mesh | elements | border half-edges | holes | time | work buffer filled | hash map | ratio |");
+    println!("|---|---|---|---|---|---|---|---|");
+    for (name, list) in lists_with_rims(dice) {
+        let HoleTimes { k, count, kernel, clearing, hash_map } = hole_times(&list);
+        let (m, ratio) = (list.rows.len(), kernel / hash_map);
+        println!("| {name} | {m} | {k} | {count} | {kernel:.1} | {clearing:.1} | {hash_map:.1} | {ratio:.2} |");
+    }
+    println!();
+}
+
+/// V2e as built, and with another entry where the first border half-edge ends or the last: 0, which is no border
+/// half-edge, or the one that follows the other of the two.
+fn entered(elements: &[u32], v2e: &[u32], b2e: &[u32]) -> Vec<(&'static str, Vec<u32>)> {
+    let [first, last] = [b2e[0], b2e[b2e.len() - 1]].map(|side| ends(elements, side).0 as usize - 1);
+    let with = |at: usize, entry: u32| {
+        let mut changed = v2e.to_vec();
+        changed[at] = entry;
+        changed
+    };
+    vec![
+        ("as built", v2e.to_vec()),
+        ("nothing follows the first", with(first, 0)),
+        ("nothing follows the last", with(last, 0)),
+        ("what follows the last follows the first too", with(first, v2e[last])),
+        ("what follows the first follows the last too", with(last, v2e[first])),
+    ]
+}
+
+/// For each of these V2e what holes answers, and the median of the nanoseconds per border half-edge, runs interleaved.
+fn entered_times(list: &List) -> Vec<(&'static str, String, f64)> {
+    let mut bench = Bench::new(list);
+    let k = bench.build().expect("the list is accepted").0 as usize;
+    let (entries, b2e) = (list.entries(), &bench.b2e[..k]);
+    let [mut hole, mut lengths] = [(); 2].map(|()| vec![1; k]);
+    let tables = entered(entries, &bench.v2e, b2e);
+    let mut times = vec![Vec::new(); tables.len()];
+    let mut outcomes = vec![String::new(); tables.len()];
+    for _ in 0..LARGE_ROUNDS {
+        for (((_, v2e), times), outcome) in tables.iter().zip(&mut times).zip(&mut outcomes) {
+            let mesh = Mesh::new(list.n, entries, v2e, &bench.e2e, b2e).expect("the lengths are fit");
+            let answer = timed(times, || mesh.holes(&mut hole, &mut lengths, &mut bench.work));
+            *outcome = answer.map_or_else(|refusal| format!("refused {}", refusal.number()), |count| count.to_string());
+        }
+    }
+    let per_border = times.iter().map(|times| median(times) * 1e6 / k as f64);
+    tables.iter().zip(outcomes).zip(per_border).map(|(((name, _), outcome), time)| (*name, outcome, time)).collect()
+}
+
+fn print_refused_holes(dice: &mut Dice) {
+    let list = strip(499_999, Kinds::Quadrilaterals, dice);
+    println!("The strip of {} quadrilaterals, in order, as built and with one V2e entry changed,", list.rows.len());
+    println!("{LARGE_ROUNDS} interleaved runs:\n");
+    println!("| border half-edges | holes | time |");
+    println!("|---|---|---|");
+    for (name, outcome, time) in entered_times(&list) {
+        println!("| {name} | {outcome} | {time:.1} |");
+    }
+    println!();
+}
+
 /// No element, and one, on n vertices.
 fn hardly_used(n: u32) -> [List; 2] {
     [List::new(n, &[]), List::new(n, &[[n, 1, n / 2, 0]])]
@@ -469,13 +632,32 @@ fn print_unused(dice: &mut Dice) {
     println!();
 }
 
+/// Lists of triangles: those of the first table, with two rims each, and a million border half-edges in one rim and in
+/// rims of three.
+fn write_lists(folder: &Path, triangles: &[(&str, List)], dice: &mut Dice) -> io::Result<()> {
+    let (strip, apart) = (strip(499_999, Kinds::Triangles, dice), apart(333_333));
+    let lists_for_holes = [
+        triangles[2].clone(),
+        triangles[3].clone(),
+        ("strip, in order", strip.clone()),
+        ("strip, shuffled", shuffled(strip, dice)),
+        ("triangles apart, in order", apart.clone()),
+        ("triangles apart, shuffled", shuffled(apart, dice)),
+    ];
+    for (call, lists) in [("build", triangles), ("holes", &lists_for_holes)] {
+        fs::create_dir_all(folder.join(call))?;
+        for (name, list) in lists {
+            write_list(list, &folder.join(call).join(format!("{name}.list")))?;
+        }
+    }
+    Ok(())
+}
+
 fn main() -> io::Result<()> {
     let mut dice = Dice::new(SEED);
     let triangles = triangles_100_000(&mut dice);
     if let Some(folder) = env::args().nth(1) {
-        for (name, list) in &triangles {
-            write_list(list, &Path::new(&folder).join(format!("{name}.list")))?;
-        }
+        write_lists(Path::new(&folder), &triangles, &mut Dice::new(SEED))?;
     }
     print_hundred_thousand(&[triangles, quadrilaterals_100_000(&mut dice)].concat());
     print_growth(&mut dice);
@@ -483,5 +665,7 @@ fn main() -> io::Result<()> {
     print_told(&mut dice);
     print_unused(&mut dice);
     print_siblings(&mut dice);
+    print_holes(&mut dice);
+    print_refused_holes(&mut dice);
     Ok(())
 }
