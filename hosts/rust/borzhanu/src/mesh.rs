@@ -220,11 +220,12 @@ impl<'a> Mesh<'a> {
 
     /// The hole of each border half-edge, written to the first k entries of `hole`, and the length of each hole, from
     /// the start of `lengths`; and the number of holes. Two border half-edges have one hole where the loop of one lists
-    /// the other, and holes are numbered from 1 by their least border half-edges. [`Holes`](crate::Holes) owns all this.
+    /// the other, and holes are numbered from 1 by their least border half-edges. [`Holes`](crate::Holes) has all this
+    /// without buffers to lend.
     ///
     /// `hole` and `lengths` have at least k entries each, also where there are fewer holes, and `work` has at least
     /// [`work_length`](crate::work_length). What they hold before doesn't matter. The rest of `hole` and of `lengths`
-    /// is as it was; after a refusal all of both is. `work` is then all zero, unless it is too short.
+    /// is as it was; after a refusal all of both is. `work` is all zero in the end, unless it is too short.
     ///
     /// # Errors
     ///
