@@ -298,9 +298,9 @@ fn loops(k: u32, length: u32) -> Vec<u32> {
     (1..=k).map(|b| if b % length == 1 % length { b + length - 1 } else { b - 1 }).collect()
 }
 
-/// Loops with these border half-edges followed by others.
-fn with_slips(mut nexts: Vec<u32>, slips: &[(u32, u32)]) -> Vec<u32> {
-    slips.iter().for_each(|&(b, next)| nexts[b as usize - 1] = next);
+/// The same, but b is followed by another one.
+fn slipped(mut nexts: Vec<u32>, b: u32, next: u32) -> Vec<u32> {
+    nexts[b as usize - 1] = next;
     nexts
 }
 
@@ -316,15 +316,15 @@ pub fn large_holes(host: &mut Host) {
     }
     for nexts in [
         // followed by nothing
-        with_slips(loops(k, 4), &[(1, 0)]),
-        with_slips(loops(k, 4), &[(k, 0)]),
-        with_slips(anyhow, &[(k, k + 1)]),
+        slipped(loops(k, 4), 1, 0),
+        slipped(loops(k, 4), k, 0),
+        slipped(anyhow, k, k + 1),
         // into another loop, and into their own middle
-        with_slips(loops(k, half), &[(k, 1)]),
-        with_slips(loops(k, half), &[(1, k)]),
-        with_slips(loops(k, k), &[(1, half)]),
-        with_slips(loops(k, k), &[(k, k)]),
-        with_slips(loops(k, 1), &[(k, k - 1)]),
+        slipped(loops(k, half), k, 1),
+        slipped(loops(k, half), 1, k),
+        slipped(loops(k, k), 1, half),
+        slipped(loops(k, k), k, k),
+        slipped(loops(k, 1), k, k - 1),
         // half of them into the other half, each at a place of its own; and all into one
         (1..=k).map(|b| if b > half { b - half } else { b }).collect(),
         vec![1; k as usize],
