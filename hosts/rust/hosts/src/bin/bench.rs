@@ -483,10 +483,10 @@ fn lists_with_rims(dice: &mut Dice) -> Vec<(String, List)> {
         ("triangles apart", apart(333_333)),
         ("plate of quadrilaterals", sheet(400, 250, (false, false), quadrilaterals, dice)),
     ];
-    let mut in_either_order = |(name, list): (&str, List)| {
+    let in_either_order = |(name, list): (&str, List)| {
         [(format!("{name}, in order"), list.clone()), (format!("{name}, shuffled"), shuffled(list, dice))]
     };
-    lists.into_iter().flat_map(&mut in_either_order).collect()
+    lists.into_iter().flat_map(in_either_order).collect()
 }
 
 /// What was found, and medians of the nanoseconds per border half-edge.
@@ -528,14 +528,13 @@ fn hole_times(list: &List) -> HoleTimes {
 fn print_holes(dice: &mut Dice) {
     println!("## Holes\n");
     println!("Nanoseconds of processor time per border half-edge, medians of {ROUNDS} interleaved runs, or of");
-    println!(
-        "{LARGE_ROUNDS} with a million of them, on buffers that hold what the run before left. The kernel is told"
-    );
-    println!("the columns and needs nothing cleared; its time includes looking at every loop before it writes, and");
-    println!("clearing its work buffer, n + 16 × m entries, at the end. The next column is what filling that buffer");
-    println!("takes alone. The hash map leads from the vertex where a border half-edge begins to its number, beside a");
-    println!("set of those that were walked, and checks nothing. Strip and triangles are all rim. The plate, 400 by");
-    println!("250, has few border half-edges for its elements, and most of its time is clearing.\n");
+    println!("{LARGE_ROUNDS} with a million of them, on buffers that hold what the run before left. A run asks many");
+    println!("times about a small mesh. The kernel is told the columns and needs nothing cleared; its time includes");
+    println!("looking at every loop before it writes, and clearing its work buffer, n + 16 × m entries, at the end.");
+    println!("The next column is what filling that buffer takes alone. The hash map leads from the vertex where a");
+    println!("border half-edge begins to its number, beside a set of those that were walked, and checks nothing.");
+    println!("Strip and triangles are all rim. The plate, 400 by 250, has few border half-edges for its elements:");
+    println!("most of its time is clearing.\n");
     println!("| mesh | elements | border half-edges | holes | time | work buffer filled | hash map | ratio |");
     println!("|---|---|---|---|---|---|---|---|");
     for (name, list) in lists_with_rims(dice) {
@@ -632,19 +631,18 @@ fn print_unused(dice: &mut Dice) {
     println!();
 }
 
-/// Lists of triangles: those of the first table, with two rims each, and a million border half-edges in one rim and in
-/// rims of three.
-fn write_lists(folder: &Path, triangles: &[(&str, List)], dice: &mut Dice) -> io::Result<()> {
+/// Lists of triangles. For holes: those with rims, and a million border half-edges in one rim and in rims of three.
+fn write_lists(folder: &Path, triangles: &[(&'static str, List)], dice: &mut Dice) -> io::Result<()> {
     let (strip, apart) = (strip(499_999, Kinds::Triangles, dice), apart(333_333));
-    let lists_for_holes = [
-        triangles[2].clone(),
-        triangles[3].clone(),
+    let mut for_holes: Vec<(&str, List)> =
+        triangles.iter().filter(|(name, _)| name.starts_with("with rims")).cloned().collect();
+    for_holes.extend([
         ("strip, in order", strip.clone()),
         ("strip, shuffled", shuffled(strip, dice)),
         ("triangles apart, in order", apart.clone()),
         ("triangles apart, shuffled", shuffled(apart, dice)),
-    ];
-    for (call, lists) in [("build", triangles), ("holes", &lists_for_holes)] {
+    ]);
+    for (call, lists) in [("build", triangles), ("holes", &for_holes)] {
         fs::create_dir_all(folder.join(call))?;
         for (name, list) in lists {
             write_list(list, &folder.join(call).join(format!("{name}.list")))?;
