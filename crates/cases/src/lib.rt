@@ -146,6 +146,29 @@ pub fn part_end(start: usize, x: u32) -> usize
     start + length(x, 128 - start)
 }
 
+// Where a part starts. The lengths of four parts stand from number `head` on; behind them the parts, one after another.
+pub fn part_start(numbers: &[u32; 128], head: usize, part: usize) -> usize
+    requires { ⌜ (head ≤ 120) × (part ≤ 3) ⌝ }
+    ensures { λ r. ⌜ r ≤ 128 ⌝ }
+{
+    let mut start = head + 4;
+    let mut i = 0;
+    while i < part {
+        start = part_end(start, numbers[head + i]);
+        i += 1;
+    }
+    start
+}
+
+pub fn part(numbers: &[u32; 128], head: usize, i: usize) -> &[u32]
+    requires { ⌜ (head ≤ 120) × (i ≤ 3) ⌝ }
+{
+    let start = part_start(numbers, head, i);
+    let end = part_end(start, numbers[head + i]);
+    let whole = &numbers[..];
+    &whole[start..end]
+}
+
 // Whether each entry is x.
 pub fn is_all(a: &[u32], x: u32) -> bool {
     let mut i = 0;

@@ -23,27 +23,14 @@ const LEFT: u32 = 7;
 
 const LARGEST: u32 = 4294967295;
 
-// Where a part starts: 0 is the list, 1 V2e, 2 E2e and 3 B2e.
-fn part_start(numbers: &[u32; 128], part: usize) -> usize
-    requires { ⌜ part ≤ 3 ⌝ }
-    ensures { λ r. ⌜ r ≤ 128 ⌝ }
-{
-    let mut start = 14;
-    let mut i = 0;
-    while i < part {
-        start = cases::part_end(start, numbers[10 + i]);
-        i += 1;
-    }
-    start
-}
+// The number from which on the lengths of the four parts stand.
+const LENGTHS: usize = 10;
 
+// The entries of part i: 0 is the list, 1 V2e, 2 E2e and 3 B2e.
 fn part(numbers: &[u32; 128], i: usize) -> &[u32]
     requires { ⌜ i ≤ 3 ⌝ }
 {
-    let start = part_start(numbers, i);
-    let end = cases::part_end(start, numbers[10 + i]);
-    let whole = &numbers[..];
-    &whole[start..end]
+    cases::part(numbers, LENGTHS, i)
 }
 
 // The columns by which a call goes.
@@ -275,7 +262,7 @@ fn copy(numbers: &mut [u32; 128], start: usize, table: &[u32; 40])
 fn copy_part(numbers: &mut [u32; 128], part: usize, table: &[u32; 40])
     requires { ⌜ part ≤ 3 ⌝ }
 {
-    let start = part_start(numbers, part);
+    let start = cases::part_start(numbers, LENGTHS, part);
     copy(numbers, start, table);
 }
 
@@ -303,7 +290,7 @@ fn change_place(numbers: &[u32; 128]) -> usize {
     if changed == 0 {
         return 128;
     }
-    part_start(numbers, changed - 1) + cases::length(numbers[3], 128)
+    cases::part_start(numbers, LENGTHS, changed - 1) + cases::length(numbers[3], 128)
 }
 
 fn change(numbers: &mut [u32; 128]) {

@@ -1,16 +1,19 @@
--- `queries::part_start` answers a place within the numbers: the measure is how many parts are left.
+-- `cases::part_start` answers a place within the numbers: the measure is how many parts are left.
 -- Assumes nothing.
 use Prim.Native.Nat.{_-_, _≤_}
 use native.Mathlib.Omega.{arith}
 use borrow.Author.Needs.{needs}
-use Rattle.queries.proofs.part_start.Statement.{statement}
-use Rattle.queries.proofs.part_start.Tie as tie
+use Rattle.cases.proofs.part_start.Statement.{statement}
+use Rattle.cases.proofs.part_start.Tie as tie
 
 abbrev Inv-loop : tie.InvT-loop
-Inv-loop numbers part start₀ i₀ start i = start ≤ 128
+Inv-loop numbers head part start₀ i₀ start i = start ≤ 128
 
 abbrev μ-loop : tie.MeasureT-loop
-μ-loop numbers part start₀ i₀ start i = part - i
+μ-loop numbers head part start₀ i₀ start i = part - i
+
+add-start : tie.Need-add-start Inv-loop μ-loop
+add-start c = search needs
 
 loop-holds : tie.Need-loop-holds Inv-loop μ-loop
 loop-holds c = search needs
@@ -45,6 +48,7 @@ part-start-spec =
     (tie.spec
     Inv-loop
     μ-loop
+    add-start
     loop-holds
     add-part-end
     mul-part-end
