@@ -18,6 +18,7 @@ use Rattle.rules.specs.Holes.{holeOf, holes, holeCount, holeLengths, holesFound
 use Rattle.theory.specs.Reaching.{In}
 use Rattle.theory.specs.Holes.{AllBack, room, found-broken, found-back}
 use Rattle.holes.specs.Marks.{Marked, Outcome}
+use Rattle.holes.proofs.Marking.{mark-entry}
 use Rattle.holes.proofs.Numbering.{holes-short}
 
 module _ (M : Mesh) (hole lengths : List ℕ) where
@@ -53,7 +54,8 @@ module _ (M : Mesh) (hole lengths : List ℕ) where
         entry i l =
             let place : 0 + i ≡ i + 1 - 1 = omega arith in
             let z : In M (i + 1) = (omega arith, omega arith) in
-            ap (at W) place ∙ s .known (i + 1) z (s .all (i + 1) (z .0) (z .1)) .hole
+            let marked = s .all (i + 1) (z .0) (z .1) in
+            ap (at W) place ∙ sym (mark-entry k (at W (i + 1 - 1)) marked .1) ∙ s .known (i + 1) z marked .hole
 
     lengths-are : part k h W ≡ holeLengths M
     unfolding holeLengths holeCount

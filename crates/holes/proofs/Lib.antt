@@ -1,3 +1,4 @@
+pub mod Reading
 pub mod Marking
 pub mod Numbering
 pub mod Leaving

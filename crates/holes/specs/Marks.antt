@@ -1,12 +1,13 @@
--- The work of the call: for each border half-edge the number of its hole, 0 until it is known, and after those k entries the length of each
--- hole. M is the mesh, U and W what the work holds.
+-- The work of the call: for each of the k border half-edges k + next, and once its hole is known the number of that, at most k; and then the
+-- length of each hole. M is the mesh, U and W what the work holds.
 -- Assumes nothing.
 use mathlib.Core.Path.{_≡_}
+use mathlib.Core.Bool.{Bool, true, false}
 use mathlib.Core.Logic.{_⊎_}
 use mathlib.Core.Option.{Option, none, some}
 use mathlib.Core.List.{List}
 use Prim.Native.Nat.{ℕ, _+_, _-_, _≤_, _<_}
-use lib.Dec.{eqb}
+use lib.Dec.{ltb, eqb}
 use lib.ListN.{length}
 use Rattle.lists.specs.Search.{at, count}
 use Rattle.lists.specs.Stores.{Kept}
@@ -21,24 +22,44 @@ use Rattle.theory.specs.Holes.{Back}
 abbrev pub lentHoles : List ℕ → List ℕ → List ℕ → HoleBuffers
 lentHoles hole lengths work = record { hole = hole; lengths = lengths; work = work }
 
--- the mark of border half-edge z
-abbrev pub mark : List ℕ → ℕ → ℕ
-mark W z = at W (z - 1)
+-- the mark in an entry: the number of a hole, or 0 where next still stands
+unfoldable pub markOf : ℕ → ℕ → ℕ
+markOf k e = elim (ltb k e) [ true ↦ 0 | false ↦ e ]
 
 module _ (M : Mesh) where
   abbrev k : ℕ
   k = length (M .border)
 
-  -- marks up to h; next of what is marked is marked alike
+  -- M has k border half-edges
+  abbrev pub Of : ℕ → Type 0
+  Of i = i ≡ k
+
+  -- the mark of border half-edge z
+  abbrev pub mark : List ℕ → ℕ → ℕ
+  mark W z = markOf k (at W (z - 1))
+
+  -- next of z stands in its entry
+  pub record Pending (W : List ℕ) (z : ℕ) : Type 0 where
+    pub above : k < at W (z - 1)
+    pub next : nextBorder M z ≡ some (at W (z - 1) - k)
+
+  -- next of all was read, or that of one can't be
+  pub record Nexts (all : Bool) (W : List ℕ) : Type 0 where
+    pub read : all ≡ true → (z : ℕ) → In M z → Pending W z
+    pub unread : all ≡ false → (z : ℕ) × In M z × (nextBorder M z ≡ none)
+
+  -- marks up to h; next of what is marked is marked alike; of the others next stands there
   pub record Closed (h : ℕ) (W : List ℕ) : Type 0 where
     pub up-to : (z : ℕ) → In M z → mark W z ≤ h
     pub alike : (z y : ℕ) → In M z → (mark W z ≡ 0 → ⊥) → nextBorder M z ≡ some y → mark W y ≡ mark W z
+    pub pending : (z : ℕ) → In M z → mark W z ≡ 0 → Pending W z
 
   -- the loop of b is to be marked with h, a number more than there is
   pub record Open (b h : ℕ) (W : List ℕ) : Type 0 where
     pub inside : In M b
     pub unmarked : mark W b ≡ 0
     pub positive : 1 ≤ h
+    pub most : h ≤ k
     pub closed : Closed (h - 1) W
     pub room : k ≤ length W
 

@@ -1,8 +1,9 @@
 // The holes of a mesh, document 02, point 11: for each border half-edge the number of its hole, and for each hole its length.
 //
-// The work holds a mark for each border half-edge, the number of its hole, and then the length of each hole. Border half-edges are gone
-// over in order; from one that has no mark its loop is followed and marked. A loop that meets a mark elsewhere than at its start runs into
-// another loop, or into its own middle, and never comes back.
+// The work holds an entry for each of the k border half-edges, and then the length of each hole. Next of all is read first, in order: next
+// of x as k + next. Then border half-edges are gone over in order; from one that has no number yet its loop is followed, and the number of
+// the hole takes the place of next. A loop that meets a number elsewhere than at its start runs into another loop, or into its own middle,
+// and never comes back. So the tables are read in order, and along a loop only the work.
 ghost use mathlib.Core.Path.{_≡_};
 ghost use Prim.Native.Nat.{_+_, _*_, _-_, _≤_};
 ghost use lib.Dec.{leb};
@@ -10,49 +11,63 @@ ghost use lib.ListN.{length};
 ghost use Rattle.lists.specs.Tests.{both};
 ghost use Rattle.lists.specs.Parts.{part};
 ghost use Rattle.rules.specs.Refusals.{onto};
+ghost use Rattle.rules.specs.Queries.{Mesh};
 ghost use Rattle.rules.specs.Holes.{holesAnswer, holesLeaves};
 ghost use Rattle.answer.specs.Numbers.{numbers};
 ghost use Rattle.theory.specs.Reaching.{In};
 ghost use Rattle.reads.specs.Meshes.{mesh, Fit};
 ghost use Rattle.reads.specs.Readings.{readOf};
-ghost use Rattle.holes.specs.Marks.{Open, Followed, Marked, Numbered, Outcome, lentHoles};
+ghost use Rattle.holes.specs.Marks.{Of, Nexts, Open, Followed, Marked, Numbered, Outcome, lentHoles};
 use admission::length_refusal;
 use answer::Answer;
 use answer::give;
 use answer::refuse;
 use answer::refuse_at;
 use buffers::clear;
-use buffers::clear_first;
 use buffers::copy;
 use halfedge::wide;
 use reads::Read;
 use reads::next_border;
 
-// Marks the loop of b with h: how many border half-edges it has, 0 where it doesn't come back.
-fn mark_loop(
+// Puts next of each border half-edge into the work: whether all can be read.
+fn read_nexts(
     n: u32,
     columns: u32,
     list: &[u32],
     v2e: &[u32],
     e2e: &[u32],
     b2e: &[u32],
-    b: u32,
-    h: u32,
     work: &mut [u32],
-) -> u32
-    requires { ⌜ (let M = mesh n columns (now list) (now v2e) (now e2e) (now b2e) in Fit M × Open M b h (now work)) ⌝ }
-    ensures { λ r. ⌜ Followed (mesh n columns (now (list .entry)) (now (v2e .entry)) (now (e2e .entry)) (now (b2e .entry))) b h r (now (work .entry)) (now (work .exit)) ⌝ }
+) -> bool
+    requires { ⌜ Fit (mesh n columns (now list) (now v2e) (now e2e) (now b2e)) × (length (now b2e) ≤ length (now work)) ⌝ }
+    ensures { λ r. ⌜ Nexts (mesh n columns (now (list .entry)) (now (v2e .entry)) (now (e2e .entry)) (now (b2e .entry))) r (now (work .exit)) ⌝ }
+    ensures { λ _. ⌜ length (now (work .exit)) ≡ length (now (work .entry)) ⌝ }
+{
+    let k = b2e.len() as u32;
+    let mut b = 0;
+    while b < k {
+        let following = next_border(n, columns, list, v2e, e2e, b2e, b + 1);
+        let Read::Value(y) = following else {
+            return false;
+        };
+        work[wide(b)] = k + y;
+        b += 1;
+    }
+    true
+}
+
+// Marks the loop of b with h: how many border half-edges it has, 0 where it doesn't come back. M is any mesh whose work this is.
+fn mark_loop(k: u32, b: u32, h: u32, work: &mut [u32]) -> u32
+    requires { ⌜ ((M : Mesh) × Of M k × Open M b h (now work)) ⌝ }
+    ensures { λ r. ⌜ ((M : Mesh) → Of M k → Open M b h (now (work .entry)) → Followed M b h r (now (work .entry)) (now (work .exit))) ⌝ }
 {
     let mut x = b;
     let mut count = 0;
-    while work[wide(x) - 1] == 0 {
-        work[wide(x) - 1] = h;
-        let following = next_border(n, columns, list, v2e, e2e, b2e, x);
-        let Read::Value(y) = following else {
-            return 0;
-        };
+    while k < work[wide(x) - 1] {
+        let p = wide(x) - 1;
+        x = work[p] - k;
+        work[p] = h;
         count += 1;
-        x = y;
     }
     if x != b {
         return 0;
@@ -62,50 +77,32 @@ fn mark_loop(
 
 // Goes on from border half-edge b, up to which all are marked in h holes, to the next one: how many holes there are then. Broken where its
 // loop doesn't come back.
-fn mark_next(
-    n: u32,
-    columns: u32,
-    list: &[u32],
-    v2e: &[u32],
-    e2e: &[u32],
-    b2e: &[u32],
-    b: u32,
-    h: u32,
-    work: &mut [u32],
-) -> Read
-    requires { ⌜ (let M = mesh n columns (now list) (now v2e) (now e2e) (now b2e) in Fit M × In M (b + 1) × Marked M b h (now work)) ⌝ }
-    ensures { λ r. ⌜ Numbered (mesh n columns (now (list .entry)) (now (v2e .entry)) (now (e2e .entry)) (now (b2e .entry))) (b + 1) (now (work .exit)) (readOf r) ⌝ }
+fn mark_next(k: u32, b: u32, h: u32, work: &mut [u32]) -> Read
+    requires { ⌜ ((M : Mesh) × Of M k × In M (b + 1) × Marked M b h (now work)) ⌝ }
+    ensures { λ r. ⌜ ((M : Mesh) → Of M k → In M (b + 1) → Marked M b h (now (work .entry)) → Numbered M (b + 1) (now (work .exit)) (readOf r)) ⌝ }
     ensures { λ _. ⌜ length (now (work .exit)) ≡ length (now (work .entry)) ⌝ }
 {
-    if work[wide(b)] != 0 {
+    if work[wide(b)] <= k {
         return Read::Value(h);
     }
-    let length = mark_loop(n, columns, list, v2e, e2e, b2e, b + 1, h + 1, work);
+    let length = mark_loop(k, b + 1, h + 1, work);
     if length == 0 {
         return Read::Broken;
     }
-    work[b2e.len() + wide(h)] = length;
+    work[wide(k) + wide(h)] = length;
     Read::Value(h + 1)
 }
 
 // All border half-edges one after another: how many holes they have.
-fn mark_all(
-    n: u32,
-    columns: u32,
-    list: &[u32],
-    v2e: &[u32],
-    e2e: &[u32],
-    b2e: &[u32],
-    work: &mut [u32],
-) -> Read
-    requires { ⌜ (let M = mesh n columns (now list) (now v2e) (now e2e) (now b2e) in Fit M × Marked M 0 0 (now work)) ⌝ }
-    ensures { λ r. ⌜ Numbered (mesh n columns (now (list .entry)) (now (v2e .entry)) (now (e2e .entry)) (now (b2e .entry))) (length (now (b2e .entry))) (now (work .exit)) (readOf r) ⌝ }
+fn mark_all(k: u32, work: &mut [u32]) -> Read
+    requires { ⌜ ((M : Mesh) × Of M k × Marked M 0 0 (now work)) ⌝ }
+    ensures { λ r. ⌜ ((M : Mesh) → Of M k → Marked M 0 0 (now (work .entry)) → Numbered M k (now (work .exit)) (readOf r)) ⌝ }
     ensures { λ _. ⌜ length (now (work .exit)) ≡ length (now (work .entry)) ⌝ }
 {
     let mut h = 0;
-    let mut b: u32 = 0;
-    while wide(b) < b2e.len() {
-        let counted = mark_next(n, columns, list, v2e, e2e, b2e, b, h, work);
+    let mut b = 0;
+    while b < k {
+        let counted = mark_next(k, b, h, work);
         let Read::Value(holes) = counted else {
             return Read::Broken;
         };
@@ -113,6 +110,26 @@ fn mark_all(
         b += 1;
     }
     Read::Value(h)
+}
+
+// How many holes there are: next of all is read, and all are marked. Broken where a loop doesn't come back.
+fn number_holes(
+    n: u32,
+    columns: u32,
+    list: &[u32],
+    v2e: &[u32],
+    e2e: &[u32],
+    b2e: &[u32],
+    work: &mut [u32],
+) -> Read
+    requires { ⌜ Fit (mesh n columns (now list) (now v2e) (now e2e) (now b2e)) × (length (now b2e) + length (now b2e) ≤ length (now work)) ⌝ }
+    ensures { λ r. ⌜ Numbered (mesh n columns (now (list .entry)) (now (v2e .entry)) (now (e2e .entry)) (now (b2e .entry))) (length (now (b2e .entry))) (now (work .exit)) (readOf r) ⌝ }
+    ensures { λ _. ⌜ length (now (work .exit)) ≡ length (now (work .entry)) ⌝ }
+{
+    if !read_nexts(n, columns, list, v2e, e2e, b2e, work) {
+        return Read::Broken;
+    }
+    mark_all(b2e.len() as u32, work)
 }
 
 // Each output has k entries.
@@ -153,8 +170,7 @@ fn holes_fit(
     ensures { λ _. ⌜ length (now (work .exit)) ≡ length (now (work .entry)) ⌝ }
 {
     let k = b2e.len();
-    clear_first(k, work);
-    let counted = mark_all(n, columns, list, v2e, e2e, b2e, work);
+    let counted = number_holes(n, columns, list, v2e, e2e, b2e, work);
     let Read::Value(h) = counted else {
         return refuse(12);
     };

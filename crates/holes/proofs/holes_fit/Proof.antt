@@ -11,23 +11,20 @@ use Rattle.reads.specs.Meshes.{mesh}
 use Rattle.reads.proofs.Readings.{value-of, broken-of}
 use Rattle.theory.specs.Holes.{room, means-room}
 use Rattle.holes.specs.Marks.{Marked}
-use Rattle.holes.proofs.Numbering.{none-marked, holes-short}
+use Rattle.holes.proofs.Numbering.{holes-short}
 use Rattle.holes.proofs.Leaving.{refuses-12, refuses-13, answers}
 use Rattle.holes.proofs.holes_fit.Statement.{statement}
 use Rattle.holes.proofs.holes_fit.Tie as tie
 
--- the marks were cleared, and all border half-edges marked
-abbrev begun : tie.After-clear-first → tie.Start
+-- all border half-edges were marked
+abbrev begun : tie.After-number-holes → tie.Start
 begun c = c .before .before .before .before .before .before .before .before .before
-
-abbrev cleared : tie.After-mark-all → tie.After-clear-first
-cleared c = c .before .before .before .before
 
 -- the room was asked for, and there is room
 abbrev counted : tie.After-is-room → tie.After-counted
 counted c = c .before .before
 
-abbrev marked : tie.After-is-room → tie.After-mark-all
+abbrev marked : tie.After-is-room → tie.After-number-holes
 marked c = counted c .before .before .before .before
 
 abbrev asked : tie.After-write → tie.After-is-room
@@ -36,24 +33,13 @@ asked c = c .before .before .before .before .before .before
 abbrev meshOf : tie.Start → Mesh
 meshOf s = mesh (s .args .n) (s .args .columns) (s .args .list .now) (s .args .v2e .now) (s .args .e2e .now) (s .args .b2e .now)
 
--- the work is as long as it was
-long : (c : tie.After-mark-all) → length (c .mark-all .last .1 .1 .1 .1 .1 .1 .0) ≡ length (begun (cleared c) .args .work .now)
-long c = c .mark-all .ensures .1 ∙ cleared c .clear-first .ensures .0 .long
-
 -- h holes, and the test for room
 found : (c : tie.After-is-room) → let m = marked c in
-    Marked (meshOf (begun (cleared m))) (length (begun (cleared m) .args .b2e .now)) (counted c .counted .given .0 .0) (m .mark-all .last .1 .1 .1 .1 .1 .1 .0)
-found c = marked c .mark-all .ensures .0 .counted _ (value-of refl (counted c .counted .given .1))
+    Marked (meshOf (begun m)) (length (begun m .args .b2e .now)) (counted c .counted .given .0 .0) (m .number-holes .last .1 .1 .1 .1 .1 .1 .0)
+found c = marked c .number-holes .ensures .0 .counted _ (value-of refl (counted c .counted .given .1))
 
-clear-first-requires : tie.Need-clear-first-requires
-clear-first-requires c κs = search needs
-
-mark-all-requires : tie.Need-mark-all-requires
-mark-all-requires c κs =
-    let emptied = c .before .before .before in
-    let s = begun emptied in
-    let (kept, blank) = emptied .clear-first .ensures in
-    (s .pre .0, none-marked (meshOf s) _ (omega (arith, s .pre .1, kept .long)) blank)
+number-holes-requires : tie.Need-number-holes-requires
+number-holes-requires c κs = search needs
 
 enum-known-counted : tie.Need-enum-known-counted
 enum-known-counted c = search needs
@@ -70,8 +56,8 @@ same-length c = search needs
 returns : tie.Need-returns
 returns c =
     let m = c .before .before .before .before .before in
-    let (b, i, e) = m .mark-all .ensures .0 .broken (broken-of refl (c .before .enum-told .given .1)) in
-    (refuses-12 (meshOf (begun (cleared m))) _ _ b i e (c .refuse .ensures), long m)
+    let (b, i, e) = m .number-holes .ensures .0 .broken (broken-of refl (c .before .enum-told .given .1)) in
+    (refuses-12 (meshOf (begun m)) _ _ b i e (c .refuse .ensures), m .number-holes .ensures .1)
 
 is-room-requires : tie.Need-is-room-requires
 is-room-requires c κs = search needs
@@ -89,19 +75,19 @@ returns-2 : tie.Need-returns-2
 returns-2 c =
     let test = c .before .before in
     let no = sym (test .is-room .ensures) ∙ not-true _ (c .before .if1 .taken) in
-    (refuses-13 (meshOf (begun (cleared (marked test)))) _ _ _ _ (found test) no (c .refuse-at .ensures), long (marked test))
+    (refuses-13 (meshOf (begun (marked test))) _ _ _ _ (found test) no (c .refuse-at .ensures), marked test .number-holes .ensures .1)
 
 wide-requires : tie.Need-wide-requires
 wide-requires c κs = search needs
 
 -- both outputs have room
-enough : (c : tie.Else1) → let s = begun (cleared (marked (c .before))) in room (meshOf s) (s .args .hole .now) (s .args .lengths .now) ≡ true
+enough : (c : tie.Else1) → let s = begun (marked (c .before)) in room (meshOf s) (s .args .hole .now) (s .args .lengths .now) ≡ true
 enough c = sym (c .before .is-room .ensures) ∙ not-false _ (c .if1 .left)
 
 write-requires : tie.Need-write-requires
 write-requires c κs =
     let test = c .before .before .before .before .before in
-    let s = begun (cleared (marked test)) in
+    let s = begun (marked test) in
     let (a, b) = means-room (meshOf s) (s .args .hole .now) (s .args .lengths .now) .says (rw (enough (c .before .before .before .before)) tt) in
     let h = holes-short (meshOf s) _ _ _ (found test) in
     let w = c .before .before .before .wide .ensures in
@@ -125,14 +111,13 @@ returns-3 c =
     let test = asked wrote in
     let (hole, lengths) = wrote .write .ensures in
     let w = wrote .before .before .before .before .wide .ensures in
-    (answers (meshOf (begun (cleared (marked test)))) _ _ _ _ (found test) (enough (wrote .before .before .before .before .before)) (c .give .ensures) hole (rw w at lengths), long (marked test))
+    (answers (meshOf (begun (marked test))) _ _ _ _ (found test) (enough (wrote .before .before .before .before .before)) (c .give .ensures) hole (rw w at lengths), marked test .number-holes .ensures .1)
 
 pub holes-fit-spec : {M : Type 1} → statement M
 holes-fit-spec =
     tie.close
     (tie.spec
-    clear-first-requires
-    mark-all-requires
+    number-holes-requires
     enum-known-counted
     enum-told
     refuse-requires

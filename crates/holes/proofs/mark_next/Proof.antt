@@ -1,39 +1,37 @@
 -- `holes::mark_next` meets its contract: the next border half-edge is marked, or its loop is.
 -- Assumes nothing.
-use mathlib.Core.Path.{_≡_, refl, ap, sym, _∙_}
-use Prim.Native.Nat.{_+_, _≤_}
+use mathlib.Core.Path.{_≡_, refl, ap}
+use Prim.Native.Nat.{_+_, _≤_, _<_}
 use native.Mathlib.Omega.{arith}
 use borrow.Author.Needs.{needs}
 use lib.ListN.{length}
 use Rattle.lists.specs.Search.{at}
 use Rattle.rules.specs.Queries.{Mesh}
-use Rattle.reads.specs.Meshes.{mesh}
+use Rattle.holes.specs.Marks.{Of}
 use Rattle.holes.proofs.Numbering.{holes-short, numbered, marked-already, opens, never-back, as-long, one-hole-more}
 use Rattle.holes.proofs.mark_next.Statement.{statement}
 use Rattle.holes.proofs.mark_next.Tie as tie
 
 abbrev begun : tie.After-wide → tie.Start
-begun c = c .before .before .before .before .before .before
+begun c = c .before .before
 
--- its mark was read, and its loop followed
+-- its entry was read, and its loop followed
 abbrev read : tie.Else1 → tie.After-wide
 read c = c .before .before
-
-abbrev followed : tie.After-slice-known3 → tie.After-mark-loop
-followed c = c .before .before
 
 abbrev free : tie.After-mark-loop → tie.Else1
 free c = c .before .before
 
-abbrev looped : tie.After-wide2 → tie.After-mark-loop
-looped c = followed (c .before .before)
+abbrev looped : tie.After-wide3 → tie.After-mark-loop
+looped c = c .before .before .before .before .before
 
-abbrev meshOf : tie.Start → Mesh
-meshOf s = mesh (s .args .n) (s .args .columns) (s .args .list .now) (s .args .v2e .now) (s .args .e2e .now) (s .args .b2e .now)
+-- there is room for a hole more
+fewer : (s : tie.Start) → (s .args .b + 1 ≤ s .args .k) × (s .args .h + 1 ≤ s .args .k) × (s .args .k + s .args .k ≤ length (s .args .work .now))
+fewer s = let (M, size, i, m) = s .pre in omega (arith, size, i, m .room, holes-short M _ _ _ m)
 
--- fewer holes than border half-edges
-fewer : (s : tie.Start) → s .args .h + 1 ≤ length (s .args .b2e .now)
-fewer s = let (fit, i, m) = s .pre in omega (arith, i, holes-short (meshOf s) _ _ _ m)
+-- the entry that was read
+entry : (c : tie.After-wide) → let a = begun c .args in at (a .work .now) (c .wide .result) ≡ at (a .work .now) (a .b)
+entry c = ap (at (begun c .args .work .now)) (c .wide .ensures)
 
 wide-requires : tie.Need-wide-requires
 wide-requires c κs = search needs
@@ -42,45 +40,54 @@ mul-if1 : tie.Need-mul-if1
 mul-if1 c = search needs
 
 slice-read-if1 : tie.Need-slice-read-if1
-slice-read-if1 c = let (fit, i, m) = begun (c .before) .pre in omega (arith, c .before .wide .ensures, i, m .room)
+slice-read-if1 c = omega (arith, c .before .wide .ensures, fewer (begun (c .before)))
 
 returns : tie.Need-returns
 returns c =
-    let asked = c .before .before in
-    let s = begun asked in
-    let (fit, i, m) = s .pre in
-    let marked : at (s .args .work .now) (s .args .b) ≡ 0 → ⊥ = λ e. c .if1 .taken (ap (at (s .args .work .now)) (asked .wide .ensures) ∙ e) in
-    (numbered (meshOf s) _ _ _ (marked-already (meshOf s) _ _ _ m i marked), refl)
+    let asked = c .before .before in (
+      (λ M size i m. numbered M _ _ _ (marked-already M _ _ _ m i (omega (arith, size, entry asked, c .if1 .taken)))),
+      refl,
+    )
 
 add-mark-loop : tie.Need-add-mark-loop
 add-mark-loop c = search needs
 
 add-mark-loop-2 : tie.Need-add-mark-loop-2
-add-mark-loop-2 c = let s = begun (read c) in omega (arith, fewer s, s .pre .0 .border, s .pre .0 .elements)
+add-mark-loop-2 c = omega (arith, fewer (begun (read c)))
 
 -- it has no mark
-unmarked : (c : tie.Else1) → let s = begun (read c) in at (s .args .work .now) (s .args .b) ≡ 0
-unmarked c = ap (at (begun (read c) .args .work .now)) (sym (read c .wide .ensures)) ∙ c .if1 .left
+unmarked : (c : tie.Else1) (M : Mesh) → let s = begun (read c) in Of M (s .args .k) → length (M .border) < at (s .args .work .now) (s .args .b)
+unmarked c M size = omega (arith, size, entry (read c), c .if1 .left)
 
 mark-loop-requires : tie.Need-mark-loop-requires
 mark-loop-requires c κs =
-    let asked = c .before in
-    let s = begun (read asked) in
-    let (fit, i, m) = s .pre in (fit, opens (meshOf s) _ _ _ m i (unmarked asked))
+    let s = begun (read (c .before)) in
+    let (M, size, i, m) = s .pre in (M, size, opens M _ _ _ m i (unmarked (c .before) M size))
+
+long : (c : tie.After-mark-loop) → length (c .mark-loop .last .1 .1 .1 .0) ≡ length (begun (read (free c)) .args .work .now)
+long c =
+    let (M, size, i, m) = begun (read (free c)) .pre in
+    c .mark-loop .ensures M size (opens M _ _ _ m i (unmarked (free c) M size)) .kept .long
 
 same-length : tie.Need-same-length
 same-length c = search needs
 
 returns-2 : tie.Need-returns-2
 returns-2 c =
-    let done = followed (c .before) in
+    let done = c .before .before .before in
     let asked = free done in
-    let s = begun (read asked) in
-    let (fit, i, m) = s .pre in
-    (never-back (meshOf s) _ _ _ m i (unmarked asked) _ _ (done .mark-loop .ensures) (c .if2 .taken), done .mark-loop .ensures .kept .long)
+    let (M, size, i, m) = begun (read asked) .pre in (
+      (λ M size i m.
+          let o = unmarked asked M size in
+          never-back M _ _ _ m i o _ _ (done .mark-loop .ensures M size (opens M _ _ _ m i o)) (c .if2 .taken)),
+      long done,
+    )
 
 wide-requires-2 : tie.Need-wide-requires-2
 wide-requires-2 c κs = search needs
+
+wide-requires-3 : tie.Need-wide-requires-3
+wide-requires-3 c κs = search needs
 
 add-work : tie.Need-add-work
 add-work c = search needs
@@ -90,13 +97,11 @@ mul-work c = search needs
 
 slice-write-work : tie.Need-slice-write-work
 slice-write-work c =
-    let done = looped c in
-    let s = begun (read (free done)) in
-    let (fit, i, m) = s .pre in
-    omega (arith, c .wide2 .ensures, fewer s, m .room, done .mark-loop .ensures .kept .long)
+    let put = c .before in
+    omega (arith, put .wide2 .ensures, c .wide3 .ensures, fewer (begun (read (free (looped c)))), long (looped c))
 
-add-t14 : tie.Need-add-t14
-add-t14 c = let s = begun (read (free (looped c))) in omega (arith, fewer s, s .pre .0 .border, s .pre .0 .elements)
+add-t9 : tie.Need-add-t9
+add-t9 c = omega (arith, fewer (begun (read (free (looped c)))))
 
 same-length-2 : tie.Need-same-length-2
 same-length-2 c = search needs
@@ -105,11 +110,18 @@ returns-3 : tie.Need-returns-3
 returns-3 c =
     let done = looped c in
     let asked = free done in
-    let s = begun (read asked) in
-    let (fit, i, m) = s .pre in
-    let f = done .mark-loop .ensures in
-    let more = one-hole-more (meshOf s) _ _ _ m i (unmarked asked) _ _ f (c .before .if2 .left) in
-    rw (c .wide2 .ensures) (numbered (meshOf s) _ _ _ more, as-long (meshOf s) _ _ _ m i (unmarked asked) _ _ f)
+    let (M, size, i, m) = begun (read asked) .pre in
+    let o = unmarked asked M size in (
+      (λ M size i m.
+          let o = unmarked asked M size in
+          let f = done .mark-loop .ensures M size (opens M _ _ _ m i o) in
+          rw (place M size) (numbered M _ _ _ (one-hole-more M _ _ _ m i o _ _ f (c .before .before .if2 .left)))),
+      rw (place M size) (as-long M _ _ _ m i o _ _ (done .mark-loop .ensures M size (opens M _ _ _ m i o))),
+    )
+  where
+    place : (M : Mesh) → Of M (begun (read (free (looped c))) .args .k) →
+        c .before .wide2 .result + c .wide3 .result ≡ length (M .border) + begun (read (free (looped c))) .args .h
+    place M size = omega (arith, size, c .before .wide2 .ensures, c .wide3 .ensures)
 
 pub mark-next-spec : {M : Type 1} → statement M
 mark-next-spec =
@@ -125,9 +137,10 @@ mark-next-spec =
     same-length
     returns-2
     wide-requires-2
+    wide-requires-3
     add-work
     mul-work
     slice-write-work
-    add-t14
+    add-t9
     same-length-2
     returns-3)
