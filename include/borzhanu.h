@@ -435,7 +435,8 @@ uint64_t borzhanu_neighbours(uint32_t n, uint32_t columns,
 
 /*
  * The border half-edges of one hole, as border numbers: b, the next one, and so on until b would come
- * again. At most k entries.
+ * again. On tables that building wrote these are all that borzhanu_next leads to from b, each once. At
+ * most k entries.
  */
 uint64_t borzhanu_border_loop(uint32_t n, uint32_t columns,
                               const uint32_t *elements, size_t elements_len,
@@ -445,22 +446,24 @@ uint64_t borzhanu_border_loop(uint32_t n, uint32_t columns,
                               uint32_t b, uint32_t *out, size_t out_len);
 
 /*
- * The hole of each border half-edge and the length of each hole, as a duct's openings are checked by their
- * rims. Answers the number of holes. Two border half-edges have one hole exactly when the border loop of one
- * lists the other. Holes are numbered from 1, in the order of the least border half-edge of each.
+ * The hole of each border half-edge and the length of each hole, as a duct's openings are checked by
+ * their rims. Answers the number of holes; the outer rim of an open plate is one of them. Two border
+ * half-edges have one hole exactly when the border loop of one lists the other. Holes are numbered from
+ * 1, in the order of the least border half-edge of each.
  *
  *   hole     at least k entries
  *   lengths  at least k entries, however few holes there are
  *   work     at least n + 16 * m entries
  *
  * After an answer hole[b - 1] is the hole of border half-edge b, and lengths[h - 1] says how many border
- * half-edges hole h has; all lengths add up to k. Entries of hole past k are as they were, and so are those of
- * lengths past the number of holes.
+ * half-edges hole h has; all lengths add up to k. Entries of hole past k are as they were, and so are
+ * those of lengths past the number of holes.
  *
- * It refuses 1 and 2 as every query does, and 2 where work is too short; 12 where any border loop does, else 13,
- * which names k. Of E2e only the length is looked at. After a refusal hole and lengths are as they were. What
- * they and work hold before doesn't matter. After 1 and 2 work is as it was; after everything else it is all
- * zero.
+ * It refuses 1 and 2 as every query does, and 2 where work is too short; then 12 where the border loop of
+ * any border half-edge does; then 13, which names k, where hole or lengths is too short. Nothing is asked
+ * about, so 11 never comes. Of E2e only the length is looked at. After a refusal hole and lengths are as
+ * they were. What they and work hold before doesn't matter. After 1 and 2 work is as it was; after
+ * everything else it is all zero.
  */
 uint64_t borzhanu_holes(uint32_t n, uint32_t columns,
                         const uint32_t *elements, size_t elements_len,

@@ -2,8 +2,9 @@
 
 use crate::{work_length, Mesh, Refusal};
 
-/// The holes of a mesh: which one each border half-edge is on, and how long each is. They are numbered from 1, by their
-/// least border half-edges. Whatever is asked of them, the only refusal is [`Refusal::NotThere`].
+/// The holes of a mesh: which one each border half-edge is on, and how long each is. The outer rim of an open plate is
+/// one of them. They are numbered from 1, by their least border half-edges. Whatever is asked of them, the only refusal
+/// is [`Refusal::NotThere`].
 ///
 /// ```
 /// use borzhanu::Tables;
@@ -14,7 +15,7 @@ use crate::{work_length, Mesh, Refusal};
 /// let holes = tables.holes();
 /// assert_eq!(holes.count(), 2);
 ///
-/// // The plate's own rim is one hole, and the opening is another.
+/// // The plate's outer rim is one hole, and the opening is another.
 /// let opening = holes.iter().find(|hole| hole.length < 12).expect("a cell is missing");
 /// assert_eq!((opening.number, opening.length), (2, 4));
 /// assert!(tables.border_loop(opening.first)?.iter().all(|&b| holes.hole(b) == Ok(2)));

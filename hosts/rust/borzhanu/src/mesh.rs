@@ -208,7 +208,8 @@ impl<'a> Mesh<'a> {
         first_number(ask!(borzhanu_neighbours, self, v, out.as_mut_ptr(), out.len())).map(|count| count as usize)
     }
 
-    /// The border half-edges of one hole, as border numbers from b on; written as [`Mesh::ring`] does.
+    /// The border half-edges of one hole, as border numbers from b on; written as [`Mesh::ring`] does. On tables that
+    /// [`build`](crate::build) wrote these are all that [`Mesh::next`] leads to from b, each once.
     ///
     /// # Errors
     ///
@@ -218,10 +219,10 @@ impl<'a> Mesh<'a> {
         first_number(ask!(borzhanu_border_loop, self, b, out.as_mut_ptr(), out.len())).map(|count| count as usize)
     }
 
-    /// The hole of each border half-edge, written to the first k entries of `hole`, and the length of each hole, from
-    /// the start of `lengths`; and the number of holes. Two border half-edges have one hole where the loop of one lists
-    /// the other, and holes are numbered from 1 by their least border half-edges. [`Holes`](crate::Holes) has all this
-    /// without buffers to lend.
+    /// The number of holes; with the hole of each border half-edge, written to the first k entries of `hole`, and the
+    /// length of each hole, from the start of `lengths`. Two border half-edges have one hole exactly where the loop of
+    /// one lists the other, and holes are numbered from 1 by their least border half-edges. [`Holes`](crate::Holes) has
+    /// all this without buffers to lend.
     ///
     /// `hole` and `lengths` have at least k entries each, also where there are fewer holes, and `work` has at least
     /// [`work_length`](crate::work_length). What they hold before doesn't matter. The rest of `hole` and of `lengths`

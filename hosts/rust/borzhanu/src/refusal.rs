@@ -64,7 +64,7 @@ pub enum Refusal {
     /// 12: a table entry that was read names nothing, or a walk doesn't come to its end. A V2e entry of 0 is broken
     /// only where a border half-edge must follow; what begins at the vertex takes it for unused.
     TableBroken,
-    /// 13: the output is too short.
+    /// 13: an output is too short.
     OutputShort {
         /// The length that it needs.
         needed: u32,

@@ -157,7 +157,8 @@ impl Tables {
         self.mesh().neighbours_of(v)
     }
 
-    /// The border half-edges of one hole, as border numbers from b on.
+    /// The border half-edges of one hole, as border numbers from b on: all that [`Tables::next`] leads to from there,
+    /// each once.
     ///
     /// # Errors
     ///
