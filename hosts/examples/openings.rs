@@ -56,13 +56,18 @@ fn vertices(tables: &Tables, hole: Hole) -> Result<String, Refusal> {
     Ok(listed?.join(" "))
 }
 
-/// What the drawing says of a hole.
-fn name(tables: &Tables, holes: &Holes, hole: Hole) -> String {
-    match DRAWING.iter().find(|opening| hole_at(tables, holes, opening.vertex) == Some(hole.number)) {
-        Some(opening) if opening.sides == hole.length => opening.name.to_string(),
-        Some(opening) => format!("{}, {} sides on the drawing", opening.name, opening.sides),
-        None => "not on the drawing".to_string(),
+/// What the drawing says of a hole: the openings whose vertex is on its rim.
+fn names(tables: &Tables, holes: &Holes, hole: Hole) -> String {
+    let on_rim = |opening: &&Opening| hole_at(tables, holes, opening.vertex) == Some(hole.number);
+    let said = |opening: &Opening| match opening.sides {
+        sides if sides == hole.length => opening.name.to_string(),
+        sides => format!("{}, {sides} sides on the drawing", opening.name),
+    };
+    let named: Vec<String> = DRAWING.iter().filter(on_rim).map(said).collect();
+    if named.is_empty() {
+        return "not on the drawing".to_string();
     }
+    named.join("; ")
 }
 
 fn check(model: &str, plates: &[[u32; 4]]) -> Result<(), Refusal> {
@@ -70,8 +75,8 @@ fn check(model: &str, plates: &[[u32; 4]]) -> Result<(), Refusal> {
     let holes = tables.holes();
     println!("openings {model}: {}", holes.count());
     for hole in holes.iter() {
-        let (rim, name) = (vertices(&tables, hole)?, name(&tables, &holes, hole));
-        println!("  {} sides, vertices {rim}: {name}", hole.length);
+        let (rim, names) = (vertices(&tables, hole)?, names(&tables, &holes, hole));
+        println!("  {} sides, vertices {rim}: {names}", hole.length);
     }
     for opening in DRAWING.iter().filter(|opening| hole_at(&tables, &holes, opening.vertex).is_none()) {
         println!("  missing: {}", opening.name);
@@ -88,5 +93,6 @@ fn main() -> Result<(), Refusal> {
     check("as drawn", &PLATES[..15])?;
     check("without plate 9", &without(9))?;
     check("without plate 8", &without(8))?;
+    check("without plate 1", &without(1))?;
     check("with plates 16 and 17", &PLATES)
 }
