@@ -1,5 +1,5 @@
-# What crates/hole_cases must write, worked out from the rules that docs/TRACE.md quotes: by the border loop of every border half-edge. Of
-# the crate only its cases are read.
+# What crates/hole_cases must write, worked out from the rules that docs/TRACE.md quotes: by the border loop of every
+# border half-edge. Of the crate only its cases are read.
 # From the top folder: python3 hosts/expected/holes.py crates/hole_cases/stdin | cmp - crates/hole_cases/stdout
 import sys
 MOST=1000000
@@ -33,7 +33,8 @@ def parts(entries,lengths):
     for length in lengths:
         yield entries[:length]
         entries=entries[length:]
-# a case is a label; n; the columns told; the lengths of hole, lengths and work; those of the list, V2e, E2e and B2e; and their entries
+# a case is a label; n; the columns told; the lengths of hole, lengths and work; those of the list, V2e, E2e and B2e;
+# and their entries
 for text in open(sys.argv[1]):
     if ";" not in text: continue
     label,rest=text.rstrip("\n").split(";",1)
@@ -41,7 +42,7 @@ for text in open(sys.argv[1]):
     n,told,h,l,work=numbers[:5]
     entries,v2e,e2e,b2e=parts(numbers[9:],numbers[5:9])
     # what the program can take, each number after one byte
-    assert len(numbers)<=120 and h<=16 and l<=16 and work<=200 and len(numbers)==9+sum(numbers[5:9]),label
+    assert len(numbers)<=127 and h<=20 and l<=20 and work<=200 and len(numbers)==9+sum(numbers[5:9]),label
     assert len(rest.replace(",",";").replace(" ",";").split(";"))==len(numbers),label
     rows=list(parts(entries,[4]*(len(entries)//4)))
     k=len(b2e)
