@@ -35,7 +35,6 @@
 namespace {
 
 constexpr int rounds = 21;
-constexpr int rounds_of_holes = 7;
 
 struct List {
     std::string name;
@@ -274,7 +273,7 @@ void print_holes_row(const List &list) {
 #if HAS_OPENMESH
     TriMeshHoles tri_mesh(list);
 #endif
-    for (int round = 0; round < rounds_of_holes; round++) {
+    for (int round = 0; round < rounds; round++) {
         time_holes(kernel_times, list, k, count, kernel);
 #if HAS_CGAL
         time_holes(cgal_times, list, k, count, surface_mesh);
@@ -306,7 +305,7 @@ void print_holes(char **paths, int count) {
         "were built before. A library walks along each border and gives its half-edges a number; it clears the\n"
         "numbers first, and looks at every half-edge for those on a border. The kernel clears its work buffer\n"
         "at the end. The lists with rims are those above: few of their half-edges are on a border.\n\n",
-        rounds_of_holes);
+        rounds);
     std::printf("| list | border half-edges | holes | time | CGAL Surface_mesh | ratio | OpenMesh TriMesh | ratio |\n"
                 "|---|---|---|---|---|---|---|---|\n");
     for (int i = 0; i < count; i++)

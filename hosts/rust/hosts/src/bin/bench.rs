@@ -473,7 +473,7 @@ fn strip(width: u32, kinds: Kinds, dice: &mut Dice) -> List {
     sheet(width, 1, (false, false), kinds, dice)
 }
 
-/// A thousand border half-edges and a million, in one rim and in rims of three; and a plate with few of them.
+/// A thousand border half-edges and a million, in one rim and in rims of three; and the grid, with few of them.
 fn lists_with_rims(dice: &mut Dice) -> Vec<(String, List)> {
     let quadrilaterals = Kinds::Quadrilaterals;
     let lists = [
@@ -481,7 +481,7 @@ fn lists_with_rims(dice: &mut Dice) -> Vec<(String, List)> {
         ("triangles apart", apart(333)),
         ("strip of quadrilaterals", strip(499_999, quadrilaterals, dice)),
         ("triangles apart", apart(333_333)),
-        ("plate of quadrilaterals", sheet(400, 250, (false, false), quadrilaterals, dice)),
+        ("grid of quadrilaterals", sheet(400, 250, (false, false), quadrilaterals, dice)),
     ];
     let in_either_order = |(name, list): (&str, List)| {
         [(format!("{name}, in order"), list.clone()), (format!("{name}, shuffled"), shuffled(list, dice))]
@@ -529,13 +529,13 @@ fn print_holes(dice: &mut Dice) {
     println!("## Holes\n");
     println!("Nanoseconds of processor time per border half-edge, medians of {ROUNDS} interleaved runs, or of");
     println!("{LARGE_ROUNDS} with a million of them, on buffers that hold what the run before left. A run asks many");
-    println!("times about a small mesh. The kernel is told the columns and needs nothing cleared; its time includes");
+    println!("times where there are few. The kernel is told the columns and needs nothing cleared; its time includes");
     println!("looking at every loop before it writes, and clearing its work buffer, n + 16 × m entries, at the end.");
     println!("The next column is what filling that buffer takes alone. The hash map leads from the vertex where a");
-    println!("border half-edge begins to its number, beside a set of those that were walked, and checks nothing.");
-    println!("Strip and triangles are all rim. The plate, 400 by 250, has few border half-edges for its elements:");
-    println!("most of its time is clearing.\n");
-    println!("| mesh | elements | border half-edges | holes | time | work buffer filled | hash map | ratio |");
+    println!("border half-edge begins to its number, beside a set of those that were walked, both made anew in each");
+    println!("run, and checks nothing. Strips and triangles apart are all rim. The grid, 400 by 250, has few border");
+    println!("half-edges for its elements, which the length of the work buffer goes by.\n");
+    println!("| list | elements | border half-edges | holes | time | work buffer filled | hash map | ratio |");
     println!("|---|---|---|---|---|---|---|---|");
     for (name, list) in lists_with_rims(dice) {
         let HoleTimes { k, count, kernel, clearing, hash_map } = hole_times(&list);
@@ -585,9 +585,10 @@ fn entered_times(list: &List) -> Vec<(&'static str, String, f64)> {
 
 fn print_refused_holes(dice: &mut Dice) {
     let list = strip(499_999, Kinds::Quadrilaterals, dice);
-    println!("The strip of {} quadrilaterals, in order, as built and with one V2e entry changed,", list.rows.len());
-    println!("{LARGE_ROUNDS} interleaved runs:\n");
-    println!("| border half-edges | holes | time |");
+    println!("The strip of {} quadrilaterals, in order, as built and with one V2e entry changed, so", list.rows.len());
+    println!("that nothing follows the first or the last border half-edge, or the same one follows both. Nanoseconds");
+    println!("of processor time per border half-edge, medians of {LARGE_ROUNDS} interleaved runs.\n");
+    println!("| V2e | holes | time |");
     println!("|---|---|---|");
     for (name, outcome, time) in entered_times(&list) {
         println!("| {name} | {outcome} | {time:.1} |");
