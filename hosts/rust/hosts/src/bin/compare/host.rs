@@ -11,8 +11,8 @@ use std::mem;
 use std::ptr;
 
 const SECONDS_PER_COMPARISON: u32 = 120;
-/// Of a million border half-edges too: the call is linear, and one that isn't takes longer.
-const SECONDS_FOR_HOLES: u32 = 10;
+/// Of a million border half-edges too: the call is linear, and one that isn't takes minutes.
+const SECONDS_FOR_HOLES: u32 = 30;
 pub const LARGE: usize = 10_000;
 
 extern "C" {
