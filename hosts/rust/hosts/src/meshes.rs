@@ -206,7 +206,7 @@ pub fn shuffle<T>(of: &mut [T], dice: &mut Dice) {
     }
 }
 
-fn corners_of(row: &[u32; 4]) -> usize {
+pub fn corners_of(row: &[u32]) -> usize {
     if row[3] == 0 {
         3
     } else {

@@ -6,7 +6,7 @@
 //! All buffers are allocated and touched before the first run and used again in every run.
 
 use borzhanu::{build, columns, recover, siblings, work_length, Mesh, Refusal};
-use hosts::meshes::{book, fan, sheet, Dice, Kinds, List};
+use hosts::meshes::{book, corners_of, fan, sheet, Dice, Kinds, List};
 use hosts::raw::taken_apart;
 use hosts::reference::View;
 use hosts::told;
@@ -31,7 +31,7 @@ fn hash_map_build(columns: usize, elements: &[u32], v2e: &mut [u32], e2e: &mut [
     let mut unmatched: HashMap<(u32, u32), usize> = HashMap::with_capacity(elements.len() / 2);
     let mut sides = 0;
     for (f, row) in elements.chunks_exact(4).enumerate() {
-        let corners = if row[3] == 0 { 3 } else { 4 };
+        let corners = corners_of(row);
         sides += corners as u32;
         for i in 0..corners {
             let (origin, destination) = (row[i], row[(i + 1) % corners]);
@@ -51,7 +51,7 @@ fn hash_map_build(columns: usize, elements: &[u32], v2e: &mut [u32], e2e: &mut [
     }
     let mut k = 0;
     for (f, row) in elements.chunks_exact(4).enumerate() {
-        let corners = if row[3] == 0 { 3 } else { 4 };
+        let corners = corners_of(row);
         for i in 0..corners {
             let slot = 4 * f + i;
             if e2e[place(slot)] == 0 {
@@ -71,7 +71,7 @@ fn hash_map_siblings(elements: &[u32], v2e: &mut [u32], siblings: &mut [u32]) {
     v2e.fill(0);
     let mut edges: HashMap<(u32, u32), (usize, usize)> = HashMap::with_capacity(elements.len() / 2);
     for (f, row) in elements.chunks_exact(4).enumerate() {
-        let corners = if row[3] == 0 { 3 } else { 4 };
+        let corners = corners_of(row);
         for i in 0..corners {
             let (origin, destination) = (row[i], row[(i + 1) % corners]);
             let slot = 4 * f + i;
@@ -118,7 +118,7 @@ fn hash_map_holes(elements: &[u32], b2e: &[u32], hole: &mut [u32], lengths: &mut
 fn ends(elements: &[u32], side: u32) -> (u32, u32) {
     let (f, i) = ((side / 8) as usize, (side % 8) as usize);
     let row = &elements[4 * (f - 1)..4 * f];
-    let corners = if row[3] == 0 { 3 } else { 4 };
+    let corners = corners_of(row);
     (row[i - 1], row[i % corners])
 }
 

@@ -104,7 +104,6 @@ fn compare_room(host: &mut Host, tables: &Tables, room: Room) -> Outcome {
 /// The loop of one border half-edge lists its hole, and the lengths add up to k.
 fn compare_loop(host: &mut Host, tables: &Tables, hole: &[u32], lengths: &[u32]) {
     let k = tables.b2e.len();
-    assert_eq!(lengths.iter().sum::<u32>() as usize, k, "the reference's lengths");
     if k == 0 {
         return;
     }
