@@ -20,7 +20,8 @@ use Rattle.rules.specs.Queries.{Mesh, seen, told, columnsAnswer, queryLe
 use Rattle.rules.specs.Queries.{readOpposite, readBorderSide, readVertexEntry, readOrigin, readDestination, opposite, oppositeAnswer, borderNext, vertexBorderAnswer, startSide, onward, ringSides}
 use Rattle.rules.specs.Queries.{ring, neighbours, nextBorder, loopNext, borderLoop, listedAnswer}
 use Rattle.rules.specs.Queries.{ringAnswer, ringLeaves, neighboursAnswer, neighboursLeaves, borderLoopAnswer, borderLoopLeaves}
-use Rattle.rules.specs.Holes.{lists, broken, HoleBuffers, leastOf, holesUpTo, holeOf, holes, holeCount, holeLengths, holesFound, holesFit, holesAnswer, holesLeaves}
+use Rattle.rules.specs.Holes.{lists, broken, HoleBuffers, leastOf, holesUpTo, holeOf, holes, holeCount}
+use Rattle.rules.specs.Holes.{holeLengths, holesFound, holesFit, holesAnswer, holesLeaves}
 
 -- an element's row, or a row of E2e, in three columns or in four; lists are rows joined by ++
 unfoldable pub three : ℕ → ℕ → ℕ → List ℕ
@@ -86,8 +87,8 @@ pub data Case : Type 0 where
   -- the vertices' sides and the map of siblings; with a map of this length, the refusal, which leaves both as they were
   siblingsAre : ℕ → List ℕ → List ℕ → List ℕ → Case
   siblingsRefused : ℕ → List ℕ → ℕ → Answer → Case
-  -- with this V2e, the hole of each border half-edge and the length of each hole, in outputs of an entry more than the border has
-  holesAre : ℕ → List ℕ → List ℕ → List ℕ → List ℕ → Case
+  -- with this V2e, and in each buffer so many entries more than are needed: the hole of each border half-edge and the length of each hole
+  holesAre : ℕ → List ℕ → List ℕ → ℕ → List ℕ → List ℕ → Case
   -- with outputs and a work buffer of these lengths, the refusal, which leaves both outputs as they were, and what it leaves of the work
   holesRefused : ℕ → List ℕ → List ℕ → ℕ → ℕ → ℕ → Answer → List ℕ → Case
 
@@ -137,13 +138,13 @@ holds (siblingsRefused n L long a) =
     let w = siblingRoom n L long in
     let left = siblingsLeaves n L w in
     both (sameAnswer (siblingsAnswer n L w) a) (both (same (left .vertices) (w .vertices)) (same (left .siblings) (w .siblings)))
-holds (holesAre n L V2e hs ls) =
-    let k = borders L in
-    let w = holeRoom (k + 1) (k + 1) (n + 16 * elements L) in
+holds (holesAre n L V2e spare hs ls) =
+    let long = borders L + spare in
+    let w = holeRoom long long (n + 16 * elements L + spare) in
     let left = holesLeaves (openings n L V2e) w in
     both (sameAnswer (holesAnswer (openings n L V2e) w) (gives (length ls) 0))
-    (both (same (left .hole) (hs ++ (9 ∷ [])))
-    (both (same (left .lengths) (ls ++ replicate (k + 1 - length ls) 9)) (same (left .work) (blank (length (w .work))))))
+    (both (same (left .hole) (hs ++ replicate spare 9))
+    (both (same (left .lengths) (ls ++ replicate (long - length ls) 9)) (same (left .work) (blank (length (w .work))))))
 holds (holesRefused n L V2e hole lengths work a work′) =
     let w = holeRoom hole lengths work in
     let left = holesLeaves (openings n L V2e) w in
@@ -298,14 +299,15 @@ cases =
     siblingsRefused 2 (tri 1 2 3) 3 (refused 2 0 0) ∷
     siblingsRefused 3 (tri 1 2 3) 5 (refused 2 0 0) ∷
     siblingsRefused 2 (1 ∷ 2 ∷ 3 ∷ []) 4 (refused 1 0 0) ∷
-    -- document 02, point 11: "gives each border half-edge its hole, numbered from 1 by least border number, with the length of each hole"
-    holesAre 0 [] [] [] [] ∷
-    holesAre 4 tetrahedron (9 ∷ 10 ∷ 11 ∷ 18 ∷ []) [] [] ∷
-    holesAre 4 listing (32 ∷ 8 ∷ 16 ∷ 24 ∷ []) (1 ∷ 1 ∷ 1 ∷ 1 ∷ []) (4 ∷ []) ∷
-    holesAre 7 between (56 ∷ 8 ∷ 16 ∷ 48 ∷ 40 ∷ 24 ∷ 32 ∷ []) (1 ∷ 1 ∷ 2 ∷ 2 ∷ 2 ∷ 1 ∷ 1 ∷ []) (4 ∷ 3 ∷ []) ∷
+    -- document 02, point 11: "gives each border half-edge its hole, numbered from 1 by least border number, with the length of each hole", in
+    -- buffers as long as they must be, and longer ones
+    holesAre 0 [] [] 0 [] [] ∷
+    holesAre 4 tetrahedron (9 ∷ 10 ∷ 11 ∷ 18 ∷ []) 2 [] [] ∷
+    holesAre 4 listing (32 ∷ 8 ∷ 16 ∷ 24 ∷ []) 0 (1 ∷ 1 ∷ 1 ∷ 1 ∷ []) (4 ∷ []) ∷
+    holesAre 7 between (56 ∷ 8 ∷ 16 ∷ 48 ∷ 40 ∷ 24 ∷ 32 ∷ []) 1 (1 ∷ 1 ∷ 2 ∷ 2 ∷ 2 ∷ 1 ∷ 1 ∷ []) (4 ∷ 3 ∷ []) ∷
     -- the two rims of a band; and two rims whose loops V2e makes one
-    holesAre 6 (quad 1 2 5 4 ++ quad 2 3 6 5 ++ quad 3 1 4 6) (40 ∷ 8 ∷ 24 ∷ 16 ∷ 32 ∷ 48 ∷ []) (1 ∷ 2 ∷ 1 ∷ 2 ∷ 1 ∷ 2 ∷ []) (3 ∷ 3 ∷ []) ∷
-    holesAre 6 apart (48 ∷ 8 ∷ 16 ∷ 24 ∷ 32 ∷ 40 ∷ []) (1 ∷ 1 ∷ 1 ∷ 1 ∷ 1 ∷ 1 ∷ []) (6 ∷ []) ∷
+    holesAre 6 (quad 1 2 5 4 ++ quad 2 3 6 5 ++ quad 3 1 4 6) (40 ∷ 8 ∷ 24 ∷ 16 ∷ 32 ∷ 48 ∷ []) 0 (1 ∷ 2 ∷ 1 ∷ 2 ∷ 1 ∷ 2 ∷ []) (3 ∷ 3 ∷ []) ∷
+    holesAre 6 apart (48 ∷ 8 ∷ 16 ∷ 24 ∷ 32 ∷ 40 ∷ []) 0 (1 ∷ 1 ∷ 1 ∷ 1 ∷ 1 ∷ 1 ∷ []) (6 ∷ []) ∷
     -- "It gives 12 if any loop does": by a side for a border, into another loop, into its own middle
     holesRefused 6 apart (24 ∷ 8 ∷ 16 ∷ 48 ∷ 17 ∷ 40 ∷ []) 6 6 38 (refused 12 0 0) (blank 38) ∷
     holesRefused 6 apart (24 ∷ 8 ∷ 16 ∷ 48 ∷ 8 ∷ 40 ∷ []) 6 6 38 (refused 12 0 0) (blank 38) ∷
@@ -330,8 +332,8 @@ unfolding three quad tri blank room left built sameAnswer gave holds every listi
     buildLengths lengthChecks roomCheck buildAnswer after onto buildLeaves recoverLengths recovers recoverAnswer recoverList seen
     columnsAnswer queryLengths asked defined found listed listLeaves
     andThen prepend readAll follow over isBorderCode isHalfEdge isEntry isVertex readOpposite readBorderSide readVertexEntry readOrigin
-    readDestination opposite oppositeAnswer borderNext vertexBorderAnswer startSide onward ringSides ring neighbours nextBorder loopNext borderLoop listedAnswer ringAnswer ringLeaves
-    neighboursAnswer neighboursLeaves borderLoopAnswer borderLoopLeaves
+    readDestination opposite oppositeAnswer borderNext vertexBorderAnswer startSide onward ringSides ring neighbours nextBorder loopNext
+    borderLoop listedAnswer ringAnswer ringLeaves neighboursAnswer neighboursLeaves borderLoopAnswer borderLoopLeaves
     siblingRoom workAfter sibling siblingEntry sibhe v2he siblingLengths siblingsAnswer siblingsLeaves
     has holeRoom openings apart between lists broken leastOf holesUpTo holeOf holes holeCount holeLengths holesFound holesFit holesAnswer holesLeaves
 cases-hold = tt

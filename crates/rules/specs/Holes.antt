@@ -1,4 +1,4 @@
--- Document 02, point 11: "Holes counted to the last edge", "for every content": by the border loops of all b.
+-- Document 02, point 11: "Holes counted to the last edge"; like the queries of document 01 "for every content": by the border loops of all b.
 -- Assumes nothing.
 use mathlib.Core.Path.{_≡_}
 use mathlib.Core.Bool.{Bool, true, false}
@@ -72,7 +72,7 @@ module _ (M : Mesh) where
       checkFound (firstNumber k (λ b. broken (borderLoop M b))) (refused 12 0 0)
       (elim (both (leb k (length hole)) (leb k (length lengths))) [ true ↦ gives holeCount 0 | false ↦ refused 13 k 0 ])
 
-  -- check 2: that of a query, and a work buffer as long as build's
+  -- check 2: that of a query, and document 01's "A call added by a later request takes .. this work buffer"
   unfoldable pub holesFit : HoleBuffers → Bool
   holesFit w = both (queryLengths M) (leb (M .n + 16 * elements (M .list)) (length (w .work)))
 
