@@ -45,7 +45,8 @@ use Rattle.borzhanu.specs.Walkers.{walkerIn}
 use Rattle.answer.specs.Packing.{told}
 use Rattle.runs.specs.Contracts.{buffers, of}
 use Rattle.runs.specs.Bounds.{build-fits, columns-fits, recover-fits, siblings-fits, opposite-fits, next-fits, previous-fits, element-fits, origin-fits, destination-fits}
-use Rattle.runs.specs.Bounds.{across-fits, half-edge-border-fits, vertex-border-fits, ring-fits, neighbours-fits, border-loop-fits, holes-fits, start-fits, step-fits}
+use Rattle.runs.specs.Bounds.{across-fits, half-edge-border-fits, vertex-border-fits, ring-fits, neighbours-fits}
+use Rattle.runs.specs.Bounds.{border-loop-fits, holes-fits, start-fits, step-fits}
 
 module _ (κs : Lfts 5) (a : Dens κs build-kinds.ps) (r : resT build-kinds.r κs .Denot) (s : AtExit (endedOf 5 build-kinds.ps build-kinds.r) κs) where
   pub build-told : build-reads.Post κs a r s → unpacked r ≡ buildAnswer (a .0) (a .1 .0 .now) (buffers κs a)

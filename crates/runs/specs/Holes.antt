@@ -1,9 +1,9 @@
 -- Document 02, point 11, as theorems about runs of the call: "Lengths add up to exactly k, and two half-edges have one hole exactly when one's
 -- loop lists the other. It gives 12 if any loop does; each output needs k entries." They hold of any tables. On built tables the call always
--- answers, given room.
+-- answers, given room, and never gives 12.
 -- Assumes nothing.
 use mathlib.Core.Path.{_≡_, refl, ap, sym, _∙_}
-use mathlib.Core.Bool.{true, false}
+use mathlib.Core.Bool.{Bool, true, false}
 use mathlib.Core.Logic.{_⊎_, inl, inr, _↔_}
 use mathlib.Core.Option.{none, some}
 use mathlib.Core.List.{List, _++_}
@@ -21,10 +21,13 @@ use Rattle.rules.specs.Pairing.{sizesFit}
 use Rattle.rules.specs.Refusals.{Answer, gives, refused, lengthChecks, after, onto}
 use Rattle.rules.specs.Queries.{Mesh, queryLengths, asked, borderLoop, borderLoopAnswer, borderLoopLeaves}
 use Rattle.rules.specs.Holes.{HoleBuffers, leastOf, holeOf, holes, holeCount, holeLengths, holesFound, holesFit, holesAnswer, holesLeaves}
-use Rattle.theory.specs.Answers.{past-lengths}
+use Rattle.theory.specs.Answers.{past-lengths, never-gives, never-refused}
 use Rattle.theory.specs.Calls.{admitted}
+use Rattle.theory.specs.Sound.{Sound}
+use Rattle.theory.specs.Served.{Served}
 use Rattle.theory.specs.Reaching.{In, itself, LoopOf, loop-of}
-use Rattle.theory.specs.Holes.{AllBack, room, means-room, found-broken, found-back, passed-found, least-of, least-less, hole-in, one-hole, of-one-hole, lengths-total, loop-length}
+use Rattle.theory.specs.Holes.{AllBack, room, means-room, found-broken, found-back, passed-found, least-of, least-less}
+use Rattle.theory.specs.Holes.{hole-in, one-hole, of-one-hole, lengths-total, loop-length}
 use Rattle.runs.specs.Runs.{HolesRun, BorderLoopRun, LeftBy}
 use Rattle.runs.specs.OnBuilt.{Written, written, left-built, left-served}
 
@@ -133,7 +136,8 @@ module _ (M : Mesh) (w : HoleBuffers) (a : Answer) (w′ : HoleBuffers) (run : H
     unfolding onto holeLengths
     length-entry i l =
         ap (λ (y : List ℕ). at y i) (left .1)
-        ∙ List·getD-append (holeLengths M) _ 0 i (omega (arith, x .number, length-tab (holeCount M) (λ i. countNumbers k (λ b. eqb (holeOf M b) (i + 1)))))
+        ∙ List·getD-append (holeLengths M) _ 0 i
+        (omega (arith, x .number, length-tab (holeCount M) (λ i. countNumbers k (λ b. eqb (holeOf M b) (i + 1)))))
 
     checks : (y : Answer) → asked M y ≡ y
     unfolding asked lengthChecks
@@ -154,7 +158,8 @@ module _ (M : Mesh) (w : HoleBuffers) (a : Answer) (w′ : HoleBuffers) (run : H
 
     -- of two holes the one with the lesser number has the lesser least border half-edge
     pub in-order : (b c : ℕ) → In M b → In M c → at (w′ .hole) (b - 1) < at (w′ .hole) (c - 1)
-        → (d : ℕ) × In M d × (at (w′ .hole) (d - 1) ≡ at (w′ .hole) (b - 1)) × ((f : ℕ) → In M f → at (w′ .hole) (f - 1) ≡ at (w′ .hole) (c - 1) → d < f)
+        → (d : ℕ) × In M d × (at (w′ .hole) (d - 1) ≡ at (w′ .hole) (b - 1))
+        × ((f : ℕ) → In M f → at (w′ .hole) (f - 1) ≡ at (w′ .hole) (c - 1) → d < f)
     in-order b c i j l =
         let p = least-of M b i (x .back b i) in
         let d = leastOf M b in (
@@ -188,15 +193,36 @@ module _ (M : Mesh) (w : HoleBuffers) (a : Answer) (w′ : HoleBuffers) (run : H
 
 -- on the tables that a run of build left
 module _ (n : ℕ) (L : List ℕ) (M : Mesh) (y : LeftBy n L M) (w : HoleBuffers) (a : Answer) (w′ : HoleBuffers) (run : HolesRun M w a w′) where
+  on : Served n L M
+  on = left-served n L M y
+
+  all-back : AllBack M
+  all-back b (from, to) = let (bs, e, l) = on .loops b (from, omega (arith, on .number)) in (bs, e)
+
   -- it always answers, given room
   pub always-answers : n + 16 * elements L ≤ length (w .work) → length (M .border) ≤ length (w .hole) → length (M .border) ≤ length (w .lengths)
       → a ≡ gives (holeCount M) 0
   unfolding asked holesFit
   always-answers enough i j =
-      let on = left-served n L M y in
       let (s, q) = admitted (sizesFit (M .n) (M .list)) (queryLengths M) (on .checks) in
       let vertices : M .n ≡ n = ap (λ (N : Mesh). N .n) (left-built n L M y) in
       let rows : elements (M .list) ≡ elements L = ap elements (on .list) in
       let work = means-le (M .n + 16 * elements (M .list)) (length (w .work)) .shows (omega arith) in
-      answers M w a w′ run (rw s tt) (both-pass (queryLengths M) _ (rw q tt) work)
-      (λ b (from, to). let (bs, e, l) = on .loops b (from, omega (arith, on .number)) in (bs, e)) i j
+      answers M w a w′ run (rw s tt) (both-pass (queryLengths M) _ (rw q tt) work) all-back i j
+
+  -- "12 never comes", whatever the lengths
+  pub twelve-never : Sound a
+  unfolding holesAnswer lengthChecks
+  twelve-never p q z =
+      checked (sizesFit (M .n) (M .list)) (holesFit M w) _
+      (λ p q e. roomy (room M (w .hole) (w .lengths)) p q (sym (found-back M (w .hole) (w .lengths) all-back) ∙ e))
+      p q (sym (run .answer) ∙ z)
+    where
+      roomy : (b : Bool) → Sound (elim b [ true ↦ gives (holeCount M) 0 | false ↦ refused 13 (length (M .border)) 0 ])
+      roomy true = never-gives 12 (holeCount M) 0
+      roomy false = never-refused 12 13 (length (M .border)) 0 (λ e. omega arith)
+
+      checked : (sizes lengths : Bool) (rest : Answer) → Sound rest → Sound (lengthChecks sizes lengths rest)
+      checked true true rest f = f
+      checked true false rest f = never-refused 12 2 0 0 (λ e. omega arith)
+      checked false lengths rest f = never-refused 12 1 0 0 (λ e. omega arith)

@@ -2,9 +2,9 @@
 --
 -- "On built tables opposite undoes itself and 12 never comes, but to a walker record that these calls didn't make on them"; "the ring of a
 -- vertex lists every element there exactly once"; a border loop "lists at most k, none twice", and by document 02, point 11, "exactly the
--- border half-edges reachable from b by next"; a walker's calls "hand out the ring in order, then 0 for ever with the record unchanged". Also: neighbours are the vertices joined to v, each once, the border test tells a vertex as
--- inner, rim or unused exactly where it is, next and previous of a side undo each other, and next first comes back after as many steps as
--- the element has sides.
+-- border half-edges reachable from b by next"; a walker's calls "hand out the ring in order, then 0 for ever with the record unchanged".
+-- Also: neighbours are the vertices joined to v, each once, the border test tells a vertex as inner, rim or unused exactly where it is, next
+-- and previous of a side undo each other, and next first comes back after as many steps as the element has sides.
 -- Assumes nothing.
 use mathlib.Core.Path.{_≡_, refl, ap, sym, subst, _∙_}
 use mathlib.Core.Bool.{Bool, true, false}

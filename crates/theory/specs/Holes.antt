@@ -15,13 +15,13 @@ use Rattle.lists.specs.Search.{at, count, total}
 use Rattle.lists.specs.SearchLaws.{le-not-lt, count-pass, count-fail, count-le, count-inj, at-tab, Met, means-has}
 use Rattle.lists.specs.Totals.{count-all, count-by, Names, names-count}
 use Rattle.rules.specs.Elements.{firstNumber}
-use Rattle.rules.specs.Elements.{firstNumber}
 use Rattle.rules.specs.Refusals.{gives, refused}
 use Rattle.rules.specs.Queries.{Mesh, borderLoop}
 use Rattle.rules.specs.Holes.{lists, broken, nextTimes, Reachable, leastOf, holesUpTo, holeOf, holeCount, holeLengths, holesFound}
 use Rattle.theory.specs.Least.{FirstNumber, nobody, somebody, first-number, means-no-number, means-some-number}
 use Rattle.theory.specs.Answers.{check-clear, check-refuses, past-check}
-use Rattle.theory.specs.Reaching.{In, times-on, reached-in, itself, further, nonempty, after, comes-back, short, once, listed-reached, reached-listed, has-loop}
+use Rattle.theory.specs.Reaching.{In, times-on, reached-in, itself, further, nonempty, after, comes-back, short, once}
+use Rattle.theory.specs.Reaching.{listed-reached, reached-listed, has-loop}
 
 module _ (M : Mesh) where
   -- the loop of b comes back
@@ -227,6 +227,7 @@ module _ (M : Mesh) (hole lengths : List ℕ) where
       not-broken (some bs) f = (bs, refl)
       not-broken none f = absurd (f tt)
 
-      go : (b : Bool) → elim b [ true ↦ gives (holeCount M) 0 | false ↦ refused 13 (length (M .border)) 0 ] ≡ gives h e → (b ≡ true) × (h ≡ holeCount M) × (e ≡ 0)
+      go : (b : Bool) → elim b [ true ↦ gives (holeCount M) 0 | false ↦ refused 13 (length (M .border)) 0 ] ≡ gives h e
+          → (b ≡ true) × (h ≡ holeCount M) × (e ≡ 0)
       go true q = let n : holeCount M ≡ h = cc in let z : 0 ≡ e = cc in (refl, sym n, sym z)
       go false q = let z : _≡_ {A = ℕ} 0 1 = cc in absurd (omega arith)
