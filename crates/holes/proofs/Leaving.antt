@@ -64,12 +64,13 @@ module _ (M : Mesh) (hole lengths : List ℕ) where
         (λ i l. at-part k h W i l ∙ s .measured i l)
         ∙ ap (λ (j : ℕ). tab j (λ i. countNumbers k (λ b. eqb (holeOf M b) (i + 1)))) (s .many)
 
-    pub answers : {a : Answer} {hole′ lengths′ : List ℕ} → room M hole lengths ≡ true → a ≡ gives h 0 → hole′ ≡ onto (part 0 k W) hole → lengths′ ≡ onto (part k h W) lengths →
-        Outcome M a hole lengths hole′ lengths′
+    pub answers : {a : Answer} {hole′ lengths′ : List ℕ} → room M hole lengths ≡ true → a ≡ gives h 0
+        → hole′ ≡ onto (part 0 k W) hole → lengths′ ≡ onto (part k h W) lengths → Outcome M a hole lengths hole′ lengths′
     unfolding after holeCount
     answers e f p q =
         record {
           answer = f ∙ ap (λ (x : ℕ). gives x 0) (s .many) ∙ sym (found-back M hole lengths all-back ∙ rw e);
           holes-left = p ∙ ap (λ (x : List ℕ). onto x hole) holes-are ∙ sym (ap (λ (x : Answer). after x (onto (holes M) hole) hole) f);
-          lengths-left = q ∙ ap (λ (x : List ℕ). onto x lengths) lengths-are ∙ sym (ap (λ (x : Answer). after x (onto (holeLengths M) lengths) lengths) f);
+          lengths-left =
+              q ∙ ap (λ (x : List ℕ). onto x lengths) lengths-are ∙ sym (ap (λ (x : Answer). after x (onto (holeLengths M) lengths) lengths) f);
         }

@@ -3,7 +3,7 @@
 -- Assumes nothing.
 use mathlib.Core.Path.{_≡_, refl, ap, sym, subst, _∙_}
 use mathlib.Core.Logic.{_⊎_, inl, inr}
-use mathlib.Core.Option.{none, some}
+use mathlib.Core.Option.{some}
 use mathlib.Core.List.{List}
 use Prim.Native.Nat.{ℕ, suc, _+_, _-_, _≤_, _<_}
 use native.Mathlib.Omega.{arith}
@@ -47,7 +47,8 @@ module _ (M : Mesh) where
     pub over : Over M h U W
     pub up-to : (z : ℕ) → In M z → mark M W z ≤ h
     pub pending : (z : ℕ) → In M z → mark M W z ≡ 0 → Pending M W z
-    pub onward : (z y : ℕ) → In M z → (mark M W z ≡ 0 → ⊥) → nextBorder M z ≡ some y → ((mark M W z ≡ h) × (y ≡ x)) ⊎ ((mark M W y ≡ mark M W z) × (y ≡ b → ⊥))
+    pub onward : (z y : ℕ) → In M z → (mark M W z ≡ 0 → ⊥) → nextBorder M z ≡ some y
+        → ((mark M W z ≡ h) × (y ≡ x)) ⊎ ((mark M W y ≡ mark M W z) × (y ≡ b → ⊥))
     pub reached : (z : ℕ) → In M z → mark M W z ≡ h → Reachable M b z
     pub begun : ((x ≡ b) × ((z : ℕ) → In M z → mark M W z ≡ h → ⊥)) ⊎ (mark M W b ≡ h)
     pub steps : nextTimes M c b ≡ some x
@@ -80,7 +81,9 @@ module _ (M : Mesh) where
         none-yet z i e = omega (arith, o .closed .up-to z i, o .positive)
 
         no-mark : (j : ℕ) → j < k → at U j ≡ h → ⊥
-        no-mark j l e = let s : j + 1 - 1 ≡ j = omega arith in none-yet (j + 1) (omega arith, omega arith) (ap (markOf k) (ap (at U) s ∙ e) ∙ mark-number k h (o .most))
+        no-mark j l e =
+            let s : j + 1 - 1 ≡ j = omega arith in
+            none-yet (j + 1) (omega arith, omega arith) (ap (markOf k) (ap (at U) s ∙ e) ∙ mark-number k h (o .most))
 
     -- x has no mark yet, and gets it
     module _ (W : List ℕ) (x c : ℕ) (w : Walk b h U W x c) (free : mark M W x ≡ 0) where
@@ -161,7 +164,8 @@ module _ (M : Mesh) where
           over : Over M h U W′
           over z i = go (decide (means-eq z x)) (w .over z i)
             where
-              go : (z ≡ x) ⊎ (z ≡ x → ⊥) → (mark M W z ≡ mark M U z) ⊎ ((mark M U z ≡ 0) × (mark M W z ≡ h)) → (mark M W′ z ≡ mark M U z) ⊎ ((mark M U z ≡ 0) × (mark M W′ z ≡ h))
+              go : (z ≡ x) ⊎ (z ≡ x → ⊥) → (mark M W z ≡ mark M U z) ⊎ ((mark M U z ≡ 0) × (mark M W z ≡ h))
+                  → (mark M W′ z ≡ mark M U z) ⊎ ((mark M U z ≡ 0) × (mark M W′ z ≡ h))
               go (inl q) (inl f) = inr (sym f ∙ ap (mark M W) q ∙ free, ap (mark M W′) q ∙ here)
               go (inl q) (inr (f, g)) = inr (f, ap (mark M W′) q ∙ here)
               go (inr d) (inl f) = inl (there z (i .0) d ∙ f)
@@ -180,7 +184,8 @@ module _ (M : Mesh) where
                     record { above = rw same (p .above); next = rw same (p .next) }
               ]
 
-          onward : (z v : ℕ) → In M z → nextBorder M z ≡ some v → (z ≡ x) ⊎ ((mark M W′ v ≡ mark M W′ z) × (v ≡ b → ⊥)) → ((mark M W′ z ≡ h) × (v ≡ y)) ⊎ ((mark M W′ v ≡ mark M W′ z) × (v ≡ b → ⊥))
+          onward : (z v : ℕ) → In M z → nextBorder M z ≡ some v → (z ≡ x) ⊎ ((mark M W′ v ≡ mark M W′ z) × (v ≡ b → ⊥))
+              → ((mark M W′ z ≡ h) × (v ≡ y)) ⊎ ((mark M W′ v ≡ mark M W′ z) × (v ≡ b → ⊥))
           onward z v i f (inl q) =
               let g = sym f ∙ ap (nextBorder M) q ∙ e in let r : v ≡ y = cc in inl (ap (mark M W′) q ∙ here, r)
           onward z v i f (inr q) = inr q
@@ -219,7 +224,8 @@ module _ (M : Mesh) where
           start (inl (e, f)) z = n e
           start (inr e) z = omega (arith, o .positive)
 
-          on : (z y : ℕ) → In M z → (mark M W z ≡ 0 → ⊥) → nextBorder M z ≡ some y → ((mark M W z ≡ h) × (y ≡ x)) ⊎ ((mark M W y ≡ mark M W z) × (y ≡ b → ⊥)) → (In M y × (mark M W y ≡ 0 → ⊥)) × (y ≡ b → ⊥)
+          on : (z y : ℕ) → In M z → (mark M W z ≡ 0 → ⊥) → nextBorder M z ≡ some y
+              → ((mark M W z ≡ h) × (y ≡ x)) ⊎ ((mark M W y ≡ mark M W z) × (y ≡ b → ⊥)) → (In M y × (mark M W y ≡ 0 → ⊥)) × (y ≡ b → ⊥)
           on z y i d f (inl (p, q)) = ((next-in M z y f, λ g. closed (ap (mark M W) (sym q) ∙ g)), λ g. n (sym q ∙ g))
           on z y i d f (inr (p, q)) = ((next-in M z y f, λ g. d (sym p ∙ g)), q)
 
@@ -244,13 +250,15 @@ module _ (M : Mesh) where
               go (inr (f, g)) = f
 
           once : 0 < c
-          once = omega (arith, w .counted, count-lt (λ j. eqb (at W j) h) (b - 1) k (omega (arith, o .inside)) (means-eq (at W (b - 1)) h .shows start-entry))
+          once =
+              let here = means-eq (at W (b - 1)) h .shows start-entry in
+              omega (arith, w .counted, count-lt (λ j. eqb (at W j) h) (b - 1) k (omega (arith, o .inside)) here)
 
           looped : Looped M b h c U W
           looped =
               let s : suc (c - 1) ≡ c = omega (arith, once) in
               record {
-                back = has-loop M b (c - 1) (o .inside) (omega (arith, once, w .counted, count-bound (λ j. eqb (at W j) h) k)) (rw s (w .steps ∙ ap some same));
+                back = has-loop M b (c - 1) (o .inside) (omega (arith, once, walk-short b h U W x c w)) (rw s (w .steps ∙ ap some same));
                 over = w .over;
                 closed = record { up-to = w .up-to; alike = alike; pending = w .pending };
                 reached = w .reached;

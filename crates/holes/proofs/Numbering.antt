@@ -184,7 +184,8 @@ module _ (M : Mesh) where
                 measured = measured;
               }
             where
-              known : (z : ℕ) → In M z → (mark M W z ≡ 0 → ⊥) → (mark M W z ≡ mark M U z) ⊎ ((mark M U z ≡ 0) × (mark M W z ≡ h + 1)) → Known M (b + 1) W′ z
+              known : (z : ℕ) → In M z → (mark M W z ≡ 0 → ⊥)
+                  → (mark M W z ≡ mark M U z) ⊎ ((mark M U z ≡ 0) × (mark M W z ≡ h + 1)) → Known M (b + 1) W′ z
               known z j d (inl e) =
                   let y = s .known z j (λ q. d (e ∙ q)) in
                   record { back = y .back; earlier = omega (arith, y .earlier); hole = same-mark z j ∙ e ∙ y .hole }

@@ -1,7 +1,7 @@
 -- The whole call: refused by the checks of a query, or for its work buffer; or what checks 12 and 13 say, with the work buffer cleared.
 -- Assumes nothing.
 use mathlib.Core.Path.{_≡_, refl, ap, sym, _∙_}
-use mathlib.Core.Bool.{Bool, true, false}
+use mathlib.Core.Bool.{Bool, true}
 use mathlib.Core.List.{List}
 use Prim.Native.Nat.{ℕ, _+_, _*_, _≤_, _<_}
 use native.Mathlib.Omega.{arith}
@@ -61,5 +61,6 @@ module _ (M : Mesh) (hole lengths work : List ℕ) where
     done {work′ = work′} h m (o, e) z =
         let (s, q) = fit h in
         let enough = true-of long (means-le _ _ .shows m) in
-        let (f, g) = calls.cleared leaves sizes (both (queryLengths M) long) (holesFound M hole lengths) work (s, rw (q, enough)) (o .answer) (z ∙ ap (λ (k : ℕ). replicate k 0) e) in
+        let zeros = z ∙ ap (λ (k : ℕ). replicate k 0) e in
+        let (f, g) = calls.cleared leaves sizes (both (queryLengths M) long) (holesFound M hole lengths) work (s, rw (q, enough)) (o .answer) zeros in
         (f, (λ i. lentHoles (o .holes-left i) (o .lengths-left i) work′) ∙ g)

@@ -10,7 +10,7 @@ use lib.Dec.{T, ltb, eqb, T-not, nltb→le}
 use lib.ListN.{length, set, replicate, length-append, length-set, List·getD-append}
 use lib.Seq.{getD-at, getD-set-same, getD-set-other, ext-getD}
 use Rattle.lists.specs.TestLaws.{Test, pass, fail, test, true-of, false-of, Means, means-lt, means-eq, means-not, means-either, decide}
-use Rattle.lists.specs.Tests.{either, has}
+use Rattle.lists.specs.Tests.{has}
 use Rattle.lists.specs.Search.{at, least, count, upto, tab, zeros}
 
 pub lt-or-eq : (j n : ℕ) → j < suc n → (j < n) ⊎ (j ≡ n)

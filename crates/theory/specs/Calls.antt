@@ -53,7 +53,8 @@ early true false long rest work r f = (f rest, refl)
 early false query long rest work r f = (f rest, refl)
 
 pub unadmitted : {B : Type 0} (leaves : Answer → List ℕ → B) (sizes query long : Bool) (rest : Answer) (work : List ℕ) {a : Answer} (r : ℕ) →
-    ((x : Answer) → lengthChecks sizes query x ≡ refused r 0 0) → a ≡ refused r 0 0 → Whole leaves sizes (both query long) rest work a (leaves (refused r 0 0) work)
+    ((x : Answer) → lengthChecks sizes query x ≡ refused r 0 0) → a ≡ refused r 0 0
+    → Whole leaves sizes (both query long) rest work a (leaves (refused r 0 0) work)
 unadmitted leaves sizes query long rest work r f e =
     let (p, q) = early sizes query long rest work r f in whole leaves sizes (both query long) rest work e p q
 

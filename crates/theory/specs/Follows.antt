@@ -174,7 +174,8 @@ module _ (step : ℕ → Option ℕ) where
       (record { first = sym z; steps = λ i h. absurd (omega arith); positive = λ i h. absurd (omega arith) }, omega arith)
 
   -- from another number: it comes first, and then what following from the next one lists
-  first-listed : (j x y : ℕ) (o : List ℕ) → (x ≡ 0 → ⊥) → step x ≡ some y → Course step y o × (length o ≤ j) → Course step x (x ∷ o) × (length (x ∷ o) ≤ suc j)
+  first-listed : (j x y : ℕ) (o : List ℕ) → (x ≡ 0 → ⊥) → step x ≡ some y → Course step y o × (length o ≤ j)
+      → Course step x (x ∷ o) × (length (x ∷ o) ≤ suc j)
   first-listed j x y o d p (c, h) = (record { first = refl; steps = steps; positive = positive }, omega arith)
     where
       steps : (i : ℕ) → i < suc (length o) → step (at (x ∷ o) i) ≡ some (at o i)
@@ -207,7 +208,8 @@ module _ (step : ℕ → Option ℕ) where
       go (inr d) = absurd (nothing (sym (follow-on-none x d) ∙ e))
   course (suc j) x o e = go (zero-or x) (λ y r. course j y r)
     where
-      go : (x ≡ 0) ⊎ (x ≡ 0 → ⊥) → ((y : ℕ) (r : List ℕ) → follow step j y ≡ some r → Course step y r × (length r ≤ j)) → Course step x o × (length o ≤ suc j)
+      go : (x ≡ 0) ⊎ (x ≡ 0 → ⊥) → ((y : ℕ) (r : List ℕ) → follow step j y ≡ some r → Course step y r × (length r ≤ j))
+          → Course step x o × (length o ≤ suc j)
       go (inl z) later = none-listed (suc j) x o z e
       go (inr d) later =
           let (y, p, q) = and-some (step x) (λ y. prepend x (follow step j y)) o (sym (follow-rest j x d) ∙ e) in
@@ -220,6 +222,7 @@ module _ (step : ℕ → Option ℕ) where
   never P f zero x p = follow-on-none x (f x p .0)
   never P f (suc j) x p = follow-rest j x (f x p .0) ∙ go (either-read (step x)) (λ y e. never P f j y (f x p .1 y e))
     where
-      go : ((y : ℕ) × (step x ≡ some y)) ⊎ (step x ≡ none) → ((y : ℕ) → step x ≡ some y → follow step j y ≡ none) → andThen (step x) (λ y. prepend x (follow step j y)) ≡ none
+      go : ((y : ℕ) × (step x ≡ some y)) ⊎ (step x ≡ none) → ((y : ℕ) → step x ≡ some y → follow step j y ≡ none)
+          → andThen (step x) (λ y. prepend x (follow step j y)) ≡ none
       go (inl (y, e)) later = and-then _ e ∙ ap (prepend x) (later y e)
       go (inr e) later = and-none _ e

@@ -2,7 +2,6 @@
 -- where some steps of next, at most k, lead back to it.
 -- Assumes nothing.
 use mathlib.Core.Path.{_≡_, refl, ap, sym, subst, _∙_}
-use mathlib.Core.Bool.{true, false}
 use mathlib.Core.Logic.{_⊎_, inl, inr, _↔_}
 use mathlib.Core.Option.{none, some}
 use mathlib.Core.List.{List, [], _∷_}
@@ -201,7 +200,8 @@ module _ (M : Mesh) where
   has-loop b i h l e = leads-back b i (length (M .border)) b (λ z. omega (arith, h .0)) l e
 
   -- and none where b is among border half-edges whose next ones are among them too, or can't be read, and aren't b
-  pub no-loop : (P : ℕ → Type 0) (b : ℕ) → P b → ((x : ℕ) → P x → In x × ((y : ℕ) → nextBorder M x ≡ some y → P y × (y ≡ b → ⊥))) → borderLoop M b ≡ none
+  pub no-loop : (P : ℕ → Type 0) (b : ℕ) → P b
+      → ((x : ℕ) → P x → In x × ((y : ℕ) → nextBorder M x ≡ some y → P y × (y ≡ b → ⊥))) → borderLoop M b ≡ none
   unfolding borderLoop
   no-loop P b p f = never (loopNext M b) P (λ x q. (λ z. omega (arith, f x q .0 .0), λ y e. on x y q (loop-step b x y e))) (length (M .border)) b p
     where

@@ -88,7 +88,8 @@ returns-3 c =
     let wrote = found last in
     let passed = fitted wrote in
     let asked = checked (passed .before) in
-    done (meshOf (begun asked)) _ _ _ (asked .length-refusal .ensures) (passed .before .before .if1 .left) (enough passed) (wrote .holes-fit .ensures) (last .clear .ensures)
+    done (meshOf (begun asked)) _ _ _ (asked .length-refusal .ensures) (passed .before .before .if1 .left) (enough passed)
+    (wrote .holes-fit .ensures) (last .clear .ensures)
 
 pub holes-spec : {M : Type 1} → statement M
 holes-spec =

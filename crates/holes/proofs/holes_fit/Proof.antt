@@ -1,7 +1,7 @@
 -- `holes::holes_fit` meets its contract.
 -- Assumes nothing.
 use mathlib.Core.Path.{_≡_, refl, sym, _∙_}
-use mathlib.Core.Bool.{true, false}
+use mathlib.Core.Bool.{true}
 use native.Mathlib.Omega.{arith}
 use borrow.Author.Needs.{needs}
 use borrow.Author.Tests.{not-true, not-false}
@@ -111,7 +111,10 @@ returns-3 c =
     let test = asked wrote in
     let (hole, lengths) = wrote .write .ensures in
     let w = wrote .before .before .before .before .wide .ensures in
-    (answers (meshOf (begun (marked test))) _ _ _ _ (found test) (enough (wrote .before .before .before .before .before)) (c .give .ensures) hole (rw w at lengths), marked test .number-holes .ensures .1)
+    let some-room = enough (wrote .before .before .before .before .before) in (
+      answers (meshOf (begun (marked test))) _ _ _ _ (found test) some-room (c .give .ensures) hole (rw w at lengths),
+      marked test .number-holes .ensures .1,
+    )
 
 pub holes-fit-spec : {M : Type 1} → statement M
 holes-fit-spec =
