@@ -9,7 +9,8 @@ use lib.Dec.{T, leb, ltb, eqb}
 use lib.ListN.{length}
 use Rattle.lists.specs.Tests.{both, either}
 use Rattle.lists.specs.Search.{at}
-use Rattle.rules.specs.Elements.{maxVertex, maxElement, elements, corner, sides, element, Side, origin, destination, next, firstSide, someNumber, countNumbers}
+use Rattle.rules.specs.Elements.{maxVertex, maxElement, elements, corner, sides, element, Side, origin, destination, next, firstSide}
+use Rattle.rules.specs.Elements.{someNumber, countNumbers}
 
 -- two sides run alike between the same two vertices; "in opposite directions"; "join the same two vertices"
 unfoldable pub alike : List ℕ → ℕ → ℕ → Bool

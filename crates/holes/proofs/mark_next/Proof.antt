@@ -75,8 +75,7 @@ same-length c = search needs
 returns-2 : tie.Need-returns-2
 returns-2 c =
     let done = c .before .before .before in
-    let asked = free done in
-    let (M, size, i, m) = begun (read asked) .pre in (
+    let asked = free done in (
       (λ M size i m.
           let o = unmarked asked M size in
           never-back M _ _ _ m i o _ _ (done .mark-loop .ensures M size (opens M _ _ _ m i o)) (c .if2 .taken)),

@@ -40,7 +40,7 @@ cast-k c = let fit = c .before .before .before .before .before .pre .0 in omega 
 
 -- k and the next border half-edge are small
 small : (c : tie.In-loop Inv-loop μ-loop) → let s = begun (c .before) in
-    (length (s .args .b2e .now) ≤ 4_000_000) × (c .before .loop .b < length (s .args .b2e .now)) × (length (s .args .b2e .now) ≤ length (s .args .work .now))
+    let k = length (s .args .b2e .now) in (k ≤ 4_000_000) × (c .before .loop .b < k) × (k ≤ length (s .args .work .now))
 small c = let (fit, room) = begun (c .before) .pre in omega (arith, fit .border, fit .elements, c .loop-test .taken)
 
 loop-holds : tie.Need-loop-holds Inv-loop μ-loop
@@ -65,7 +65,8 @@ returns : tie.Need-returns Inv-loop μ-loop
 returns c =
     let next = c .before .before in
     let t = turn next in (
-      one-unread (meshOf (begun t)) _ _ (omega arith, omega (arith, small (next .before))) (broken-of (next .next-border .ensures) (c .enum-told .given .1)),
+      one-unread (meshOf (begun t)) _ _ (omega arith, omega (arith, small (next .before)))
+          (broken-of (next .next-border .ensures) (c .enum-told .given .1)),
       t .loop .inv .2,
     )
 
