@@ -160,6 +160,7 @@ pub fn part_start(numbers: &[u32; 128], head: usize, part: usize) -> usize
     start
 }
 
+// The entries of a part, counted from 0.
 pub fn part(numbers: &[u32; 128], head: usize, i: usize) -> &[u32]
     requires { ⌜ (head ≤ 120) × (i ≤ 3) ⌝ }
 {
@@ -190,6 +191,25 @@ pub fn work_after(refusal: u32, x: u32) -> u32 {
         return x;
     }
     0
+}
+
+// A refusal leaves both outputs, which were filled with x.
+fn is_kept(refusal: u32, first: &[u32], second: &[u32], x: u32) -> bool {
+    if refusal == 0 {
+        return true;
+    }
+    if !is_all(first, x) {
+        return false;
+    }
+    is_all(second, x)
+}
+
+// Whether two outputs, filled with x, and a work buffer, filled with y, are as they must be after this refusal, or after an answer.
+pub fn is_clean(refusal: u32, first: &[u32], second: &[u32], x: u32, work: &[u32], y: u32) -> bool {
+    if !is_kept(refusal, first, second, x) {
+        return false;
+    }
+    is_all(work, work_after(refusal, y))
 }
 
 pub fn emit(out: &[u8], count: usize) {

@@ -57,27 +57,9 @@ fn emit_answer(a: Answer, hole: &[u32], lengths: &[u32]) {
     }
 }
 
-// A refusal leaves both outputs.
-fn is_kept(refusal: u32, hole: &[u32], lengths: &[u32]) -> bool {
-    if refusal == 0 {
-        return true;
-    }
-    if !cases::is_all(hole, LEFT) {
-        return false;
-    }
-    cases::is_all(lengths, LEFT)
-}
-
-fn is_clean(refusal: u32, hole: &[u32], lengths: &[u32], work: &[u32]) -> bool {
-    if !is_kept(refusal, hole, lengths) {
-        return false;
-    }
-    cases::is_all(work, cases::work_after(refusal, WORK))
-}
-
 fn report(a: Answer, hole: &[u32], lengths: &[u32], work: &[u32]) {
     let refusal = cases::numbers_of(a)[0];
-    let clean = is_clean(refusal, hole, lengths, work);
+    let clean = cases::is_clean(refusal, hole, lengths, LEFT, work, WORK);
     emit_answer(a, hole, lengths);
     cases::emit_clean(clean);
 }

@@ -39,27 +39,9 @@ fn emit_answer(a: Answer, v2e: &[u32], sibhe: &[u32]) {
     }
 }
 
-// A refusal leaves both maps.
-fn is_kept(refusal: u32, v2e: &[u32], sibhe: &[u32]) -> bool {
-    if refusal == 0 {
-        return true;
-    }
-    if !cases::is_all(v2e, MAP) {
-        return false;
-    }
-    cases::is_all(sibhe, MAP)
-}
-
-fn is_clean(refusal: u32, v2e: &[u32], sibhe: &[u32], work: &[u32]) -> bool {
-    if !is_kept(refusal, v2e, sibhe) {
-        return false;
-    }
-    cases::is_all(work, cases::work_after(refusal, WORK))
-}
-
 fn report(a: Answer, v2e: &[u32], sibhe: &[u32], work: &[u32]) {
     let refusal = cases::numbers_of(a)[0];
-    let clean = is_clean(refusal, v2e, sibhe, work);
+    let clean = cases::is_clean(refusal, v2e, sibhe, MAP, work, WORK);
     emit_answer(a, v2e, sibhe);
     cases::emit_clean(clean);
 }
