@@ -3,7 +3,7 @@
 // The work holds an entry for each of the k border half-edges, and then the length of each hole. Next of all is read first, in order: next
 // of x as k + next. Then border half-edges are gone over in order; from one that has no number yet its loop is followed, and the number of
 // the hole takes the place of next. A loop that meets a number elsewhere than at its start runs into another loop, or into its own middle,
-// and never comes back. So the tables are read in order, and along a loop only the work.
+// and never comes back. So the tables are read in the order of the border half-edges, and along a loop only the work.
 ghost use mathlib.Core.Path.{_≡_};
 ghost use Prim.Native.Nat.{_+_, _*_, _-_, _≤_};
 ghost use lib.Dec.{leb};

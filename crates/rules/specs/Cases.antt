@@ -58,12 +58,12 @@ built n L = let w = left n L in told n 0 L (w .vertices) (w .opposites) (w .bord
 unfoldable pub siblingRoom : ℕ → List ℕ → ℕ → SiblingBuffers
 siblingRoom n L long = record { vertices = blank n; siblings = blank long; work = replicate (n + 16 * elements L) 1 }
 
--- outputs and a work buffer of these lengths for the holes, and the mesh with this V2e and the other tables of build
+-- outputs and a work buffer of these lengths for the holes, and the mesh with this V2e and the other tables of build, B2e cut to k
 unfoldable pub holeRoom : ℕ → ℕ → ℕ → HoleBuffers
 holeRoom hole lengths work = record { hole = replicate hole 9; lengths = replicate lengths 9; work = replicate work 1 }
 
-unfoldable pub openings : ℕ → List ℕ → List ℕ → Mesh
-openings n L V2e = let w = left n L in told n 0 L V2e (w .opposites) (w .border)
+unfoldable pub openings : ℕ → List ℕ → List ℕ → ℕ → Mesh
+openings n L V2e k = let w = left n L in told n 0 L V2e (w .opposites) (take k (w .border))
 
 -- a row: what is asked of n vertices and a list, and the outcome
 pub data Case : Type 0 where
@@ -87,7 +87,8 @@ pub data Case : Type 0 where
   -- the vertices' sides and the map of siblings; with a map of this length, the refusal, which leaves both as they were
   siblingsAre : ℕ → List ℕ → List ℕ → List ℕ → Case
   siblingsRefused : ℕ → List ℕ → ℕ → Answer → Case
-  -- with this V2e, and in each buffer so many entries more than are needed: the hole of each border half-edge and the length of each hole
+  -- with this V2e and so many entries more than needed in each buffer: the holes of the first border half-edges, k of them, and the length of
+  -- each hole
   holesAre : ℕ → List ℕ → List ℕ → ℕ → List ℕ → List ℕ → Case
   -- with outputs and a work buffer of these lengths, the refusal, which leaves both outputs as they were, and what it leaves of the work
   holesRefused : ℕ → List ℕ → List ℕ → ℕ → ℕ → ℕ → Answer → List ℕ → Case
@@ -139,16 +140,16 @@ holds (siblingsRefused n L long a) =
     let left = siblingsLeaves n L w in
     both (sameAnswer (siblingsAnswer n L w) a) (both (same (left .vertices) (w .vertices)) (same (left .siblings) (w .siblings)))
 holds (holesAre n L V2e spare hs ls) =
-    let long = borders L + spare in
+    let long = length hs + spare in
     let w = holeRoom long long (n + 16 * elements L + spare) in
-    let left = holesLeaves (openings n L V2e) w in
-    both (sameAnswer (holesAnswer (openings n L V2e) w) (gives (length ls) 0))
+    let left = holesLeaves (openings n L V2e (length hs)) w in
+    both (sameAnswer (holesAnswer (openings n L V2e (length hs)) w) (gives (length ls) 0))
     (both (same (left .hole) (hs ++ replicate spare 9))
     (both (same (left .lengths) (ls ++ replicate (long - length ls) 9)) (same (left .work) (blank (length (w .work))))))
 holds (holesRefused n L V2e hole lengths work a work′) =
     let w = holeRoom hole lengths work in
-    let left = holesLeaves (openings n L V2e) w in
-    both (sameAnswer (holesAnswer (openings n L V2e) w) a)
+    let left = holesLeaves (openings n L V2e (borders L)) w in
+    both (sameAnswer (holesAnswer (openings n L V2e (borders L)) w) a)
     (both (same (left .hole) (w .hole)) (both (same (left .lengths) (w .lengths)) (same (left .work) work′)))
 
 unfoldable pub every : (Case → Bool) → List Case → Bool
@@ -308,6 +309,8 @@ cases =
     -- the two rims of a band; and two rims whose loops V2e makes one
     holesAre 6 (quad 1 2 5 4 ++ quad 2 3 6 5 ++ quad 3 1 4 6) (40 ∷ 8 ∷ 24 ∷ 16 ∷ 32 ∷ 48 ∷ []) 0 (1 ∷ 2 ∷ 1 ∷ 2 ∷ 1 ∷ 2 ∷ []) (3 ∷ 3 ∷ []) ∷
     holesAre 6 apart (48 ∷ 8 ∷ 16 ∷ 24 ∷ 32 ∷ 40 ∷ []) 0 (1 ∷ 1 ∷ 1 ∷ 1 ∷ 1 ∷ 1 ∷ []) (6 ∷ []) ∷
+    -- k is the length of B2e: one of two rims
+    holesAre 6 apart (24 ∷ 8 ∷ 16 ∷ 48 ∷ 32 ∷ 40 ∷ []) 1 (1 ∷ 1 ∷ 1 ∷ []) (3 ∷ []) ∷
     -- "It gives 12 if any loop does": by a side for a border, into another loop, into its own middle
     holesRefused 6 apart (24 ∷ 8 ∷ 16 ∷ 48 ∷ 17 ∷ 40 ∷ []) 6 6 38 (refused 12 0 0) (blank 38) ∷
     holesRefused 6 apart (24 ∷ 8 ∷ 16 ∷ 48 ∷ 8 ∷ 40 ∷ []) 6 6 38 (refused 12 0 0) (blank 38) ∷
