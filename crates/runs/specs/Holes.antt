@@ -35,14 +35,20 @@ module _ (M : Mesh) (w : HoleBuffers) (a : Answer) (w′ : HoleBuffers) (run : H
   abbrev k : ℕ
   k = length (M .border)
 
-  -- a refusal leaves both outputs as they were
-  pub refusal-keeps : {r p q : ℕ} → a ≡ refused r p q → (w′ .hole ≡ w .hole) × (w′ .lengths ≡ w .lengths)
-  unfolding holesLeaves after
-  refusal-keeps e =
+  -- both outputs, by the answer
+  left-by : {y : Answer} → a ≡ y →
+      (w′ .hole ≡ after y (onto (holes M) (w .hole)) (w .hole)) × (w′ .lengths ≡ after y (onto (holeLengths M) (w .lengths)) (w .lengths))
+  unfolding holesLeaves
+  left-by e =
       let f = sym (run .answer) ∙ e in (
         ap (λ (b : HoleBuffers). b .hole) (run .leaves) ∙ ap (λ (x : Answer). after x (onto (holes M) (w .hole)) (w .hole)) f,
         ap (λ (b : HoleBuffers). b .lengths) (run .leaves) ∙ ap (λ (x : Answer). after x (onto (holeLengths M) (w .lengths)) (w .lengths)) f,
       )
+
+  -- a refusal leaves them as they were
+  pub refusal-keeps : {r p q : ℕ} → a ≡ refused r p q → (w′ .hole ≡ w .hole) × (w′ .lengths ≡ w .lengths)
+  unfolding after
+  refusal-keeps e = left-by e
 
   -- what an answer says: all loops come back, and there was room
   pub record Answered (h e : ℕ) : Type 0 where
@@ -86,8 +92,10 @@ module _ (M : Mesh) (w : HoleBuffers) (a : Answer) (w′ : HoleBuffers) (run : H
       gives-13 short = fit ∙ found-back M (w .hole) (w .lengths) all ∙ rw (no short)
         where
           no : (length (w .hole) < k) ⊎ (length (w .lengths) < k) → room M (w .hole) (w .lengths) ≡ false
-          no (inl l) = false-of (room M (w .hole) (w .lengths)) (means-not (means-room M (w .hole) (w .lengths)) .shows (λ (i, j). omega arith))
-          no (inr l) = false-of (room M (w .hole) (w .lengths)) (means-not (means-room M (w .hole) (w .lengths)) .shows (λ (i, j). omega arith))
+          no short =
+              false-of (room M (w .hole) (w .lengths))
+              (means-not (means-room M (w .hole) (w .lengths)) .shows
+              (λ (i, j). elim short [ inl l ↦ omega arith | inr l ↦ omega arith ]))
 
       pub answers : k ≤ length (w .hole) → k ≤ length (w .lengths) → a ≡ gives (holeCount M) 0
       answers i j =
@@ -99,12 +107,8 @@ module _ (M : Mesh) (w : HoleBuffers) (a : Answer) (w′ : HoleBuffers) (run : H
     x = answered gave
 
     left : (w′ .hole ≡ onto (holes M) (w .hole)) × (w′ .lengths ≡ onto (holeLengths M) (w .lengths))
-    unfolding holesLeaves after
-    left =
-        let f = sym (run .answer) ∙ gave in (
-          ap (λ (b : HoleBuffers). b .hole) (run .leaves) ∙ ap (λ (y : Answer). after y (onto (holes M) (w .hole)) (w .hole)) f,
-          ap (λ (b : HoleBuffers). b .lengths) (run .leaves) ∙ ap (λ (y : Answer). after y (onto (holeLengths M) (w .lengths)) (w .lengths)) f,
-        )
+    unfolding after
+    left = left-by gave
 
     -- the entry of a border half-edge is its hole
     pub hole-entry : (b : ℕ) → In M b → at (w′ .hole) (b - 1) ≡ holeOf M b
