@@ -9,7 +9,7 @@ use lib.Dec.{T, eqb}
 use lib.ListN.{length, take, replicate}
 use Rattle.lists.specs.Tests.{both, same, has}
 use Rattle.lists.specs.Search.{least, count, upto, tab, zeros}
-use Rattle.rules.specs.Elements.{elements, sidesBy, isSide, slot, origin, nextNumber, next, sideAt, firstSide, countSides, firstNumber}
+use Rattle.rules.specs.Elements.{elements, sidesBy, isSide, slot, origin, nextNumber, previousNumber, next, previous, sideAt, firstSide, countSides, firstNumber}
 use Rattle.rules.specs.Pairing.{alike, opposed, joins, callSizes, sizesFit, unfitCorner, repeatedCorner, rowsFit, isCorner, sharedCorners, shareSide, meetWell}
 use Rattle.rules.specs.Tables.{partner, isBorder, b2e, borderNumber, borders, columns, codeAt, e2eSlot, e2eEntry, e2e, entryOf, wide, borderInto, v2eEntry, v2e, edges}
 use Rattle.rules.specs.Recovery.{columnsBy, widened, sideOfBorder, walkStart, turnBy, trace, walkTo, walk}
@@ -22,6 +22,8 @@ use Rattle.rules.specs.Queries.{ring, neighbours, nextBorder, loopNext, 
 use Rattle.rules.specs.Queries.{ringAnswer, ringLeaves, neighboursAnswer, neighboursLeaves, borderLoopAnswer, borderLoopLeaves}
 use Rattle.rules.specs.Holes.{lists, broken, HoleBuffers, leastOf, holesUpTo, holeOf, holes, holeCount}
 use Rattle.rules.specs.Holes.{holeLengths, holesFound, holesFit, holesAnswer, holesLeaves}
+use Rattle.rules.specs.Edits.{Lent, onceAccepted, newAnswer, isThere, editSizes, editLengths, editAnswer, written, editLeaves}
+use Rattle.rules.specs.Swap.{third, flipped, withRow, swapped, isSwappable, swap, swapAnswer, swapLeaves}
 
 -- an element's row, or a row of E2e, in three columns or in four; lists are rows joined by ++
 unfoldable pub three : ℕ → ℕ → ℕ → List ℕ
@@ -65,6 +67,19 @@ holeRoom hole lengths work = record { hole = replicate hole 9; lengths = replica
 unfoldable pub openings : ℕ → List ℕ → List ℕ → ℕ → Mesh
 openings n L V2e k = let w = left n L in told n 0 L V2e (w .opposites) (take k (w .border))
 
+-- what an edit is lent: n and m, an element list, and the tables and the work buffer of these lengths
+unfoldable pub editRoom : ℕ → ℕ → List ℕ → ℕ → ℕ → ℕ → ℕ → Lent
+editRoom n m L v e b work =
+    record {
+      n = n;
+      m = m;
+      list = L;
+      vertices = replicate v 9;
+      opposites = replicate e 9;
+      border = replicate b 9;
+      work = replicate work 1;
+    }
+
 -- a row: what is asked of n vertices and a list, and the outcome
 pub data Case : Type 0 where
   -- build's answer
@@ -92,6 +107,12 @@ pub data Case : Type 0 where
   holesAre : ℕ → List ℕ → List ℕ → ℕ → List ℕ → List ℕ → Case
   -- with outputs and a work buffer of these lengths, the refusal, which leaves both outputs as they were, and what it leaves of the work
   holesRefused : ℕ → List ℕ → List ℕ → ℕ → ℕ → ℕ → Answer → List ℕ → Case
+  -- the diagonal with this code swapped, with so many entries more than needed in each buffer: k, the edges and the list; the tables are those
+  -- that build leaves of it
+  swapIs : ℕ → List ℕ → ℕ → ℕ → ℕ → ℕ → List ℕ → Case
+  -- with this n, m and list, a V2e, E2e, B2e and work buffer of these lengths, the refusal of the code, which leaves n, m, list and tables as
+  -- they were, and what it leaves of the work
+  swapRefused : ℕ → ℕ → List ℕ → ℕ → ℕ → ℕ → ℕ → ℕ → Answer → List ℕ → Case
 
 unfoldable pub sameAnswer : Answer → Answer → Bool
 sameAnswer (gives a b) (gives c d) = both (eqb a c) (eqb b d)
@@ -152,6 +173,30 @@ holds (holesRefused n L V2e hole lengths work a work′) =
     both (sameAnswer (holesAnswer (openings n L V2e (borders L)) w) a)
     (both (same (left .hole) (w .hole)) (both (same (left .lengths) (w .lengths)) (same (left .work) work′)))
 
+holds (swapIs n L s spare k e L′) =
+    let m = elements L in
+    let more : List ℕ = replicate spare 9 in
+    let w = editRoom n m (L ++ more) (n + spare) (columns L * m + spare) (k + spare) (n + 16 * m + spare) in
+    let w′ = swapLeaves w s in
+    let built = left n L′ in
+    both (sameAnswer (swapAnswer w s) (gives k e))
+    (both (eqb (w′ .n) n)
+    (both (eqb (w′ .m) m)
+    (both (same (w′ .list) (L′ ++ more))
+    (both (same (w′ .vertices) (built .vertices ++ more))
+    (both (same (w′ .opposites) (built .opposites ++ more))
+    (both (same (w′ .border) (built .border ++ more)) (same (w′ .work) (blank (length (w .work))))))))))
+holds (swapRefused n m L v e b work s a work′) =
+    let w = editRoom n m L v e b work in
+    let w′ = swapLeaves w s in
+    both (sameAnswer (swapAnswer w s) a)
+    (both (eqb (w′ .n) n)
+    (both (eqb (w′ .m) m)
+    (both (same (w′ .list) L)
+    (both (same (w′ .vertices) (w .vertices))
+    (both (same (w′ .opposites) (w .opposites))
+    (both (same (w′ .border) (w .border)) (same (w′ .work) work′)))))))
+
 unfoldable pub every : (Case → Bool) → List Case → Bool
 every p [] = true
 every p (c ∷ cs) = both (p c) (every p cs)
@@ -192,6 +237,10 @@ apart = tri 1 2 3 ++ tri 4 5 6
 
 unfoldable pub between : List ℕ
 between = tri 1 2 3 ++ tri 5 6 7 ++ tri 1 3 4
+
+-- two triangles of a fan of three about vertex 2, whose third element has the new diagonal as a diagonal of its own
+unfoldable pub fan : List ℕ
+fan = tri 1 2 3 ++ tri 2 1 4 ++ quad 3 2 4 5
 
 -- "Where no n is named, it is the greatest corner"
 unfoldable pub cases : List Case
@@ -323,6 +372,33 @@ cases =
     holesRefused 6 apart (24 ∷ 8 ∷ 16 ∷ 48 ∷ 8 ∷ 40 ∷ []) 6 6 37 (refused 2 0 0) (replicate 37 1) ∷
     holesRefused 6 apart (24 ∷ 8 ∷ 16 ∷ 48 ∷ 32 ∷ []) 6 6 38 (refused 2 0 0) (replicate 38 1) ∷
     holesRefused 3 (1 ∷ 2 ∷ 3 ∷ []) (24 ∷ 8 ∷ []) 3 3 2 (refused 1 0 0) (1 ∷ 1 ∷ []) ∷
+    -- document 02, point 1: "With side a to b, its third corner c, and the partner's third corner d, the side's row becomes (c,a,d) and the
+    -- partner's (d,b,c)": the listing's side 3 to 1, and its partner; and a diagonal beside a quadrilateral, in longer buffers
+    swapIs 4 listing 11 0 4 5 (tri 2 3 4 ++ tri 4 1 2) ∷
+    swapIs 4 listing 17 2 4 5 (tri 2 3 4 ++ tri 4 1 2) ∷
+    swapIs 6 (listing ++ quad 3 2 5 6) 17 1 6 8 (tri 2 3 4 ++ tri 4 1 2 ++ quad 3 2 5 6) ∷
+    -- "11, 15 and the new list": a code that isn't there; of a border half-edge; of a border side; with a quadrilateral on either side
+    swapRefused 4 2 listing 4 6 4 36 0 (refused 11 0 0) (blank 36) ∷
+    swapRefused 4 2 listing 4 6 4 36 12 (refused 11 0 0) (blank 36) ∷
+    swapRefused 4 2 listing 4 6 4 36 25 (refused 11 0 0) (blank 36) ∷
+    swapRefused 4 2 listing 4 6 4 36 40 (refused 11 0 0) (blank 36) ∷
+    swapRefused 4 2 listing 4 6 0 36 32 (refused 15 0 0) (blank 36) ∷
+    swapRefused 4 2 listing 4 6 0 36 9 (refused 15 0 0) (blank 36) ∷
+    swapRefused 5 2 mixed 5 8 5 37 11 (refused 15 0 0) (blank 37) ∷
+    swapRefused 5 2 mixed 5 8 5 37 17 (refused 15 0 0) (blank 37) ∷
+    -- "the old list, 9 apart, is tried first"; the new list: c and d joined already, the new diagonal a quadrilateral's; 9 by the new k
+    swapRefused 4 2 (tri 1 2 3 ++ tri 1 2 4) 4 6 0 36 0 (refused 7 1 1) (blank 36) ∷
+    swapRefused 4 4 tetrahedron 4 12 0 68 9 (refused 6 1 3) (blank 68) ∷
+    swapRefused 5 3 fan 5 12 0 53 9 (refused 18 1 3) (blank 53) ∷
+    swapRefused 4 2 listing 4 6 3 36 11 (refused 9 4 0) (blank 36) ∷
+    -- check 2 "asks for at least these lengths", with the columns of the m rows that are held; check 1 "reads n and m only"
+    swapRefused 4 2 (take 7 listing) 4 6 4 36 11 (refused 2 0 0) (replicate 36 1) ∷
+    swapRefused 4 2 listing 3 6 4 36 11 (refused 2 0 0) (replicate 36 1) ∷
+    swapRefused 4 2 listing 4 5 4 36 11 (refused 2 0 0) (replicate 36 1) ∷
+    swapRefused 4 2 listing 4 6 4 35 11 (refused 2 0 0) (replicate 35 1) ∷
+    swapRefused 4 2 (listing ++ quad 1 2 3 4) 4 6 3 36 11 (refused 9 4 0) (blank 36) ∷
+    swapRefused 1_000_001 2 [] 4 6 4 36 11 (refused 1 0 0) (replicate 36 1) ∷
+    swapRefused 4 1_000_001 [] 4 6 4 36 11 (refused 1 0 0) (replicate 36 1) ∷
     []
 
 -- the rules give every row of the table
@@ -339,4 +415,6 @@ unfolding three quad tri blank room left built sameAnswer gave holds every listi
     borderLoop listedAnswer ringAnswer ringLeaves neighboursAnswer neighboursLeaves borderLoopAnswer borderLoopLeaves
     siblingRoom workAfter sibling siblingEntry sibhe v2he siblingLengths siblingsAnswer siblingsLeaves
     has holeRoom openings apart between lists broken leastOf holesUpTo holeOf holes holeCount holeLengths holesFound holesFit holesAnswer holesLeaves
+    editRoom fan previousNumber previous onceAccepted newAnswer isThere editSizes editLengths editAnswer written editLeaves
+    third flipped withRow swapped isSwappable swap swapAnswer swapLeaves
 cases-hold = tt

@@ -6,4 +6,6 @@ pub mod Refusals
 pub mod Siblings
 pub mod Queries
 pub mod Holes
+pub mod Edits
+pub mod Swap
 pub mod Cases

@@ -113,8 +113,8 @@ buildAnswer n L w =
     lengthChecks (sizesFit n L) (buildLengths n L w)
     (roomCheck (length (w .border)) (listAnswer n L))
 
--- "left as it was": a buffer after an answer, and after a refusal
-unfoldable pub after : Answer → List ℕ → List ℕ → List ℕ
+-- "left as it was": what a buffer holds after an answer, and after a refusal
+unfoldable pub after : {A : Type 0} → Answer → A → A → A
 after (gives a b) new old = new
 after (refused r a b) new old = old
 

@@ -1,0 +1,91 @@
+-- Document 02, the way of every edit: "The list as given must first be accepted by build. The result is the new list with the tables that
+-- build gives of it". What an edit adds is its own "new list, or a refusal", in a file of its own.
+-- Assumes nothing.
+use mathlib.Core.Bool.{Bool}
+use mathlib.Core.List.{List}
+use Prim.Native.Nat.{ℕ, _+_, _*_}
+use lib.Dec.{leb, eqb}
+use lib.ListN.{length, take}
+use Rattle.lists.specs.Tests.{both, either, within}
+use Rattle.rules.specs.Elements.{maxVertex, maxElement, elements, element, number, isSide}
+use Rattle.rules.specs.Tables.{borders, b2e, columns, e2e, v2e}
+use Rattle.rules.specs.Refusals.{Answer, gives, refused, listAnswer, lengthChecks, roomCheck, after, onto, workAfter}
+
+-- what an edit makes of an accepted list: a list with its n, or a refusal by number, whose place is 0,0
+pub data Edited : Type 0 where
+  becomes : ℕ → List ℕ → Edited
+  refuses : ℕ → Edited
+
+-- what is lent to an edit: n and m, the element list, the tables and the work buffer; point 6: they "may be longer than what they hold now"
+pub record Lent : Type 0 where
+  pub n : ℕ
+  pub m : ℕ
+  pub list : List ℕ
+  pub vertices : List ℕ
+  pub opposites : List ℕ
+  pub border : List ℕ
+  pub work : List ℕ
+
+-- "The list as given must first be accepted": what comes then, or what was said of the list
+unfoldable pub onceAccepted : Answer → Answer → Answer
+onceAccepted (gives k e) rest = rest
+onceAccepted (refused r a b) rest = refused r a b
+
+-- what is said of the new list, with 9 by its k and the length of B2e
+unfoldable pub newAnswer : ℕ → Edited → Answer
+newAnswer room (becomes n L) = roomCheck room (listAnswer n L)
+newAnswer room (refuses r) = refused r 0 0
+
+-- "the half-edge named isn't there (11)": whether a side or a border half-edge of L has this code
+unfoldable pub isThere : List ℕ → ℕ → Bool
+isThere L c = either (isSide L c) (both (eqb (number c) 0) (within 1 (borders L) (element c)))
+
+module _ (w : Lent) where
+  -- the list that is held: the first m rows
+  abbrev pub held : List ℕ
+  held = take (4 * w .m) (w .list)
+
+  -- document 01: "Where a request lets buffers be longer than what they hold, the call is told m, check 1 reads n and m only, and check 2 asks
+  -- for at least these lengths"
+  unfoldable pub editSizes : Bool
+  editSizes = both (leb (w .n) maxVertex) (leb (w .m) maxElement)
+
+  unfoldable pub editLengths : Bool
+  editLengths =
+      both (leb (4 * w .m) (length (w .list)))
+      (both (leb (w .n) (length (w .vertices)))
+      (both (leb (columns held * w .m) (length (w .opposites)))
+      (leb (w .n + 16 * w .m) (length (w .work)))))
+
+  -- "in every edit the old list, 9 apart, is tried first, then 11, 15 and the new list"
+  unfoldable pub editAnswer : Edited → Answer
+  editAnswer x =
+      lengthChecks editSizes editLengths (onceAccepted (listAnswer (w .n) held) (newAnswer (length (w .border)) x))
+
+  -- the new n and m, list and tables, each from its buffer's start; "entries past both the old and the new length stay untouched"
+  unfoldable pub written : Edited → Lent
+  written (becomes n L) =
+      record {
+        n = n;
+        m = elements L;
+        list = onto L (w .list);
+        vertices = onto (v2e n L) (w .vertices);
+        opposites = onto (e2e L) (w .opposites);
+        border = onto (b2e L) (w .border);
+        work = w .work;
+      }
+  written (refuses r) = w
+
+  -- what an edit leaves: "refused, list and tables unchanged"; and the work buffer of document 01
+  unfoldable pub editLeaves : Edited → Lent
+  editLeaves x =
+      let left = after (editAnswer x) (written x) w in
+      record {
+        n = left .n;
+        m = left .m;
+        list = left .list;
+        vertices = left .vertices;
+        opposites = left .opposites;
+        border = left .border;
+        work = workAfter editSizes editLengths (w .work);
+      }
