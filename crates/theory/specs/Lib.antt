@@ -10,6 +10,7 @@ pub mod Rounds
 pub mod SiblingUses
 pub mod Entries
 pub mod Columns
+pub mod Replacing
 pub mod Turns
 pub mod Orders
 pub mod Tracing
