@@ -5,8 +5,8 @@ use mathlib.Core.List.{List, _++_, append-nil}
 use Prim.Native.Nat.{ℕ, suc, _+_, _-_, _≤_, _<_}
 use native.Mathlib.Numerals.{add-one}
 use native.Mathlib.Omega.{arith}
-use lib.ListN.{length, take, drop, set, replicate, length-append, drop-of-length-le, length-take, length-drop}
-use lib.Seq.{getD-take, getD-drop, ext-getD, take-at, drop-at, drop-cons, set-at, length-take-le, append-snoc, take-suc, take-length, drop-length}
+use lib.ListN.{length, take, drop, set, replicate, length-append, drop-of-length-le, length-take, length-drop, List·getD-append}
+use lib.Seq.{getD-take, getD-drop, getD-append-add, ext-getD, take-at, drop-at, drop-cons, set-at, length-take-le, append-snoc, take-suc, take-length, drop-length}
 use Rattle.lists.specs.Search.{at}
 
 -- the part of k entries from a on
@@ -59,3 +59,31 @@ module _ (a : ℕ) (w ys : List ℕ) (inside : a ≤ length w) where
 
   pub put-length : length ys ≡ length w - a → length (take a w ++ (ys ++ drop (length w - a) (drop a w))) ≡ length w
   put-length e = simp (length-append, length-take, length-drop) (omega arith)
+
+-- as many entries as ys has, from a to e, replaced by ys
+module _ (a e : ℕ) (w ys : List ℕ) (from-to : e ≡ a + length ys) (inside : e ≤ length w) where
+  abbrev new : List ℕ
+  new = take a w ++ (ys ++ drop e w)
+
+  front : length (take a w) ≡ a
+  front = length-take-le a w (omega arith)
+
+  pub splice-length : length new ≡ length w
+  splice-length = simp (length-append, length-append, length-drop) (omega (arith, front))
+
+  pub splice-at : (j : ℕ) → j < length ys → at new (a + j) ≡ at ys j
+  splice-at j h =
+      ap (λ (k : ℕ). at new (k + j)) (sym front) ∙ getD-append-add (take a w) (ys ++ drop e w) j 0 ∙ List·getD-append ys (drop e w) 0 j h
+
+  pub splice-before : (p : ℕ) → p < a → at new p ≡ at w p
+  splice-before p h = List·getD-append (take a w) (ys ++ drop e w) 0 p (omega (arith, front)) ∙ getD-take a w p 0 h
+
+  pub splice-after : (p : ℕ) → e ≤ p → at new p ≡ at w p
+  splice-after p h =
+      let i : p ≡ length (take a w) + (length ys + (p - e)) = omega (arith, front) in
+      let j : e + (p - e) ≡ p = omega arith in
+      ap (at new) i
+      ∙ getD-append-add (take a w) (ys ++ drop e w) (length ys + (p - e)) 0
+      ∙ getD-append-add ys (drop e w) (p - e) 0
+      ∙ getD-drop e w (p - e) 0
+      ∙ ap (at w) j

@@ -22,7 +22,7 @@ flipped L s t = third L s ∷ origin L s ∷ third L t ∷ 0 ∷ []
 
 -- the list with this row for element f
 unfoldable pub withRow : ℕ → List ℕ → List ℕ → List ℕ
-withRow f row L = take (4 * (f - 1)) L ++ row ++ drop (4 * f) L
+withRow f row L = take (4 * (f - 1)) L ++ (row ++ drop (4 * f) L)
 
 -- the list with the diagonal s swapped
 unfoldable pub swapped : List ℕ → ℕ → List ℕ

@@ -10,7 +10,9 @@ pub mod Rounds
 pub mod SiblingUses
 pub mod Entries
 pub mod Columns
+pub mod Rows
 pub mod Replacing
+pub mod Swapping
 pub mod Turns
 pub mod Orders
 pub mod Tracing
