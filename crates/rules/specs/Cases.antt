@@ -172,7 +172,6 @@ holds (holesRefused n L V2e hole lengths work a work′) =
     let left = holesLeaves (openings n L V2e (borders L)) w in
     both (sameAnswer (holesAnswer (openings n L V2e (borders L)) w) a)
     (both (same (left .hole) (w .hole)) (both (same (left .lengths) (w .lengths)) (same (left .work) work′)))
-
 holds (swapIs n L s spare k e L′) =
     let m = elements L in
     let more : List ℕ = replicate spare 9 in
