@@ -12,6 +12,7 @@ pub mod Entries
 pub mod Columns
 pub mod Rows
 pub mod Replacing
+pub mod Turned
 pub mod Swapping
 pub mod Turns
 pub mod Orders

@@ -13,7 +13,7 @@ use Rattle.lists.specs.Search.{count}
 use Rattle.lists.specs.SearchLaws.{le-not-lt, le-or-lt, count-lt, count-inj, count-last}
 use Rattle.lists.specs.CountLaws.{Three, three as three-places, three-counted}
 use Rattle.rules.specs.Elements.{corner, sides, Side, nextNumber, slot, origin, next, destination, someNumber}
-use Rattle.rules.specs.Pairing.{alike, opposed, joins, isCorner, sharedCorners, shareSide, meetWell, Element}
+use Rattle.rules.specs.Pairing.{alike, opposed, joins, SideAt, isCorner, sharedCorners, shareSide, meetWell, Element}
 use Rattle.theory.specs.Sides.{three, four, sides-by, side-facts}
 use Rattle.theory.specs.Least.{means-some-number}
 use Rattle.theory.specs.Steps.{wraps, grows, next-number, next-in, next-numbered}
@@ -78,6 +78,25 @@ means-corner L f v =
     record {
       says = λ t. let (i, a, b, u) = m .says t in (i, record { from = a; to = b; is = means-eq (corner L f i) v .says u });
       shows = λ (i, x). m .shows (i, x .from, x .to, means-eq (corner L f i) v .shows (x .is));
+    }
+
+-- the element of a side
+pub element-of : (L : List ℕ) (s : ℕ) → Side L s → Element L (s / 8)
+element-of L s a = let f = side-facts L s a in (f .element-from, f .element-to)
+
+-- to be a corner is also to be the origin of one of its sides
+pub means-begins : (L : List ℕ) (f v : ℕ) → Element L f → Means (isCorner L f v) ((r : ℕ) × SideAt L v r × (r / 8 ≡ f))
+unfolding origin slot
+means-begins L f v el =
+    let m = means-corner L f v in
+    record {
+      says = λ t.
+          let (i, x) = m .says t in
+          let c = at-corner L f i (el .0) (el .1) (x .from) (omega (arith, x .to, few L f)) (x .to) in
+          (8 * f + i, (c .is-side, c .its-origin ∙ x .is), c .its-element);
+      shows = λ (r, (a, o), e).
+          let h = side-facts L r a in
+          m .shows (r % 8, record { from = h .number-from; to = rw e at (h .number-to); is = rw e at o });
     }
 
 own : (L : List ℕ) (f i : ℕ) → 1 ≤ i → i ≤ sides L f → T (isCorner L f (corner L f i))
@@ -276,10 +295,10 @@ module _ (L : List ℕ) (f g : ℕ) where
         let y = link-side L d (t .0 .link) k in (x, y, means-links L c d x y .shows same-ends)
 
 -- a side of f and a side of g join the same two vertices
-abbrev SharedSide : List ℕ → ℕ → ℕ → Type 0
+abbrev pub SharedSide : List ℕ → ℕ → ℕ → Type 0
 SharedSide L f g = (c : ℕ) × (d : ℕ) × Side L c × Side L d × (c / 8 ≡ f) × (d / 8 ≡ g) × T (joins L c d)
 
-means-share : (L : List ℕ) (f g : ℕ) → Element L f → Element L g → Means (shareSide L f g) (SharedSide L f g)
+pub means-share : (L : List ℕ) (f g : ℕ) → Element L f → Element L g → Means (shareSide L f g) (SharedSide L f g)
 unfolding shareSide
 means-share L f g a b =
     let m = means-some-number (sides L f) (λ i. someNumber (sides L g) (λ j. joins L (8 * f + i) (8 * g + j))) in
@@ -466,19 +485,47 @@ module _ (n : ℕ) (L : List ℕ) (fit : Fit n L) where
     ])
   ]
 
+-- f and g meet well where f′ and g′ of some list do, if all corners are corners of these, and a side that these share is one that f and g share
+module _ (n : ℕ) (L L′ : List ℕ) (fit : Fit n L) (f g f′ g′ : ℕ) (a : Element L f)
+    (mine : (v : ℕ) → T (isCorner L f v) → T (isCorner L′ f′ v)) (other : (v : ℕ) → T (isCorner L g v) → T (isCorner L′ g′ v))
+    (shares : T (shareSide L′ f′ g′) → T (shareSide L f g)) where
+  shared-there : (i : ℕ) → i < sides L f → T (sharedAt L f g i) → Shared L′ f′ g′ (corner L f (i + 1))
+  shared-there i h x = (mine _ (own L f (i + 1) (omega arith) (omega arith)), other _ x)
+
+  not-more : T (meetWell L′ f′ g′) → 3 ≤ sharedCorners L f g → ⊥
+  not-more m h =
+      let w = three-of L f g h in
+      let x = shared-there (w .low) (omega arith) (w .low-passes) in
+      let y = shared-there (w .mid) (omega arith) (w .mid-passes) in
+      let z = shared-there (w .high) (w .high-below) (w .high-passes) in
+      let c = apart n L fit a (w .low + 1) (w .mid + 1) (omega arith) (omega arith) (omega arith) in
+      let d = apart n L fit a (w .low + 1) (w .high + 1) (omega arith) (omega arith) (omega arith) in
+      let e = apart n L fit a (w .mid + 1) (w .high + 1) (omega arith) (omega arith) (omega arith) in
+      not-three L′ f′ g′ (three-shared L′ f′ g′ c d e x y z) m
+
+  pub meet-carried : T (meetWell L′ f′ g′) → T (meetWell L f g)
+  unfolding sharedCorners
+  meet-carried m = means-meet L f g .shows (elim (le-or-lt (sharedCorners L f g) 1) [
+    | inl h ↦ inl h
+    | inr h ↦
+        let (i, k, x, e) = count-last (sharedAt L f g) (sides L f) (omega arith) in
+        let (j, l, y, o) = count-last (sharedAt L f g) i (omega arith) in
+        let d = apart n L fit a (j + 1) (i + 1) (omega arith) (omega arith) (omega arith) in
+        let two = two-shared L′ f′ g′ d (shared-there j (omega arith) y) (shared-there i k x) in
+        elim (means-meet L′ f′ g′ .says m) [
+          | inl z ↦ absurd (omega arith)
+          | inr (z, s) ↦ inr (omega (arith, le-not-lt (sharedCorners L f g) 2 (λ q. not-more m q)), shares s)
+        ]
+  ])
+
 -- where side t joins the vertices of side s, both are corners of its element
 module _ (L : List ℕ) (s t : ℕ) where
-  corner-of : (r : ℕ) → Side L r → r / 8 ≡ t / 8 → T (isCorner L (t / 8) (origin L r))
-  unfolding origin slot
-  corner-of r a e =
-      let f = side-facts L r a in
-      rw (sym e) (means-corner L (r / 8) (origin L r) .shows (r % 8, record { from = f .number-from; to = f .number-to; is = refl }))
-
   pub joined-corners : Side L t → T (joins L s t) → T (isCorner L (t / 8) (origin L s)) × T (isCorner L (t / 8) (destination L s))
   joined-corners b x =
-      let o = corner-of t b refl in
+      let f = element-of L t b in
       let n = next-numbered L t b in
-      let d = corner-of (next L t) (n .side) (n .same) in
+      let o = means-begins L (t / 8) (origin L t) f .shows (t, (b, refl), refl) in
+      let d = means-begins L (t / 8) (destination L t) f .shows (next L t, (n .side, refl), n .same) in
       elim (means-joins L s t .says x) [
         | inl y ↦ let (p, q) = means-alike L s t .says y in (rw p o, rw q d)
         | inr y ↦ let (p, q) = means-opposed L s t .says y in (rw p d, rw q o)
