@@ -12,14 +12,14 @@ use lib.ListN.{length}
 use Rattle.lists.specs.TestLaws.{true-of, false-of, decide, means-eq, means-not}
 use Rattle.lists.specs.Search.{at, tab}
 use Rattle.lists.specs.SearchLaws.{length-tab, at-tab}
-use Rattle.rules.specs.Elements.{sides, Side, origin, next, previous, destination}
+use Rattle.rules.specs.Elements.{sidesBy, sides, Side, nextNumber, origin, next, previous, destination}
 use Rattle.rules.specs.Pairing.{alike, opposed, joins, isCorner, shareSide, meetWell, Element, Conformal, Pairing, Turn, TurnOrder, Accepted}
-use Rattle.theory.specs.Sides.{three, four, sides-by, side-facts, side-positive}
-use Rattle.theory.specs.Steps.{wraps, grows, falls, next-number, previous-number, next-numbered, previous-numbered, next-side}
+use Rattle.theory.specs.Sides.{side-facts, side-positive}
+use Rattle.theory.specs.Steps.{NextNumber, wraps, grows, falls, next-number, previous-number, next-numbered, previous-numbered, next-side}
 use Rattle.theory.specs.FitRows.{Fit, means-fit}
 use Rattle.theory.specs.Links.{at-corner}
 use Rattle.theory.specs.Meeting.{few, element-of, means-begins, means-share, meet-carried}
-use Rattle.theory.specs.Replacing.{Replaced, same-side, side-still, side-before, same-next, same-origin}
+use Rattle.theory.specs.Replacing.{Replaced, side-still, side-before, same-next, same-origin}
 
 -- the sides of L′ are those of L under other codes: a side r of L′ is the side `to r` of L, and a side r of L is the side `back r` of L′
 pub record Renumbered (L L′ : List ℕ) (to back : ℕ → ℕ) : Type 0 where
@@ -40,6 +40,7 @@ abbrev recoded : (ℕ → ℕ) → (ℕ → ℕ) → (ℕ → ℕ) → ℕ → �
 recoded to back π r = back (π (to r))
 
 module _ {L L′ : List ℕ} {to back : ℕ → ℕ} (x : Renumbered L L′ to back) where
+  -- different sides have different codes in L
   one : (r q : ℕ) → Side L′ r → Side L′ q → to r ≡ to q → r ≡ q
   one r q a b e = sym (x .back-to r a) ∙ ap back e ∙ x .back-to q b
 
@@ -69,7 +70,7 @@ module _ {L L′ : List ℕ} {to back : ℕ → ℕ} (x : Renumbered L L′ to b
       }
 
   module _ (π : ℕ → ℕ) (p : Pairing L π) where
-    -- a side with a partner has it in L, and that is a side
+    -- a side with a partner has one in L
     partner-there : (r : ℕ) → (recoded to back π r ≡ 0 → ⊥) → π (to r) ≡ 0 → ⊥
     partner-there r d z = d (ap back z ∙ x .nothing)
 
@@ -90,7 +91,7 @@ module _ {L L′ : List ℕ} {to back : ℕ → ℕ} (x : Renumbered L L′ to b
               ∙ x .back-to q b;
         }
 
-    -- turns are turns
+    -- a turn is a turn under the other codes, both ways
     turn-there : (r q : ℕ) → Side L′ r → Turn L′ (recoded to back π) r q → Turn L π (to r) (to q)
     turn-there r q a (d, e) =
         let z = partner-there r d in
@@ -102,13 +103,12 @@ module _ {L L′ : List ℕ} {to back : ℕ → ℕ} (x : Renumbered L L′ to b
         let b = p .mutually r a d .0 in
         let c = x .here (π r) b in
         let t = ap (λ (u : ℕ). back (π u)) (x .to-back r a) in
-        let n = x .follows (back (π r)) c ∙ ap (next L) (x .to-back (π r) b) ∙ e in
-        (
+        let n = x .follows (back (π r)) c ∙ ap (next L) (x .to-back (π r) b) ∙ e in (
           (λ z. side-positive L′ (back (π r)) c (sym t ∙ z)),
           ap (next L′) t ∙ sym (x .back-to (next L′ (back (π r))) (next-side L′ (back (π r)) c)) ∙ ap back n,
         )
 
-    -- a turn order, with the codes of L′
+    -- and a turn order of L, listed with the codes of L′, is one of L′
     module _ (v : ℕ) (o : List ℕ) (y : TurnOrder L π v o) (q : List ℕ) (long : length q ≡ length o)
         (entries : (i : ℕ) → i < length o → at q i ≡ back (at o i)) where
       entry-there : (i : ℕ) → i < length o → to (at q i) ≡ at o i
@@ -146,7 +146,7 @@ module _ {L L′ : List ℕ} {to back : ℕ → ℕ} (x : Renumbered L L′ to b
                 ]);
           }
 
-  -- the corners of an element, and the sides that two elements share
+  -- what is a corner is one in L, and what two elements share in L is a side of both in L′; so they meet well
   corner-there : (r v : ℕ) → Side L′ r → T (isCorner L′ (r / 8) v) → T (isCorner L (to r / 8) v)
   corner-there r v a t =
       let (u, (b, o), e) = means-begins L′ (r / 8) v (element-of L′ r a) .says t in
@@ -169,7 +169,8 @@ module _ {L L′ : List ℕ} {to back : ℕ → ℕ} (x : Renumbered L L′ to b
     renumbered-meet n fit m d =
         let (c, e) : Side L (to r) × Side L (to q) = (x .there r a, x .there q b) in
         let other : to r / 8 ≡ to q / 8 → ⊥ = λ z. d (sym (within r (to q) a e (sym z)) ∙ ap (λ (k : ℕ). k / 8) (x .back-to q b)) in
-        meet-carried n L′ L fit (r / 8) (q / 8) (to r / 8) (to q / 8) (element-of L′ r a) (λ v. corner-there r v a) (λ v. corner-there q v b) share-here
+        meet-carried n L′ L fit (r / 8) (q / 8) (to r / 8) (to q / 8) (element-of L′ r a)
+        (λ v. corner-there r v a) (λ v. corner-there q v b) share-here
         (m (to r / 8) (to q / 8) (element-of L (to r) c) (element-of L (to q) e) other)
 
   renumbered-conformal : (n : ℕ) → Fit n L′ → Conformal L → Conformal L′
@@ -179,8 +180,8 @@ module _ {L L′ : List ℕ} {to back : ℕ → ℕ} (x : Renumbered L L′ to b
       rw (i .its-element, j .its-element) at
       (renumbered-meet (8 * f + 1) (8 * g + 1) (i .is-side) (j .is-side) n fit m (λ e. z (sym (i .its-element) ∙ e ∙ j .its-element)))
 
-  pub renumbered-accepted : (n : ℕ) → Accepted n L → Accepted n L′
-  renumbered-accepted n y =
+  pub renumbered-accepted : {n : ℕ} → Accepted n L → Accepted n L′
+  renumbered-accepted {n} y =
       let fit = renumbered-fit n (means-fit n L .says (y .rows)) in
       let π = y .pairing in
       let p = y .ordered .pairing in
@@ -198,16 +199,31 @@ module _ {L L′ : List ℕ} {to back : ℕ → ℕ} (x : Renumbered L L′ to b
         meeting = renumbered-conformal n fit (y .meeting);
       }
 
--- the number of side i of a triangle that is turned by k
+-- side i of a triangle, counted k sides on
 abbrev turn : ℕ → ℕ → ℕ
 turn k i = (k + i + 2) % 3 + 1
 
--- turned back by as much it is side i
+-- turned the rest of the way round it is side i again
 turn-back : (k i : ℕ) → k ≤ 3 → 1 ≤ i → i ≤ 3 → turn (3 - k) (turn k i) ≡ i
 turn-back k i a b c = omega arith
 
+-- such a side's element and number
 turned-code : (g k i : ℕ) → ((8 * g + turn k i) / 8 ≡ g) × ((8 * g + turn k i) % 8 ≡ turn k i)
 turned-code g k i = omega arith
+
+-- turning keeps the order of the sides
+turn-next : (k i : ℕ) → 1 ≤ i → i ≤ 3 → turn k (nextNumber 3 i) ≡ nextNumber 3 (turn k i)
+turn-next k i a b = go (next-number 3 i) (next-number 3 (turn k i))
+  where
+    go : {m n : ℕ} → NextNumber 3 i m → NextNumber 3 (turn k i) n → turn k m ≡ n
+    go (wraps c d) (wraps e f) = omega arith
+    go (wraps c d) (grows e f) = omega arith
+    go (grows c d) (wraps e f) = omega arith
+    go (grows c d) (grows e f) = omega arith
+
+turned-next : (L : List ℕ) (g k i : ℕ) → sides L g ≡ 3 → next L (8 * g + turn k i) ≡ 8 * g + nextNumber 3 (turn k i)
+unfolding next
+turned-next L g k i e = rw (turned-code g k i .0, turned-code g k i .1, e) refl
 
 -- the sides of triangles f and g go to the other one, turned by k and by l; any other side stays
 unfoldable moved : ℕ → ℕ → ℕ → ℕ → ℕ → ℕ
@@ -217,55 +233,172 @@ moved f g k l r =
       | false ↦ elim (eqb (r / 8) g) [ true ↦ 8 * f + turn l (r % 8) | false ↦ r ]
     ]
 
+-- q is where r goes
 data Moved (f g k l r q : ℕ) : Type 0 where
   over : r / 8 ≡ f → q ≡ 8 * g + turn k (r % 8) → Moved f g k l r q
-  back : r / 8 ≡ g → q ≡ 8 * f + turn l (r % 8) → Moved f g k l r q
+  across : r / 8 ≡ g → q ≡ 8 * f + turn l (r % 8) → Moved f g k l r q
   stays : (r / 8 ≡ f → ⊥) → (r / 8 ≡ g → ⊥) → q ≡ r → Moved f g k l r q
 
-module _ (f g : ℕ) (apart : f ≡ g → ⊥) where
+-- f and g are two triangles of L
+record Triangles (L : List ℕ) (f g : ℕ) : Type 0 where
+  apart : f ≡ g → ⊥
+  mine : Element L f
+  other : Element L g
+  mine-three : sides L f ≡ 3
+  other-three : sides L g ≡ 3
+
+module _ {L : List ℕ} {f g : ℕ} (p : Triangles L f g) where
   moved-as : {k l r q : ℕ} → Moved f g k l r q → moved f g k l r ≡ q
   unfolding moved
   moved-as {r = r} (over e h) = rw (true-of (eqb (r / 8) f) (means-eq (r / 8) f .shows e), h, moved)
-  moved-as {r = r} (back e h) =
-      let d : r / 8 ≡ f → ⊥ = λ z. apart (sym z ∙ e) in
+  moved-as {r = r} (across e h) =
+      let d : r / 8 ≡ f → ⊥ = λ z. p .apart (sym z ∙ e) in
       rw (false-of (eqb (r / 8) f) (means-not (means-eq (r / 8) f) .shows d), true-of (eqb (r / 8) g) (means-eq (r / 8) g .shows e), h, moved)
   moved-as {r = r} (stays d e h) =
-      rw (false-of (eqb (r / 8) f) (means-not (means-eq (r / 8) f) .shows d), false-of (eqb (r / 8) g) (means-not (means-eq (r / 8) g) .shows e), h, moved)
+      let u = false-of (eqb (r / 8) f) (means-not (means-eq (r / 8) f) .shows d) in
+      rw (u, false-of (eqb (r / 8) g) (means-not (means-eq (r / 8) g) .shows e), h, moved)
 
-  moved-is : (k l r : ℕ) → Moved f g k l r (moved f g k l r)
-  moved-is k l r = elim (decide (means-eq (r / 8) f)) [
-    | inl e ↦ over e (moved-as (over e refl))
-    | inr d ↦ elim (decide (means-eq (r / 8) g)) [ inl e ↦ back e (moved-as (back e refl)) | inr e ↦ stays d e (moved-as (stays d e refl)) ]
-  ]
+  -- a side of either has a number up to 3
+  number-three : (r : ℕ) → Side L r → (r / 8 ≡ f) ⊎ (r / 8 ≡ g) → r % 8 ≤ 3
+  number-three r a (inl e) = omega (arith, side-facts L r a .number-to, ap (sides L) e)
+  number-three r a (inr e) = omega (arith, side-facts L r a .number-to, ap (sides L) e)
 
-  -- sides of one element stay together
-  moved-together : (k l r q : ℕ) → r / 8 ≡ q / 8 → moved f g k l r / 8 ≡ moved f g k l q / 8
-  moved-together k l r q z = elim (moved-is k l r) [
-    | over e h ↦ omega (arith, moved-as {k = k} {l = l} {r = q} (over (sym z ∙ e) refl))
-    | back e h ↦ omega (arith, moved-as {k = k} {l = l} {r = q} (back (sym z ∙ e) refl))
-    | stays d e h ↦ omega (arith, moved-as {k = k} {l = l} {r = q} (stays (λ y. d (z ∙ y)) (λ y. e (z ∙ y)) refl))
-  ]
-
-  module _ (L : List ℕ) (mine : Element L f) (other : Element L g) (mine-three : sides L f ≡ 3) (other-three : sides L g ≡ 3) (k l r : ℕ) (a : Side L r) where
-    -- turned back by as much they are what they were
-    moved-back : k ≤ 3 → l ≤ 3 → moved f g (3 - l) (3 - k) (moved f g k l r) ≡ r
-    moved-back h i =
-        let x = side-facts L r a in
-        elim (moved-is k l r) [
-          | over e y ↦
-              let (c, d) = turned-code g k (r % 8) in
-              let z = turn-back k (r % 8) h (x .number-from) (omega (arith, x .number-to, ap (sides L) e)) in
-              rw y (moved-as (back c (rw (d, z) (omega arith))))
-          | back e y ↦
-              let (c, d) = turned-code f l (r % 8) in
-              let z = turn-back l (r % 8) i (x .number-from) (omega (arith, x .number-to, ap (sides L) e)) in
-              rw y (moved-as (over c (rw (d, z) (omega arith))))
-          | stays d e y ↦ rw y (moved-as (stays d e refl))
-        ]
-
-    moved-side : Side L (moved f g k l r)
-    moved-side = elim (moved-is k l r) [
-      | over e y ↦ rw y (at-corner L g (turn k (r % 8)) (other .0) (other .1) (omega arith) (omega arith) (omega arith) .is-side)
-      | back e y ↦ rw y (at-corner L f (turn l (r % 8)) (mine .0) (mine .1) (omega arith) (omega arith) (omega arith) .is-side)
-      | stays d e y ↦ rw y a
+  module _ (k l r : ℕ) where
+    moved-is : Moved f g k l r (moved f g k l r)
+    moved-is = elim (decide (means-eq (r / 8) f)) [
+      | inl e ↦ over e (moved-as (over e refl))
+      | inr d ↦ elim (decide (means-eq (r / 8) g)) [ inl e ↦ across e (moved-as (across e refl)) | inr e ↦ stays d e (moved-as (stays d e refl)) ]
     ]
+
+    -- sides of one element go to one element
+    moved-together : (q : ℕ) → r / 8 ≡ q / 8 → moved f g k l r / 8 ≡ moved f g k l q / 8
+    moved-together q z = elim moved-is [
+      | over e h ↦ omega (arith, moved-as {k = k} {l = l} {r = q} (over (sym z ∙ e) refl))
+      | across e h ↦ omega (arith, moved-as {k = k} {l = l} {r = q} (across (sym z ∙ e) refl))
+      | stays d e h ↦ omega (arith, moved-as {k = k} {l = l} {r = q} (stays (λ y. d (z ∙ y)) (λ y. e (z ∙ y)) refl))
+    ]
+
+    module _ (a : Side L r) where
+      moved-side : Side L (moved f g k l r)
+      moved-side = elim moved-is [
+        | over e y ↦ rw y (at-corner L g (turn k (r % 8)) (p .other .0) (p .other .1) (omega arith) (omega arith) (omega arith) .is-side)
+        | across e y ↦ rw y (at-corner L f (turn l (r % 8)) (p .mine .0) (p .mine .1) (omega arith) (omega arith) (omega arith) .is-side)
+        | stays d e y ↦ rw y a
+      ]
+
+      -- moved once more, and turned the rest of the way round, a side is where it was
+      moved-back : k ≤ 3 → l ≤ 3 → moved f g (3 - l) (3 - k) (moved f g k l r) ≡ r
+      moved-back h i =
+          let from = side-facts L r a .number-from in
+          elim moved-is [
+            | over e y ↦
+                let (c, d) = turned-code g k (r % 8) in
+                rw y (moved-as (across c (rw (d, turn-back k (r % 8) h from (number-three r a (inl e))) (omega arith))))
+            | across e y ↦
+                let (c, d) = turned-code f l (r % 8) in
+                rw y (moved-as (over c (rw (d, turn-back l (r % 8) i from (number-three r a (inr e))) (omega arith))))
+            | stays d e y ↦ rw y (moved-as (stays d e refl))
+          ]
+
+      moved-next : moved f g k l (next L r) ≡ next L (moved f g k l r)
+      moved-next =
+          let from = side-facts L r a .number-from in
+          let n = next-numbered L r a in
+          elim moved-is [
+            | over e y ↦
+                rw (y, turned-next L g k (r % 8) (p .other-three), sym (turn-next k (r % 8) from (number-three r a (inl e))))
+                (moved-as (over (n .same ∙ e) (rw (n .index, e, p .mine-three) refl)))
+            | across e y ↦
+                rw (y, turned-next L f l (r % 8) (p .mine-three), sym (turn-next l (r % 8) from (number-three r a (inr e))))
+                (moved-as (across (n .same ∙ e) (rw (n .index, e, p .other-three) refl)))
+            | stays d e y ↦ rw y (moved-as (stays (λ z. d (sym (n .same) ∙ z)) (λ z. e (sym (n .same) ∙ z)) refl))
+          ]
+
+-- a row that begins with the side after t, and then has the one before it and t, has the sides of t's triangle turned by t's number
+module _ (L L′ : List ℕ) (e t : ℕ) (b : Side L t) (three : sides L (t / 8) ≡ 3) where
+  after : next L t ≡ 8 * (t / 8) + turn (t % 8) 1
+  after =
+      let x = side-facts L t b in
+      let n = next-numbered L t b in
+      elim (next-number (sides L (t / 8)) (t % 8)) [ wraps c d ↦ omega arith | grows c d ↦ omega arith ]
+
+  before : previous L t ≡ 8 * (t / 8) + turn (t % 8) 2
+  before =
+      let x = side-facts L t b in
+      let n = previous-numbered L t b in
+      elim (previous-number (sides L (t / 8)) (t % 8)) [ wraps c d ↦ omega arith | falls c d ↦ omega arith ]
+
+  itself : t ≡ 8 * (t / 8) + turn (t % 8) 3
+  itself = let x = side-facts L t b in omega arith
+
+  row-origin : origin L′ (8 * e + 1) ≡ origin L (next L t) → origin L′ (8 * e + 2) ≡ origin L (previous L t) → origin L′ (8 * e + 3) ≡ origin L t
+      → (r : ℕ) → r / 8 ≡ e → 1 ≤ r % 8 → r % 8 ≤ 3 → origin L′ r ≡ origin L (8 * (t / 8) + turn (t % 8) (r % 8))
+  row-origin c d f r g h i = elim (decide (means-eq (r % 8) 1)) [
+    | inl z ↦ rw z (ap (origin L′) (omega arith) ∙ c ∙ ap (origin L) after)
+    | inr y ↦ elim (decide (means-eq (r % 8) 2)) [
+      | inl z ↦ rw z (ap (origin L′) (omega arith) ∙ d ∙ ap (origin L) before)
+      | inr z ↦ let w : r % 8 ≡ 3 = omega arith in rw w (ap (origin L′) (omega arith) ∙ f ∙ ap (origin L) itself)
+    ]
+  ]
+
+-- L′ is L with the triangles of s and t in each other's rows, turned so that t's and s's own sides come third
+pub record Turned (L L′ : List ℕ) (s t : ℕ) : Type 0 where
+  pub replaced : Replaced L L′ (s / 8) (t / 8)
+  pub mine : Side L s
+  pub other : Side L t
+  pub apart : s / 8 ≡ t / 8 → ⊥
+  pub mine-first : origin L′ (8 * (s / 8) + 1) ≡ origin L (next L t)
+  pub mine-second : origin L′ (8 * (s / 8) + 2) ≡ origin L (previous L t)
+  pub mine-third : origin L′ (8 * (s / 8) + 3) ≡ origin L t
+  pub other-first : origin L′ (8 * (t / 8) + 1) ≡ origin L (next L s)
+  pub other-second : origin L′ (8 * (t / 8) + 2) ≡ origin L (previous L s)
+  pub other-third : origin L′ (8 * (t / 8) + 3) ≡ origin L s
+
+module _ {L L′ : List ℕ} {s t : ℕ} (x : Turned L L′ s t) where
+  triangles : Triangles L (s / 8) (t / 8)
+  unfolding sidesBy
+  triangles =
+      let y = x .replaced in
+      let (c, d) : (sides L (s / 8) ≡ 3) × (sides L (t / 8) ≡ 3) = (ap sidesBy (y .mine-three), ap sidesBy (y .other-three)) in
+      record { apart = x .apart; mine = y .mine; other = y .other; mine-three = c; other-three = d }
+
+  few-numbers : (s % 8 ≤ 3) × (t % 8 ≤ 3)
+  few-numbers = (number-three triangles s (x .mine) (inl refl), number-three triangles t (x .other) (inr refl))
+
+  -- each side of L′ begins where its side of L does
+  moved-origin : (r : ℕ) → Side L′ r → origin L′ r ≡ origin L (moved (s / 8) (t / 8) (t % 8) (s % 8) r)
+  moved-origin r a =
+      let p = triangles in
+      let b = side-before (x .replaced) r a in
+      let from = side-facts L r b .number-from in
+      elim (moved-is p (t % 8) (s % 8) r) [
+        | over e y ↦
+            let row = row-origin L L′ (s / 8) t (x .other) (p .other-three) (x .mine-first) (x .mine-second) (x .mine-third) in
+            rw y (row r e from (number-three p r b (inl e)))
+        | across e y ↦
+            let row = row-origin L L′ (t / 8) s (x .mine) (p .mine-three) (x .other-first) (x .other-second) (x .other-third) in
+            rw y (row r e from (number-three p r b (inr e)))
+        | stays d e y ↦ rw y (same-origin (x .replaced) r b d e)
+      ]
+
+  turned-renumbered : Renumbered L L′ (moved (s / 8) (t / 8) (t % 8) (s % 8)) (moved (s / 8) (t / 8) (3 - s % 8) (3 - t % 8))
+  turned-renumbered =
+      let p = triangles in
+      let y = x .replaced in
+      let (i, j) = few-numbers in
+      let (k, l) : (3 - (3 - s % 8) ≡ s % 8) × (3 - (3 - t % 8) ≡ t % 8) = omega arith in
+      record {
+        long = y .long;
+        nothing = moved-as p (stays (λ e. omega (arith, y .mine)) (λ e. omega (arith, y .other)) refl);
+        there = λ r a. moved-side p (t % 8) (s % 8) r (side-before y r a);
+        here = λ r a. side-still y _ (moved-side p (3 - s % 8) (3 - t % 8) r a);
+        to-back = λ r a. rw (k, l) at (moved-back p (3 - s % 8) (3 - t % 8) r a (omega arith) (omega arith));
+        back-to = λ r a. moved-back p (t % 8) (s % 8) r (side-before y r a) j i;
+        origins = moved-origin;
+        follows = λ r a. ap (moved (s / 8) (t / 8) (t % 8) (s % 8)) (same-next y r) ∙ moved-next p (t % 8) (s % 8) r (side-before y r a);
+        together = λ r q a b. moved-together p (t % 8) (s % 8) r q;
+        together-back = λ r q a b. moved-together p (3 - s % 8) (3 - t % 8) r q;
+      }
+
+  pub turned-accepted : {n : ℕ} → Accepted n L → Accepted n L′
+  turned-accepted = renumbered-accepted turned-renumbered
