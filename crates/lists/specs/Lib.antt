@@ -9,3 +9,4 @@ pub mod CountLaws
 pub mod Steps
 pub mod Changes
 pub mod Totals
+pub mod Matches
