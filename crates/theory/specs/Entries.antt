@@ -65,7 +65,8 @@ module _ (L : List ℕ) where
       go (inl h) = at-tab (4 * elements L) (λ q. e2eEntry L (sideAt q)) p h ∙ none
       go (inr h) = List·getD-eq-default (wide L) 0 (omega (arith, length-wide, le-not-lt (4 * elements L) p h))
 
-  border-with : (s : ℕ) → Side L s → partner L s ≡ 0 → T (sideWith L (isBorder L) (slot s))
+  -- a border side is counted
+  pub border-with : (s : ℕ) → Side L s → partner L s ≡ 0 → T (sideWith L (isBorder L) (slot s))
   border-with s a z =
       let e = sideAt-slot L s a in
       both-pass (isSide L (sideAt (slot s))) (isBorder L (sideAt (slot s))) (rw e a) (rw e (means-border s .shows z))

@@ -7,7 +7,7 @@ use mathlib.Core.List.{List, [], _∷_}
 use Prim.Native.Nat.{ℕ, zero, suc, _≤_, _<_}
 use native.Mathlib.Omega.{arith}
 use lib.ListN.{length}
-use Rattle.lists.specs.TestLaws.{means-eq, zero-or}
+use Rattle.lists.specs.TestLaws.{zero-or}
 use Rattle.lists.specs.Search.{at}
 use Rattle.rules.specs.Elements.{Side, origin, destination, next}
 use Rattle.rules.specs.Pairing.{SideAt, TurnOrder}
@@ -16,8 +16,8 @@ use Rattle.rules.specs.Queries.{prepend, over, readDestination, ringSides, neig
 use Rattle.theory.specs.Sides.{side-positive}
 use Rattle.theory.specs.Steps.{next-side}
 use Rattle.theory.specs.FitRows.{ends-differ}
-use Rattle.theory.specs.Pairings.{means-alike, means-opposed, means-joins, means-no-alike, pairing-exists}
-use Rattle.theory.specs.Orders.{Good, one-border-into}
+use Rattle.theory.specs.Pairings.{means-opposed, means-joins}
+use Rattle.theory.specs.Orders.{Good, lone, one-border-into}
 use Rattle.theory.specs.Built.{built, by-entry-side, by-entry-border, read-border-side, read-origin, read-destination, ReadEntry, rim, inner, unused, read-entry}
 use Rattle.theory.specs.Reads.{and-then, Mapped, read-all}
 use Rattle.theory.specs.Rims.{BorderInto}
@@ -35,12 +35,6 @@ pub record ListsJoined (L : List ℕ) (v : ℕ) (us : List ℕ) : Type 0 where
   pub once : (i j : ℕ) → i < length us → j < length us → at us i ≡ at us j → i ≡ j
 
 module _ (n : ℕ) (L : List ℕ) (g : Good n L) where
-  -- two sides with the same ends are one
-  lone : (s t : ℕ) → Side L s → Side L t → origin L s ≡ origin L t → destination L s ≡ destination L t → s ≡ t
-  lone s t a b e f =
-      let z = pairing-exists n L (g .fit) .0 (partner L, g .pairing) .1 in
-      means-no-alike L .says (means-eq _ _ .shows z) s t a b (means-alike L s t .shows (e, f))
-
   module _ (v : ℕ) (o ds : List ℕ) (x : TurnOrder L (partner L) v o) (m : Mapped (λ s. destination L s) o ds) where
     leave : (i : ℕ) → i < length ds → Joined L v (at ds i)
     leave i h =
@@ -57,7 +51,7 @@ module _ (n : ℕ) (L : List ℕ) (g : Good n L) where
         let k′ : j < length o = omega (arith, m .size) in
         let (a, p) = x .sides i h′ in
         let (b, q) = x .sides j k′ in
-        x .once i j h′ k′ (lone (at o i) (at o j) a b (p ∙ sym q) (sym (m .entries i h′) ∙ e ∙ m .entries j k′))
+        x .once i j h′ k′ (lone n L g (at o i) (at o j) a b (p ∙ sym q) (sym (m .entries i h′) ∙ e ∙ m .entries j k′))
 
     -- a side that arrives has a partner that leaves, or is a border side
     arrive : (u s : ℕ) → SideAt L u s → destination L s ≡ v → (partner L s ≡ 0 → ⊥) → (i : ℕ) × (i < length ds) × (at ds i ≡ u)

@@ -6,7 +6,7 @@ use mathlib.Core.List.{List, []}
 use Prim.Native.Nat.{ℕ, zero, suc, _-_, _≤_, _<_}
 use native.Mathlib.Omega.{arith}
 use lib.ListN.{length}
-use Rattle.lists.specs.TestLaws.{zero-or}
+use Rattle.lists.specs.TestLaws.{means-eq, zero-or}
 use Rattle.lists.specs.Search.{at}
 use Rattle.rules.specs.Elements.{Side, origin, destination, next, previous}
 use Rattle.rules.specs.Pairing.{Pairing, Turn, SideAt, TurnOrder, Conformal, Accepted}
@@ -14,7 +14,7 @@ use Rattle.rules.specs.Tables.{partner}
 use Rattle.theory.specs.Sides.{side-positive}
 use Rattle.theory.specs.Steps.{next-side, next-inj, previous-side, next-previous}
 use Rattle.theory.specs.FitRows.{Fit, means-fit}
-use Rattle.theory.specs.Pairings.{means-opposed, pairing-unique, pairing-exists, the-pairing}
+use Rattle.theory.specs.Pairings.{means-alike, means-opposed, means-no-alike, pairing-unique, pairing-exists, the-pairing}
 
 -- a turn order by one pairing is one by another
 module _ (L : List ℕ) (π ρ : ℕ → ℕ) (same : (s : ℕ) → Side L s → π s ≡ ρ s) where
@@ -46,6 +46,12 @@ pub record Good (n : ℕ) (L : List ℕ) : Type 0 where
   pub fit : Fit n L
   pub pairing : Pairing L (partner L)
   pub orders : (v : ℕ) → 1 ≤ v → v ≤ n → (o : List ℕ) × TurnOrder L (partner L) v o
+
+-- two sides with the same ends are one
+pub lone : (n : ℕ) (L : List ℕ) → Good n L → (s t : ℕ) → Side L s → Side L t → origin L s ≡ origin L t → destination L s ≡ destination L t → s ≡ t
+lone n L g s t a b e f =
+    let z = pairing-exists n L (g .fit) .0 (partner L, g .pairing) .1 in
+    means-no-alike L .says (means-eq _ _ .shows z) s t a b (means-alike L s t .shows (e, f))
 
 -- an empty turn order counts where a vertex has no side
 pub order-empty : (L : List ℕ) (π : ℕ → ℕ) (v : ℕ) → ((s : ℕ) → SideAt L v s → ⊥) → TurnOrder L π v []
