@@ -10,12 +10,14 @@ pub mod Rounds
 pub mod SiblingUses
 pub mod Entries
 pub mod Columns
+pub mod Triangles
 pub mod Rows
 pub mod Replacing
 pub mod Turned
 pub mod Swapping
 pub mod Turns
 pub mod Orders
+pub mod Counts
 pub mod Tracing
 pub mod Walking
 pub mod Covering
