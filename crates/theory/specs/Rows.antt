@@ -1,15 +1,16 @@
--- A list with another row for one element.
+-- A list with other rows for one element, or for two.
 -- Assumes nothing.
-use mathlib.Core.Path.{_≡_, ap, _∙_}
+use mathlib.Core.Path.{_≡_, refl, ap, sym, _∙_}
 use mathlib.Core.Logic.{_⊎_, inl, inr}
 use mathlib.Core.List.{List}
 use Prim.Native.Nat.{ℕ, _+_, _*_, _-_, _/_, _%_, _≤_, _<_}
 use native.Mathlib.Omega.{arith}
 use lib.ListN.{length}
+use lib.Seq.{ext-getD}
+use Rattle.lists.specs.TestLaws.{decide, means-eq}
 use Rattle.lists.specs.Search.{at}
 use Rattle.lists.specs.SearchLaws.{le-or-lt}
 use Rattle.lists.specs.Parts.{splice-length, splice-at, splice-before, splice-after}
-use Rattle.rules.specs.Elements.{elements}
 use Rattle.rules.specs.Pairing.{Element}
 use Rattle.rules.specs.Swap.{withRow}
 
@@ -36,3 +37,54 @@ module _ (f : ℕ) (row L : List ℕ) (four : length row ≡ 4) (el : Element L 
       go (inr h) c = splice-before (4 * (f - 1)) (4 * f) L row ends inside p h
       go (inl h) (inl l) = splice-after (4 * (f - 1)) (4 * f) L row ends inside p l
       go (inl h) (inr l) = absurd (d (omega arith))
+
+-- a row that stands there already changes nothing
+pub row-itself : (f : ℕ) (row L : List ℕ) → length row ≡ 4 → Element L f → ((j : ℕ) → j < 4 → at row j ≡ at L (4 * (f - 1) + j)) → withRow f row L ≡ L
+row-itself f row L four el same =
+    ext-getD 0 (withRow f row L) L (row-length f row L four el) (λ p h. go p (decide (means-eq (p / 4 + 1) f)))
+  where
+    go : (p : ℕ) → (p / 4 + 1 ≡ f) ⊎ (p / 4 + 1 ≡ f → ⊥) → at (withRow f row L) p ≡ at L p
+    go p (inl e) =
+        let q : p ≡ 4 * (f - 1) + p % 4 = omega arith in
+        ap (at (withRow f row L)) q ∙ row-entry f row L four el (p % 4) (omega arith) ∙ same (p % 4) (omega arith) ∙ sym (ap (at L) q)
+    go p (inr d) = row-other f row L four el p d
+
+-- two rows replaced in lists that agree elsewhere
+module _ (f g : ℕ) (row row′ L M : List ℕ) (four : length row ≡ 4) (four′ : length row′ ≡ 4) (mine : Element L f) (other : Element L g)
+    (long : length M ≡ length L) (same : (p : ℕ) → (p / 4 + 1 ≡ f → ⊥) → (p / 4 + 1 ≡ g → ⊥) → at M p ≡ at L p) where
+  abbrev twice : List ℕ → List ℕ
+  twice X = withRow g row′ (withRow f row X)
+
+  -- what stands at p in either
+  module _ (X : List ℕ) (sized : length X ≡ length L) where
+    in-x : Element X f
+    in-x = omega (arith, mine)
+
+    in-y : Element (withRow f row X) g
+    in-y = omega (arith, other, row-length f row X four in-x)
+
+    twice-long : length (twice X) ≡ length L
+    twice-long = row-length g row′ (withRow f row X) four′ in-y ∙ row-length f row X four in-x ∙ sized
+
+    twice-g : (p : ℕ) → p / 4 + 1 ≡ g → at (twice X) p ≡ at row′ (p % 4)
+    twice-g p e =
+        let q : p ≡ 4 * (g - 1) + p % 4 = omega arith in
+        ap (at (twice X)) q ∙ row-entry g row′ (withRow f row X) four′ in-y (p % 4) (omega arith)
+
+    twice-f : (p : ℕ) → (p / 4 + 1 ≡ g → ⊥) → p / 4 + 1 ≡ f → at (twice X) p ≡ at row (p % 4)
+    twice-f p d e =
+        let q : p ≡ 4 * (f - 1) + p % 4 = omega arith in
+        row-other g row′ (withRow f row X) four′ in-y p d ∙ ap (at (withRow f row X)) q ∙ row-entry f row X four in-x (p % 4) (omega arith)
+
+    twice-other : (p : ℕ) → (p / 4 + 1 ≡ g → ⊥) → (p / 4 + 1 ≡ f → ⊥) → at (twice X) p ≡ at X p
+    twice-other p d e = row-other g row′ (withRow f row X) four′ in-y p d ∙ row-other f row X four in-x p e
+
+  pub rows-alike : twice M ≡ twice L
+  rows-alike =
+      ext-getD 0 (twice M) (twice L) (twice-long M long ∙ sym (twice-long L refl))
+      (λ p h. go p (decide (means-eq (p / 4 + 1) g)) (decide (means-eq (p / 4 + 1) f)))
+    where
+      go : (p : ℕ) → (p / 4 + 1 ≡ g) ⊎ (p / 4 + 1 ≡ g → ⊥) → (p / 4 + 1 ≡ f) ⊎ (p / 4 + 1 ≡ f → ⊥) → at (twice M) p ≡ at (twice L) p
+      go p (inl e) c = twice-g M long p e ∙ sym (twice-g L refl p e)
+      go p (inr d) (inl e) = twice-f M long p d e ∙ sym (twice-f L refl p d e)
+      go p (inr d) (inr e) = twice-other M long p d e ∙ same p e d ∙ sym (twice-other L refl p d e)

@@ -1,18 +1,17 @@
 -- A list with a diagonal swapped: the rows of the two triangles are as point 1 of document 02 says, and all others stay.
 -- Assumes nothing.
 use mathlib.Core.Path.{_≡_, refl, ap, sym, _∙_}
-use mathlib.Core.Bool.{not}
-use mathlib.Core.List.{List, [], _∷_}
+use mathlib.Core.List.{List}
 use Prim.Native.Nat.{ℕ, _+_, _*_, _-_, _/_, _%_, _≤_, _<_}
 use native.Mathlib.Omega.{arith}
-use lib.Dec.{T, eqb}
+use lib.Dec.{T}
 use lib.ListN.{length}
 use Rattle.lists.specs.TestLaws.{Means, means-itself, means-both, means-not, means-eq}
 use Rattle.lists.specs.Search.{at}
-use Rattle.rules.specs.Elements.{elements, element, corner, sides, isSide, Side, slot, origin, destination, next, previous}
+use Rattle.rules.specs.Elements.{element, corner, sides, isSide, Side, slot, origin, destination, next}
 use Rattle.rules.specs.Pairing.{opposed, Element}
-use Rattle.rules.specs.Tables.{partner, isBorder}
-use Rattle.rules.specs.Swap.{third, flipped, withRow, swapped, isSwappable}
+use Rattle.rules.specs.Tables.{partner}
+use Rattle.rules.specs.Swap.{flipped, withRow, swapped, isSwappable}
 use Rattle.theory.specs.Sides.{three, four, SidesBy, sides-by, side-facts}
 use Rattle.theory.specs.Steps.{NextNumber, wraps, grows, next-number, next-numbered}
 use Rattle.theory.specs.FitRows.{Fit}

@@ -2,12 +2,11 @@
 -- Assumes nothing.
 use mathlib.Core.Path.{_≡_, refl, sym, _∙_}
 use mathlib.Core.Bool.{Bool}
-use Prim.Native.Nat.{ℕ, _≤_}
+use Prim.Native.Nat.{ℕ}
 use lib.Dec.{eqb}
 use borrow.Author.Tests.{le-leb, lt-leb, not-true, not-false}
-use Rattle.lists.specs.Tests.{both, either, within}
+use Rattle.lists.specs.Tests.{both, within}
 use Rattle.rules.specs.Elements.{element, number}
-use Rattle.rules.specs.Tables.{borders}
 use Rattle.rules.specs.Edits.{isThere}
 use Rattle.edits.specs.Holding.{there-by}
 use borrow.Author.Needs.{needs}
