@@ -43,7 +43,7 @@ fn commit(
 }
 
 // Checks 3 to 9 and the tables, where the lengths are fit. The work buffer isn't cleared yet.
-fn build_fit(
+pub fn build_fit(
     n: u32,
     columns: u32,
     list: &[u32],

@@ -1,0 +1,230 @@
+-- `swap::swap_fit` meets its contract. The laws of its steps are in Swaps.
+-- Assumes nothing.
+use mathlib.Core.Path.{_≡_, ap, sym, _∙_}
+use mathlib.Core.Bool.{true}
+use mathlib.Core.List.{_++_}
+use Prim.Native.Nat.{_+_, _*_, _-_}
+use lib.ListN.{drop}
+use borrow.Author.Tests.{not-true, not-false}
+use Rattle.rules.specs.Elements.{elements}
+use Rattle.rules.specs.Refusals.{gives}
+use Rattle.rules.specs.Edits.{isThere}
+use Rattle.rules.specs.Swap.{isSwappable}
+use Rattle.theory.specs.Swapping.{means-swappable}
+use Rattle.answer.specs.Numbers.{numbers}
+use Rattle.build.specs.Building.{Checked, front-fits, sized, Scratched, scratched}
+use Rattle.swap.specs.Swaps.{gone, unfit, swaps, old-refused, number, tabled, new-refused, to-swap, new-tried, Tabled}
+use borrow.Author.Needs.{needs}
+use Rattle.swap.proofs.swap_fit.Statement.{statement}
+use Rattle.swap.proofs.swap_fit.Tie as tie
+
+abbrev begun : tie.After-wide → tie.Start
+begun c = c .before .before .before .before .before .before
+
+abbrev tabled-at : tie.After-slice-known6 → tie.After-tabulate
+tabled-at c = c .before .before
+
+abbrev start : tie.After-tabulate → tie.Start
+start c = begun (c .before .before .before)
+
+known : (c : tie.Start) → let a = c .args in Checked (a .n) (a .list .now) (a .v2e .now) (a .e2e .now) (a .work .now)
+known c = c .pre .0
+
+-- the scratch buffer is back in front of the rest of the work
+scratch : (c : tie.After-tabulate) →
+    let a = start c .args in
+    let end = c .before .before .before .wide .result + 12 * elements (a .list .now) in
+    Scratched (a .n) (a .list .now) (numbers (c .tabulate .result)) (a .work .now) (c .tabulate .last .1 .1 .0 ++ drop (end - 0) (a .work .now))
+scratch c = scratched (known (start c)) (c .before .before .before .wide .ensures) (c .tabulate .ensures)
+
+-- the old list is accepted
+abbrev done-at : tie.After-known-told → tie.After-tabulate
+done-at c = tabled-at (c .before .before .before)
+
+old : (c : tie.After-known-told) →
+    let d = done-at c in
+    let a = start d .args in
+    let end = d .before .before .before .wide .result + 12 * elements (a .list .now) in
+    Checked (a .n) (a .list .now) (a .v2e .now) (a .e2e .now) (a .work .now)
+    × Scratched (a .n) (a .list .now) (numbers (d .tabulate .result)) (a .work .now) (d .tabulate .last .1 .1 .0 ++ drop (end - 0) (a .work .now))
+    × (numbers (d .tabulate .result) ≡ gives (c .before .t .given .0 .0) (c .before .t .given .0 .1 .0))
+old c = let d = done-at c in (known (start d), scratch d, ap numbers (c .before .t .given .1))
+
+-- the half-edge is there
+abbrev counted : tie.After-is-there → tie.After-known-told
+counted c = c .before .before
+
+abbrev begin : tie.After-is-there → tie.Start
+begin c = start (done-at (counted c))
+
+there : (c : tie.Else1) → let a = begin (c .before) .args in isThere (a .list .now) (a .code) ≡ true
+there c = sym (c .before .is-there .ensures) ∙ not-false _ (c .if1 .left)
+
+tables : (c : tie.Else1) →
+    let d = done-at (counted (c .before)) in
+    let a = start d .args in
+    let end = d .before .before .before .wide .result + 12 * elements (a .list .now) in
+    Tabled (d .before .before .before .wide .result) (a .list .now) (d .tabulate .last .1 .1 .0 ++ drop (end - 0) (a .work .now))
+tables c =
+    let k = counted (c .before) in
+    let (x, y, g) = old k in tabled x y g (done-at k .before .before .before .wide .ensures)
+
+-- and a diagonal's
+abbrev past : tie.After-is-swappable → tie.Else1
+past c = c .before .before .before
+
+fit : (c : tie.Else2) → let a = begin (past (c .before) .before) .args in isSwappable (a .list .now) (a .code) ≡ true
+fit c = sym (c .before .is-swappable .ensures) ∙ not-false _ (c .if2 .left)
+
+wide-requires : tie.Need-wide-requires
+wide-requires c κs = search needs
+
+mul-end : tie.Need-mul-end
+mul-end c = search needs
+
+add-end : tie.Need-add-end
+add-end c = search needs
+
+sub-tabulate : tie.Need-sub-tabulate
+sub-tabulate c = search needs
+
+part-tabulate-start : tie.Need-part-tabulate-start
+part-tabulate-start c = search needs
+
+part-tabulate-end : tie.Need-part-tabulate-end
+part-tabulate-end c = let w = c .before in let h = front-fits (known (begun w)) (w .wide .ensures) in search needs
+
+tabulate-requires : tie.Need-tabulate-requires
+tabulate-requires c κs = let w = c .before .before in sized (known (begun w)) (w .wide .ensures)
+
+enum-known-t : tie.Need-enum-known-t
+enum-known-t c = search needs
+
+enum-told : tie.Need-enum-told
+enum-told c = search needs
+
+same-length : tie.Need-same-length
+same-length c = search needs
+
+same-length-2 : tie.Need-same-length-2
+same-length-2 c = search needs
+
+returns : tie.Need-returns
+returns c =
+    let done = tabled-at (c .before .before) in
+    (old-refused (scratch done) (start done .args .code) (start done .args .b2e .now) (ap numbers (c .enum-told .given .1)), scratch done .long)
+
+is-there-requires : tie.Need-is-there-requires
+is-there-requires c κs = let (x, y, g) = old (c .before) in number x y g
+
+refuse-requires : tie.Need-refuse-requires
+refuse-requires c κs = search needs
+
+same-length-3 : tie.Need-same-length-3
+same-length-3 c = search needs
+
+same-length-4 : tie.Need-same-length-4
+same-length-4 c = search needs
+
+returns-2 : tie.Need-returns-2
+returns-2 c =
+    let asked = c .before .before in
+    let (x, y, g) = old (counted asked) in
+    let a = begin asked .args in
+    (new-refused y (a .code) (a .b2e .now) g (gone (a .n) (a .list .now) (a .code) (sym (asked .is-there .ensures) ∙ not-true _ (c .before .if1 .taken))) (c .refuse .ensures), y .long)
+
+is-swappable-requires : tie.Need-is-swappable-requires
+is-swappable-requires c κs = tables (c .before .before)
+
+refuse-requires-2 : tie.Need-refuse-requires-2
+refuse-requires-2 c κs = search needs
+
+same-length-5 : tie.Need-same-length-5
+same-length-5 c = search needs
+
+same-length-6 : tie.Need-same-length-6
+same-length-6 c = search needs
+
+returns-3 : tie.Need-returns-3
+returns-3 c =
+    let asked = c .before .before in
+    let one = past asked in
+    let (x, y, g) = old (counted (one .before)) in
+    let a = begin (one .before) .args in
+    let f = unfit (a .n) (a .list .now) (a .code) (there one) (sym (asked .is-swappable .ensures) ∙ not-true _ (c .before .if2 .taken)) in
+    (new-refused y (a .code) (a .b2e .now) g f (c .refuse2 .ensures), y .long)
+
+entry-of-requires : tie.Need-entry-of-requires
+entry-of-requires c κs =
+    let two = c .before .before in
+    let a = begin (past (two .before) .before) .args in
+    (tables (past (two .before)), means-swappable (a .list .now) (a .code) .says (rw (fit two) tt) .side)
+
+swap-rows-requires : tie.Need-swap-rows-requires
+swap-rows-requires c κs =
+    let entry = c .before .before .before .before .before in
+    let two = entry .before .before .before in
+    let one = past (two .before) in
+    let (x, y, g) = old (counted (one .before)) in
+    (to-swap x y g (begin (one .before) .args .code) (fit two) (entry .entry-of .ensures), begin (one .before) .pre .1)
+
+same-length-7 : tie.Need-same-length-7
+same-length-7 c = search needs
+
+same-length-8 : tie.Need-same-length-8
+same-length-8 c = search needs
+
+same-length-9 : tie.Need-same-length-9
+same-length-9 c = search needs
+
+same-length-10 : tie.Need-same-length-10
+same-length-10 c = search needs
+
+same-length-11 : tie.Need-same-length-11
+same-length-11 c = search needs
+
+returns-4 : tie.Need-returns-4
+returns-4 c =
+    let done = c .before .before .before .before .before .before .before .before .before .before in
+    let entry = done .before .before .before .before .before .before in
+    let two = entry .before .before .before in
+    let one = past (two .before) in
+    let (x, y, g) = old (counted (one .before)) in
+    let a = begin (one .before) .args in
+    let (left, long) = done .swap-rows .ensures in
+    (new-tried y (a .code) (a .b2e .now) g (swaps (a .n) (a .list .now) (a .code) (there one) (fit two)) left, long ∙ y .long)
+
+pub swap-fit-spec : {M : Type 1} → statement M
+swap-fit-spec =
+    tie.close
+    (tie.spec
+    wide-requires
+    mul-end
+    add-end
+    sub-tabulate
+    part-tabulate-start
+    part-tabulate-end
+    tabulate-requires
+    enum-known-t
+    enum-told
+    same-length
+    same-length-2
+    returns
+    is-there-requires
+    refuse-requires
+    same-length-3
+    same-length-4
+    returns-2
+    is-swappable-requires
+    refuse-requires-2
+    same-length-5
+    same-length-6
+    returns-3
+    entry-of-requires
+    swap-rows-requires
+    same-length-7
+    same-length-8
+    same-length-9
+    same-length-10
+    same-length-11
+    returns-4)

@@ -1,0 +1,180 @@
+-- The whole call, in buffers that may be longer than what they hold.
+-- Assumes nothing.
+use mathlib.Core.Path.{_≡_, refl, ap, sym, _∙_}
+use mathlib.Core.Bool.{true, false}
+use mathlib.Core.List.{List, _++_}
+use Prim.Native.Nat.{ℕ, _+_, _*_, _≤_}
+use native.Mathlib.Omega.{arith}
+use lib.Dec.{T}
+use lib.ListN.{length, take, drop, replicate, take-append-drop}
+use lib.Seq.{length-take-le}
+use Rattle.lists.specs.TestLaws.{Test, pass, fail, test}
+use Rattle.rules.specs.Elements.{maxVertex, maxElement, elements}
+use Rattle.rules.specs.Pairing.{sizesFit}
+use Rattle.rules.specs.Tables.{columns, v2e, e2e, b2e}
+use Rattle.rules.specs.Refusals.{Answer, gives, refused, listAnswer, after, onto}
+use Rattle.rules.specs.Edits.{Edited, becomes, refuses, Lent, onceAccepted, newAnswer, editSizes, editLengths, editAnswer, written, editLeaves, isThere}
+use Rattle.rules.specs.Swap.{swapped, isSwappable, swap, swapAnswer, swapLeaves}
+use Rattle.theory.specs.FitRows.{Fit, means-sizes}
+use Rattle.theory.specs.Entries.{length-v2e}
+use Rattle.theory.specs.Columns.{length-e2e}
+use Rattle.theory.specs.Answers.{fit-passed}
+use Rattle.theory.specs.Calls as calls
+use Rattle.theory.specs.Replacing.{same-columns}
+use Rattle.theory.specs.Swapping.{means-swappable, swapped-replaced}
+use Rattle.buffers.specs.Whole.{onto-full}
+use Rattle.build.specs.Building.{Checked}
+use Rattle.edits.specs.Holding.{lentEdit, Held}
+use Rattle.swap.specs.Swaps.{tight, Left, gone, unfit, swaps}
+
+-- what is written to the front of a buffer is written to the buffer
+front-onto : (X buffer : List ℕ) (k : ℕ) → length X ≡ k → k ≤ length buffer → onto X (take k buffer) ++ drop k buffer ≡ onto X buffer
+unfolding onto
+front-onto X buffer k e h =
+    ap (λ (Y : List ℕ). Y ++ drop k buffer) (onto-full X (take k buffer) (e ∙ sym (length-take-le k buffer h)))
+    ∙ ap (λ (i : ℕ). X ++ drop i buffer) (sym e)
+
+-- where the edit gives a list, n stays, and so do the lengths
+pub record Stays (n : ℕ) (L : List ℕ) (n′ : ℕ) (L′ : List ℕ) : Type 0 where
+  pub vertices : n′ ≡ n
+  pub long : length L′ ≡ length L
+  pub columned : columns L′ ≡ columns L
+
+stays : (n : ℕ) (L : List ℕ) (s : ℕ) → Fit n L → {n′ : ℕ} {L′ : List ℕ} → swap n L s ≡ becomes n′ L′ → Stays n L n′ L′
+stays n L s fit {n′} {L′} e = go (test (isThere L s)) (test (isSwappable L s))
+  where
+    go : Test (isThere L s) → Test (isSwappable L s) → Stays n L n′ L′
+    go (fail t f) c = let g = sym (gone n L s f) ∙ e in let z : _≡_ {A = ℕ} 0 1 = cc in absurd (omega arith)
+    go (pass t f) (fail u h) = let g = sym (unfit n L s f h) ∙ e in let z : _≡_ {A = ℕ} 0 1 = cc in absurd (omega arith)
+    go (pass t f) (pass u h) =
+        let g = sym (swaps n L s f h) ∙ e in
+        let same : swapped L s ≡ L′ = cc in
+        let r = swapped-replaced n L fit s (means-swappable L s .says u) in
+        record {
+          vertices = cc;
+          long = sym (ap length same) ∙ r .long;
+          columned = sym (ap columns same) ∙ same-columns r;
+        }
+
+-- an answer after the old list's says that this was accepted
+once : (old new : Answer) {k e : ℕ} → onceAccepted old new ≡ gives k e → (i : ℕ) × (j : ℕ) × (old ≡ gives i j)
+unfolding onceAccepted
+once (gives i j) new g = (i, j, refl)
+once (refused r a b) new g = let z : _≡_ {A = ℕ} 0 1 = cc in absurd (omega arith)
+
+counts-fit : (n : ℕ) (L : List ℕ) {i j : ℕ} → T (sizesFit n L) → listAnswer n L ≡ gives i j → Fit n L
+unfolding listAnswer
+counts-fit n L sizes g = fit-passed n L _ sizes g
+
+module _ (n m : ℕ) (list V2e E2e B2e work : List ℕ) (s : ℕ) where
+  abbrev w : Lent
+  w = lentEdit n m list V2e E2e B2e work
+
+  abbrev L : List ℕ
+  L = take (4 * m) list
+
+  abbrev rest : Answer
+  rest = onceAccepted (listAnswer n L) (newAnswer (length B2e) (swap n L s))
+
+  -- by the edit, its answer, and what the work holds
+  leavesBy : Edited → Answer → List ℕ → Lent
+  leavesBy z a work′ =
+      let left = after a (written w z) w in
+      lentEdit (left .n) (left .m) (left .list) (left .vertices) (left .opposites) (left .border) work′
+
+  abbrev leaves : Answer → List ℕ → Lent
+  leaves = leavesBy (swap n L s)
+
+  abbrev pub Whole : Answer → Lent → Type 0
+  Whole a w′ = (a ≡ swapAnswer w s) × (w′ ≡ swapLeaves w s)
+
+  pub unsized : {a : Answer} → editSizes w ≡ false → a ≡ refused 1 0 0 → Whole a w
+  unfolding leavesBy after swapAnswer swapLeaves editAnswer editLeaves
+  unsized = calls.unsized leaves (editSizes w) (editLengths w) rest work
+
+  pub unlengthened : {a : Answer} → editSizes w ≡ true → editLengths w ≡ false → a ≡ refused 2 0 0 → Whole a w
+  unfolding leavesBy after swapAnswer swapLeaves editAnswer editLeaves
+  unlengthened = calls.unlengthened leaves (editSizes w) (editLengths w) rest work
+
+  -- checks 1 and 2 found nothing; the list has c columns
+  module _ (sizes : (n ≤ maxVertex) × (m ≤ maxElement)) {c : ℕ} (held : Held n m list (length V2e) (length E2e) (length work) c) where
+    abbrev vs : List ℕ
+    vs = take n V2e
+
+    abbrev es : List ℕ
+    es = take (c * m) E2e
+
+    long : length L ≡ 4 * m
+    long = length-take-le (4 * m) list (held .list)
+
+    size : elements L ≡ m
+    size = omega (arith, long)
+
+    pub checked-front : Checked n L vs es work
+    checked-front =
+        record {
+          sizes = means-sizes n L .shows (sizes .0, (omega (arith, sizes .1, size), omega (arith, long, size)));
+          vertices = sizes .0;
+          size = omega (arith, sizes .1, size);
+          fours = omega (arith, long, size);
+          v2e-long = length-take-le n V2e (held .vertices);
+          e2e-long = length-take-le (c * m) E2e (held .opposites) ∙ (λ k. held .columned k * sym size k);
+          room = omega (arith, held .room, size);
+        }
+
+    -- what the fronts of the buffers become is what the buffers become
+    abbrev front : Lent
+    front = tight n L vs es B2e
+
+    module _ (work′ : List ℕ) where
+      loose : Lent → Lent
+      loose u = lentEdit (u .n) (u .m) (u .list ++ drop (4 * m) list) (u .vertices ++ drop n V2e) (u .opposites ++ drop (c * m) E2e) (u .border) work′
+
+      rejoined : loose front ≡ lentEdit n m list V2e E2e B2e work′
+      unfolding loose
+      rejoined = λ k. lentEdit n (size k) (take-append-drop (4 * m) list k) (take-append-drop n V2e k) (take-append-drop (c * m) E2e k) B2e work′
+
+      loosened : (z : Edited) (a : Answer) → ((i j n′ : ℕ) (L′ : List ℕ) → a ≡ gives i j → z ≡ becomes n′ L′ → Stays n L n′ L′)
+          → loose (after a (written front z) front) ≡ leavesBy z a work′
+      unfolding after written leavesBy loose
+      loosened z (refused r p q) f = rejoined
+      loosened (refuses r) (gives i j) f = rejoined
+      loosened (becomes n′ L′) (gives i j) f =
+          let x = f i j n′ L′ refl refl in
+          let l = front-onto L′ list (4 * m) (x .long ∙ long) (held .list) in
+          let v = front-onto (v2e n′ L′) V2e n (length-v2e L′ n′ ∙ x .vertices) (held .vertices) in
+          let same : elements L′ ≡ m = omega (arith, x .long, long) in
+          let wide = length-e2e L′ ∙ (λ k. (x .columned ∙ sym (held .columned)) k * same k) in
+          let o = front-onto (e2e L′) E2e (c * m) wide (held .opposites) in
+          λ k. lentEdit n′ (elements L′) (l k) (v k) (o k) (onto (b2e L′) B2e) work′
+
+    -- m is the same in all cases
+    same-m : (z : Edited) (a : Answer) → ((i j n′ : ℕ) (L′ : List ℕ) → a ≡ gives i j → z ≡ becomes n′ L′ → Stays n L n′ L′) → after a (written front z) front .m ≡ m
+    unfolding after written
+    same-m z (refused r p q) f = size
+    same-m (refuses r) (gives i j) f = size
+    same-m (becomes n′ L′) (gives i j) f = omega (arith, f i j n′ L′ refl refl .long, long)
+
+    -- the swap was made in the fronts, which end at p, q and r, and the work cleared
+    module _ {p q r : ℕ} (rows : p ≡ 4 * m) (vertices : q ≡ n) (opposites : r ≡ c * m) where
+      pub checked-at : Checked n (take p list) (take q V2e) (take r E2e) work × (c ≡ columns (take p list))
+      checked-at = rw (rows, vertices, opposites) (checked-front, held .columned)
+
+      pub whole : {a : Answer} {L₁ V₁ E₁ B₁ work′ : List ℕ} {l : ℕ} → (editSizes w ≡ true) × (editLengths w ≡ true)
+          → Left (onceAccepted (listAnswer n (take p list)) (newAnswer (length B2e) (swap n (take p list) s))) a (tight n (take p list) (take q V2e) (take r E2e) B2e)
+          (swap n (take p list) s) (tight n L₁ V₁ E₁ B₁)
+          → l ≡ length work → work′ ≡ replicate l 0 → Whole a (lentEdit n m (L₁ ++ drop p list) (V₁ ++ drop q V2e) (E₁ ++ drop r E2e) B₁ work′)
+      unfolding loose swapAnswer swapLeaves editAnswer editLeaves leavesBy
+      whole {a} {L₁} {V₁} {E₁} {B₁} {work′} fit left same z =
+          let x : Left rest a front (swap n L s) (tight n L₁ V₁ E₁ B₁) = rw (rows, vertices, opposites) at left in
+          let (e, f) = calls.cleared leaves (editSizes w) (editLengths w) rest work fit (x .answer) (z ∙ ap (λ (k : ℕ). replicate k 0) same) in
+          let accepted : (i j n′ : ℕ) (L′ : List ℕ) → a ≡ gives i j → swap n L s ≡ becomes n′ L′ → Stays n L n′ L′ =
+          λ i j n′ L′ g d.
+          (let (k, o, h) = once (listAnswer n L) _ (sym (x .answer) ∙ g) in stays n L s (counts-fit n L (checked-front .sizes) h) d) in
+          let m-is = sym (ap (λ (u : Lent). u .m) (x .leaves) ∙ same-m (swap n L s) a accepted) in (
+            e,
+            (λ k. lentEdit n (m-is k) (L₁ ++ drop (rows k) list) (V₁ ++ drop (vertices k) V2e) (E₁ ++ drop (opposites k) E2e) B₁ work′)
+                ∙ ap (loose work′) (x .leaves)
+                ∙ loosened work′ (swap n L s) a accepted
+                ∙ f,
+          )

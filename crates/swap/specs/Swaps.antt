@@ -1,0 +1,355 @@
+-- What a swap leaves on its way.
+-- Assumes nothing.
+use mathlib.Core.Path.{_≡_, refl, ap, sym, _∙_}
+use mathlib.Core.Bool.{true, false}
+use mathlib.Core.Logic.{_⊎_, inl, inr}
+use mathlib.Core.List.{List, [], _∷_, _++_}
+use Prim.Native.Nat.{ℕ, _+_, _*_, _-_, _/_, _%_, _≤_, _<_}
+use native.Mathlib.Omega.{arith}
+use lib.Dec.{eqb, not-T}
+use lib.ListN.{length, take, drop, length-take, length-drop}
+use lib.Seq.{drop-drop}
+use Rattle.lists.specs.Tests.{both}
+use Rattle.lists.specs.TestLaws.{true-of, false-of, means-not, zero-or}
+use Rattle.lists.specs.Search.{at}
+use Rattle.lists.specs.Parts.{part, at-part}
+use Rattle.rules.specs.Elements.{maxVertex, maxElement, elements, row, corner, sides, isSide, Side, slot, origin, previousNumber, previous}
+use Rattle.rules.specs.Tables.{partner, isBorder, borders, columns, wide, v2e, e2e}
+use Rattle.rules.specs.Refusals.{Answer, gives, refused, listAnswer, roomCheck, after, onto}
+use Rattle.rules.specs.Edits.{Edited, becomes, refuses, Lent, onceAccepted, newAnswer, written, isThere}
+use Rattle.rules.specs.Swap.{third, flipped, withRow, swapped, isSwappable, swap}
+use Rattle.theory.specs.Sides.{side-facts, slot-below}
+use Rattle.theory.specs.Steps.{previous-numbered}
+use Rattle.theory.specs.FitRows.{Fit, means-sizes}
+use Rattle.theory.specs.Answers.{fit-passed}
+use Rattle.theory.specs.Pairings.{partner-opposed}
+use Rattle.theory.specs.Entries.{length-v2e, means-border, wide-paired, wide-border}
+use Rattle.theory.specs.Columns.{length-e2e}
+use Rattle.theory.specs.Rows.{row-itself, rows-alike}
+use Rattle.theory.specs.Replacing.{Replaced, same-columns, same-size}
+use Rattle.theory.specs.Swapping.{Diagonal, means-swappable, across, mine, other, swapped-replaced}
+use Rattle.halfedge.specs.Rows.{rowOf, cornerOf, previousSide, row-at, row-corner, row-turned}
+use Rattle.buffers.specs.Whole.{onto-full}
+use Rattle.build.specs.Building.{Built, Checked, Scratched, counts-are}
+use Rattle.edits.specs.Holding.{lentEdit}
+
+-- a row of four
+pub four-is : (r : List ℕ) → length r ≡ 4 → rowOf r ≡ r
+four-is (a ∷ b ∷ c ∷ d ∷ []) h = refl
+four-is [] h = absurd (omega arith)
+four-is (a ∷ []) h = absurd (omega arith)
+four-is (a ∷ b ∷ []) h = absurd (omega arith)
+four-is (a ∷ b ∷ c ∷ []) h = absurd (omega arith)
+four-is (a ∷ b ∷ c ∷ d ∷ e ∷ r) h = absurd (omega arith)
+
+-- a row is copied to where element f stands; f - 1 as an index is a
+pub row-put : (f : ℕ) {a : ℕ} (r L : List ℕ) {ys : List ℕ} → length r ≡ 4 → 1 ≤ f → 4 * f ≤ length L → a ≡ f - 1
+    → ys ≡ onto r (take (4 * a + 4 - 4 * a) (drop (4 * a) L)) → take (4 * a) L ++ (ys ++ drop (4 * a + 4 - 4 * a) (drop (4 * a) L)) ≡ withRow f (rowOf r) L
+unfolding withRow
+row-put f {a} r L {ys} long from to index copied =
+    let four : 4 * a + 4 - 4 * a ≡ 4 = omega arith in
+    let start : 4 * a ≡ 4 * (f - 1) = omega arith in
+    let end : 4 * a + (4 * a + 4 - 4 * a) ≡ 4 * f = omega arith in
+    let whole : ys ≡ rowOf r =
+    copied ∙ onto-full r (take (4 * a + 4 - 4 * a) (drop (4 * a) L)) (simp (length-take, length-drop) (omega arith)) ∙ sym (four-is r long) in
+    ap (λ (X : List ℕ). take (4 * a) L ++ (X ++ drop (4 * a + 4 - 4 * a) (drop (4 * a) L))) whole
+    ∙ ap (λ (X : List ℕ). take (4 * a) L ++ (rowOf r ++ X)) (drop-drop (4 * a + 4 - 4 * a) (4 * a) L)
+    ∙ ap (λ (k : ℕ). take (4 * a) L ++ (rowOf r ++ drop k L)) end
+    ∙ ap (λ (k : ℕ). take k L ++ (rowOf r ++ drop (4 * f) L)) start
+
+-- what is read of side s in the row of its element: its origin, and the corner before
+module _ (L : List ℕ) (s : ℕ) (a : Side L s) where
+  abbrev r : List ℕ
+  r = rowOf (row L (s / 8))
+
+  pub reads-origin : cornerOf r (s % 8) ≡ origin L s
+  unfolding origin slot
+  reads-origin = let i = side-facts L s a in row-corner L (s / 8) (s % 8) (i .number-from) (i .number-four)
+
+  pub reads-third : cornerOf r (previousSide r (s % 8)) ≡ third L s
+  unfolding third origin slot previous
+  reads-third =
+      let i = side-facts L s a in
+      let b = previous-numbered L s a in
+      let j = side-facts L (previous L s) (b .side) in
+      let q = previousNumber (sides L (s / 8)) (s % 8) in
+      let e : (8 * (s / 8) + q) / 8 ≡ s / 8 = b .same in
+      let d : (8 * (s / 8) + q) % 8 ≡ q = b .index in
+      ap (cornerOf r) (row-turned L (s / 8) previousNumber (s % 8) (i .number-from) (i .number-to))
+      ∙ row-corner L (s / 8) q (omega (arith, j .number-from)) (omega (arith, j .number-four))
+      ∙ ap (at L) (omega arith)
+
+-- s is a diagonal of fit rows, and t its partner
+pub record Flips (L : List ℕ) (s t : ℕ) : Type 0 where
+  pub n : ℕ
+  pub fit : Fit n L
+  pub diagonal : Diagonal L s
+  pub partnered : t ≡ partner L s
+
+module _ {L : List ℕ} {s t : ℕ} (x : Flips L s t) where
+  pub side-t : Side L t
+  side-t = rw (x .partnered) (across (x .n) L (x .fit) s (x .diagonal) .0)
+
+  pub replaced : Replaced L (swapped L s) (s / 8) (t / 8)
+  replaced = rw (x .partnered) (swapped-replaced (x .n) L (x .fit) s (x .diagonal))
+
+  -- both rows are there
+  pub inside : (1 ≤ s / 8) × (4 * (s / 8) ≤ length L) × (1 ≤ t / 8) × (4 * (t / 8) ≤ length L)
+  inside =
+      let a = replaced .mine in
+      let b = replaced .other in
+      (a .0, omega (arith, a .1), b .0, omega (arith, b .1))
+
+  -- the two rows, each by what was read: those of s with number i in element f, those of t with number j in element g
+  module _ {f g i j : ℕ} (ef : f ≡ s / 8) (ei : i ≡ s % 8) (eg : g ≡ t / 8) (ej : j ≡ t % 8) {r o : List ℕ} (er : r ≡ rowOf (row L f)) (eo : o ≡ rowOf (row L g)) where
+    reads : (cornerOf r i ≡ origin L s) × (cornerOf r (previousSide r i) ≡ third L s) × (cornerOf o j ≡ origin L t) × (cornerOf o (previousSide o j) ≡ third L t)
+    reads =
+        let a = x .diagonal .side in
+        rw (er, eo, ef, ei, eg, ej) (reads-origin L s a, reads-third L s a, reads-origin L t side-t, reads-third L t side-t)
+
+    pub flips : {c d : ℕ} {new new′ M N : List ℕ} → c ≡ cornerOf r (previousSide r i) → d ≡ cornerOf o (previousSide o j)
+        → new ≡ cornerOf r (previousSide r i) ∷ cornerOf r i ∷ d ∷ 0 ∷ [] → new′ ≡ cornerOf o (previousSide o j) ∷ cornerOf o j ∷ c ∷ 0 ∷ []
+        → M ≡ withRow f (rowOf new) L → N ≡ withRow g (rowOf new′) M → N ≡ swapped L s
+    unfolding swapped flipped
+    flips {c} {d} {new} {new′} {M} {N} ec ed en en′ em eN =
+        let (p, q, u, v) = reads in
+        let first : rowOf new ≡ flipped L s t = ap rowOf en ∙ (rw (ed, p, q, v) refl) in
+        let second : rowOf new′ ≡ flipped L t s = ap rowOf en′ ∙ (rw (ec, u, v, q) refl) in
+        eN
+        ∙ ap (withRow g (rowOf new′)) em
+        ∙ (λ k. withRow (eg k) (second k) (withRow (ef k) (first k) L))
+        ∙ ap (λ (y : ℕ). withRow (y / 8) (flipped L y s) (withRow (s / 8) (flipped L s y) L)) (x .partnered)
+
+  -- and put back
+  pub puts-back : {f g : ℕ} {r o L₁ M N : List ℕ} → f ≡ s / 8 → g ≡ t / 8 → r ≡ rowOf (row L f) → o ≡ rowOf (row L g)
+      → L₁ ≡ swapped L s → M ≡ withRow f (rowOf r) L₁ → N ≡ withRow g (rowOf o) M → N ≡ L
+  puts-back {f} {g} {r} {o} ef eg er eo e em eN =
+      let f-row = rowOf (row L (s / 8)) in
+      let g-row = rowOf (row L (t / 8)) in
+      let y = replaced in
+      eN
+      ∙ ap (withRow g (rowOf o)) (em ∙ ap (withRow f (rowOf r)) e)
+      ∙ (rw (er, eo, ef, eg) refl)
+      ∙ rows-alike (s / 8) (t / 8) f-row g-row L (swapped L s) refl refl (y .mine) (y .other) (y .long) (y .rest)
+      ∙ ap (withRow (t / 8) g-row) (row-itself (s / 8) f-row L refl (y .mine) (row-at L (s / 8)))
+      ∙ row-itself (t / 8) g-row L refl (y .other) (row-at L (t / 8))
+
+-- buffers that are as long as what they hold, but for B2e; the work apart
+abbrev pub tight : ℕ → List ℕ → List ℕ → List ℕ → List ℕ → Lent
+tight n L V2e E2e B2e = lentEdit n (elements L) L V2e E2e B2e []
+
+-- the answer a by what was stated, and what it left of w where the edit is x
+pub record Left (stated a : Answer) (w : Lent) (x : Edited) (w′ : Lent) : Type 0 where
+  pub answer : a ≡ stated
+  pub leaves : w′ ≡ after a (written w x) w
+
+-- by a known answer
+old-by : {a : Answer} {r p q : ℕ} (new old : List ℕ) {X : List ℕ} → a ≡ refused r p q → X ≡ after a new old → X ≡ old
+unfolding after
+old-by new old e h = h ∙ ap (λ (y : Answer). after y new old) e
+
+new-by : {a : Answer} {k e : ℕ} (new old : List ℕ) {X : List ℕ} → a ≡ gives k e → X ≡ after a new old → X ≡ new
+unfolding after
+new-by new old g h = h ∙ ap (λ (y : Answer). after y new old) g
+
+-- a refusal leaves all as it was
+pub refused-left : {stated a : Answer} {r p q : ℕ} {w : Lent} {x : Edited} → a ≡ refused r p q → a ≡ stated → Left stated a w x w
+unfolding after
+refused-left {w = w} {x = x} e f = record { answer = f; leaves = sym (ap (λ (y : Answer). after y (written w x) w) e) }
+
+-- the lists and lengths of a swap
+pub record ToSwap (n : ℕ) (L V2e E2e work : List ℕ) (s t : ℕ) : Type 0 where
+  pub checked : Checked n L V2e E2e work
+  pub flips : Flips L s t
+
+module _ {n : ℕ} {L V2e E2e work : List ℕ} {s t : ℕ} (x : ToSwap n L V2e E2e work s t) where
+  abbrev L′ : List ℕ
+  L′ = swapped L s
+
+  same : Replaced L L′ (s / 8) (t / 8)
+  same = replaced (x .flips)
+
+  pub checked-new : Checked n L′ V2e E2e work
+  checked-new =
+      let c = x .checked in
+      let m = same-size same in
+      record {
+        sizes = means-sizes n L′ .shows (c .vertices, (omega (arith, c .size, m), omega (arith, c .fours, m, same .long)));
+        vertices = c .vertices;
+        size = omega (arith, c .size, m);
+        fours = omega (arith, c .fours, m, same .long);
+        v2e-long = c .v2e-long;
+        e2e-long = c .e2e-long ∙ (λ k. sym (same-columns same) k * sym m k);
+        room = omega (arith, c .room, m);
+      }
+
+  pub columned-new : {c : ℕ} → c ≡ columns L → c ≡ columns L′
+  columned-new e = e ∙ sym (same-columns same)
+
+  -- the new list, in the caller's list as L₁, was tried
+  module _ {L₁ : List ℕ} (is : L₁ ≡ L′) {a : Answer} {B2e V2e′ E2e′ B2e′ : List ℕ} (made : Built n L₁ a V2e E2e B2e V2e′ E2e′ B2e′) where
+    b : Built n L′ a V2e E2e B2e V2e′ E2e′ B2e′
+    b = rw is at made
+
+    abbrev LeftHere : List ℕ → Type 0
+    LeftHere L₂ = Left (roomCheck (length B2e) (listAnswer n L′)) a (tight n L V2e E2e B2e) (becomes n L′) (tight n L₂ V2e′ E2e′ B2e′)
+
+    pub late : {r p q : ℕ} {L₂ : List ℕ} → a ≡ refused r p q → L₂ ≡ L → LeftHere L₂
+    unfolding after
+    late e f =
+        let v = old-by _ _ e (b .vertices) in
+        let o = old-by _ _ e (b .opposites) in
+        let d = old-by _ _ e (b .border) in
+        record {
+          answer = b .answer;
+          leaves = (λ k. tight n (f k) (v k) (o k) (d k)) ∙ sym (ap (λ (y : Answer). after y (written (tight n L V2e E2e B2e) (becomes n L′)) (tight n L V2e E2e B2e)) e);
+        }
+
+    pub done : {k e : ℕ} → a ≡ gives k e → LeftHere L₁
+    unfolding after written
+    done g =
+        let c = checked-new in
+        let l = is ∙ sym (onto-full L′ L (same .long)) in
+        let v = new-by _ _ g (b .vertices) ∙ sym (onto-full (v2e n L′) V2e (length-v2e L′ n ∙ sym (c .v2e-long))) in
+        let o = new-by _ _ g (b .opposites) ∙ sym (onto-full (e2e L′) E2e (length-e2e L′ ∙ sym (c .e2e-long))) in
+        let d = new-by _ _ g (b .border) in
+        let m = ap elements is in
+        record {
+          answer = b .answer;
+          leaves =
+              (λ k. lentEdit n (m k) (l k) (v k) (o k) (d k) [])
+              ∙ sym (ap (λ (y : Answer). after y (written (tight n L V2e E2e B2e) (becomes n L′)) (tight n L V2e E2e B2e)) g);
+        }
+
+-- the E2e of the list, in four columns, stands from n on
+pub record Tabled (n : ℕ) (L w : List ℕ) : Type 0 where
+  pub vertices : n ≤ maxVertex
+  pub size : elements L ≤ maxElement
+  pub fours : length L ≡ 4 * elements L
+  pub room : n + 4 * elements L ≤ length w
+  pub opposites : part n (4 * elements L) w ≡ wide L
+
+-- what the tests say of side s: no side, a border side, or by its two elements
+pub not-side : (L : List ℕ) (s : ℕ) → isSide L s ≡ false → false ≡ isSwappable L s
+unfolding isSwappable
+not-side L s e = sym (rw e refl)
+
+pub at-border : (L : List ℕ) (s : ℕ) → partner L s ≡ 0 → false ≡ isSwappable L s
+at-border L s z = sym (false-of (isSwappable L s) (not-T (isSwappable L s) (λ t. means-swappable L s .says t .paired z)))
+
+pub by-triangles : (L : List ℕ) (s : ℕ) → Side L s → (partner L s ≡ 0 → ⊥) → isSwappable L s ≡ both (eqb (sides L (s / 8)) 3) (eqb (sides L (partner L s / 8)) 3)
+unfolding isSwappable
+by-triangles L s a d = rw (true-of (isSide L s) a, false-of (isBorder L s) (means-not (means-border L s) .shows d)) refl
+
+-- where the entry of side s stands, and what is read there
+module _ {n : ℕ} {L w : List ℕ} (x : Tabled n L w) (s : ℕ) (a : Side L s) where
+  pub slot-inside : n + slot s < length w
+  slot-inside = omega (arith, slot-below L s a, x .room, x .fours)
+
+  pub entry-read : at w (n + slot s) ≡ at (wide L) (slot s)
+  entry-read =
+      let h : slot s < 4 * elements L = omega (arith, slot-below L s a, x .fours) in
+      sym (at-part n (4 * elements L) w (slot s) h) ∙ ap (λ (X : List ℕ). at X (slot s)) (x .opposites)
+
+-- the entry t of side s: a border, or the partner
+module _ (L : List ℕ) (s : ℕ) {t : ℕ} (a : Side L s) (own : t ≡ at (wide L) (slot s)) where
+  pub entry-border : t % 8 ≡ 0 → partner L s ≡ 0
+  entry-border e = go (zero-or (partner L s))
+    where
+      go : (partner L s ≡ 0) ⊎ (partner L s ≡ 0 → ⊥) → partner L s ≡ 0
+      go (inl z) = z
+      go (inr d) =
+          let p = own ∙ wide-paired L s a d in
+          absurd (omega (arith, side-facts L (partner L s) (partner-opposed L s d .0) .number-from))
+
+  pub entry-partner : (t % 8 ≡ 0 → ⊥) → (t ≡ partner L s) × (partner L s ≡ 0 → ⊥)
+  entry-partner d = go (zero-or (partner L s))
+    where
+      go : (partner L s ≡ 0) ⊎ (partner L s ≡ 0 → ⊥) → (t ≡ partner L s) × (partner L s ≡ 0 → ⊥)
+      go (inl z) = let p = own ∙ wide-border L s a z in absurd (d (omega arith))
+      go (inr e) = (own ∙ wide-paired L s a e, e)
+
+-- where the row of a side is
+pub row-inside : (L : List ℕ) (s : ℕ) → Side L s → (1 ≤ s / 8) × (4 * (s / 8) ≤ length L)
+row-inside L s a = let i = side-facts L s a in (i .element-from, omega (arith, i .element-to))
+
+-- the edit by its two tests
+module _ (n : ℕ) (L : List ℕ) (s : ℕ) where
+  pub gone : isThere L s ≡ false → swap n L s ≡ refuses 11
+  unfolding swap
+  gone e = rw (e, swap)
+
+  pub unfit : isThere L s ≡ true → isSwappable L s ≡ false → swap n L s ≡ refuses 15
+  unfolding swap
+  unfit e d = rw (e, d, swap)
+
+  pub swaps : isThere L s ≡ true → isSwappable L s ≡ true → swap n L s ≡ becomes n (swapped L s)
+  unfolding swap
+  swaps e d = rw (e, d, swap)
+
+-- the old list was tried in the front of the work, which has become W: it is accepted
+module _ {n : ℕ} {L V2e E2e work : List ℕ} (x : Checked n L V2e E2e work) {t : Answer} {W : List ℕ} (y : Scratched n L t work W) {k e : ℕ} (g : t ≡ gives k e) where
+  pub number : k ≡ borders L
+  number = counts-are n L k e (sym (y .stated) ∙ g)
+
+  fit-rows : Fit n L
+  unfolding listAnswer
+  fit-rows = fit-passed n L _ (x .sizes) (sym (y .stated) ∙ g)
+
+  pub tabled : {a : ℕ} → a ≡ n → Tabled a L W
+  tabled i =
+      rw i
+      (record {
+        vertices = x .vertices;
+        size = x .size;
+        fours = x .fours;
+        room = omega (arith, x .room, y .long);
+        opposites = y .holds k e g .opposites;
+      })
+
+  -- the code is a diagonal's, and p what E2e says of it
+  pub to-swap : (s : ℕ) {p : ℕ} → isSwappable L s ≡ true → p ≡ at (wide L) (slot s) → ToSwap n L V2e E2e W s p
+  to-swap s f h =
+      let d = means-swappable L s .says (rw f tt) in
+      record {
+        checked =
+            record {
+              sizes = x .sizes;
+              vertices = x .vertices;
+              size = x .size;
+              fours = x .fours;
+              v2e-long = x .v2e-long;
+              e2e-long = x .e2e-long;
+              room = omega (arith, x .room, y .long);
+            };
+        flips = record { n = n; fit = fit-rows; diagonal = d; partnered = h ∙ wide-paired L s (d .side) (d .paired) };
+      }
+
+-- what is stated of the old list and of the edit
+module _ {n : ℕ} {L work : List ℕ} {t : Answer} {W : List ℕ} (y : Scratched n L t work W) (s : ℕ) (B2e : List ℕ) where
+  abbrev stated : Answer
+  stated = onceAccepted (listAnswer n L) (newAnswer (length B2e) (swap n L s))
+
+  by-old : {a : Answer} → t ≡ a → stated ≡ onceAccepted a (newAnswer (length B2e) (swap n L s))
+  by-old e = ap (λ (a : Answer). onceAccepted a (newAnswer (length B2e) (swap n L s))) (sym (y .stated) ∙ e)
+
+  module _ {w : Lent} where
+    -- the old list is refused
+    pub old-refused : {r p q : ℕ} → t ≡ refused r p q → Left stated t w (swap n L s) w
+    unfolding onceAccepted
+    old-refused e = refused-left e (e ∙ sym (by-old e))
+
+    -- it is accepted, and the edit refused: 11, or 15
+    pub new-refused : {k e r : ℕ} {a : Answer} → t ≡ gives k e → swap n L s ≡ refuses r → a ≡ refused r 0 0 → Left stated a w (swap n L s) w
+    unfolding onceAccepted newAnswer
+    new-refused g f d = refused-left d (d ∙ sym (by-old g ∙ ap (newAnswer (length B2e)) f))
+
+    -- or the new list is tried
+    pub new-tried : {k e : ℕ} {a : Answer} {w′ : Lent} → t ≡ gives k e → swap n L s ≡ becomes n (swapped L s)
+        → Left (roomCheck (length B2e) (listAnswer n (swapped L s))) a w (becomes n (swapped L s)) w′ → Left stated a w (swap n L s) w′
+    unfolding onceAccepted newAnswer
+    new-tried {a = a} g f l =
+        record {
+          answer = l .answer ∙ sym (by-old g ∙ ap (newAnswer (length B2e)) f);
+          leaves = l .leaves ∙ ap (λ (z : Edited). after a (written w z) w) (sym f);
+        }
