@@ -1,5 +1,5 @@
 /*
- * borzhanu: from the element list of a shell mesh to its half-edge tables and back.
+ * borzhanu: from the element list of a shell mesh to its half-edge tables and back, and edits of both.
  *
  * Vertices, elements and border half-edges are numbered from 1. An element is a row of four corner
  * numbers, the fourth 0 for a triangle; m is the number of elements. Side i of element f runs from
@@ -53,7 +53,7 @@ extern "C" {
 #define BORZHANU_MAX_BORDERS 4000000u
 
 /* Why a call refused. Checks are made in this order, 18 after 8 and before 9, each over the whole list
-   before the next. */
+   before the next. An edit tries the old list so, then 11 and 15, then the new list, with 9 last. */
 enum {
     /* The call has answered. */
     BORZHANU_ANSWERED = 0,
@@ -99,7 +99,10 @@ enum {
     BORZHANU_OUTPUT_SHORT = 13,
     /* A text isn't in the form that the listing program reads. Place: the first bad line, 0.
        No call below gives it. */
-    BORZHANU_TEXT_UNFIT = 14
+    BORZHANU_TEXT_UNFIT = 14,
+    /* The edge that an edit was given isn't one between two triangles: the code is that of a border
+       half-edge or of a border side, or an element beside it is a quadrilateral. */
+    BORZHANU_EDGE_UNFIT = 15
 };
 
 /* What borzhanu_vertex_is_border answers. */
@@ -162,6 +165,8 @@ static inline const char *borzhanu_refusal_text(uint32_t refusal) {
         return "the output is too short";
     case BORZHANU_TEXT_UNFIT:
         return "the listing program's text isn't in form";
+    case BORZHANU_EDGE_UNFIT:
+        return "the edge named is a border or has a quadrilateral beside it";
     default:
         return "a refusal that this header doesn't know";
     }
@@ -197,7 +202,7 @@ static inline uint32_t borzhanu_number_of(uint32_t code) {
     return code % 8u;
 }
 
-/* The least length of the work buffer of build, recovery, siblings and holes, in entries. */
+/* The least length of the work buffer of build, recovery, siblings, holes and edits, in entries. */
 static inline size_t borzhanu_work_length(uint32_t n, size_t m) {
     return (size_t)n + 16u * m;
 }
@@ -311,6 +316,57 @@ static inline uint32_t borzhanu_sibling(const uint32_t *siblings, size_t sibling
         return 0;
     return siblings[4u * (f - 1u) + (i - 1u)];
 }
+
+/*
+ * An edit changes an element list and writes the tables of the new one, without another build. n and m
+ * travel in `size`, n first: an edit reads them there and, where it answers, puts the new ones there for
+ * the next edit. Every buffer may be longer than what it holds. The list is the first 4 * m entries of
+ * elements, and the length of that buffer needn't be a multiple of four. List and tables stand at their
+ * buffers' starts, before and after. Entries past them are never looked at and stay as they were.
+ */
+
+/*
+ * Swaps the diagonal of two triangles, as mesh smoothers do. `code` names a side of the one, from a to b.
+ * With c the third corner of that triangle and d the third corner of the other, the row of the side becomes
+ * (c,a,d) and the other's (d,b,c): a and b are joined no more, c and d are. Answers k and the number of
+ * edges, as building does; they, n and m are those of the old list.
+ *
+ *   size      two entries, n and m; never null
+ *   elements  at least 4 * m entries
+ *   v2e       at least n entries
+ *   e2e       at least columns * m entries, the columns being those of the m elements
+ *   b2e       at least k entries; n are always enough
+ *   work      at least n + 16 * m entries
+ *
+ * After an answer elements is the new list, and v2e, e2e and b2e are the tables that building gives of it.
+ * What the tables and work hold before doesn't matter; the old tables needn't be there.
+ *
+ * It refuses 1, by n and m alone; 2, by these lengths but for b2e's; 3, 4, 6 to 8 and 18 where building
+ * refuses the list with that; 11 where no side and no border half-edge has this code; 15 where the code
+ * is that of a border half-edge or of a border side, or one of the two elements is a quadrilateral; 6
+ * where c and d are joined already, and 18 where they are a diagonal of a quadrilateral, with the place
+ * that building names in the new list; and 9. After a refusal size, list and tables are as they were.
+ * After 1 and 2 work is as it was; after everything else it is all zero.
+ *
+ * Both rows have c and d in their sides 3. Swapped there once more, from either row, the diagonal is back
+ * between a and b; the two triangles are then in each other's rows, (a,d,b) and (b,c,a).
+ *
+ * In a loop of edits size goes along, and a refused edit is passed over:
+ *
+ *     uint32_t size[2] = {n, m};
+ *     for (size_t i = 0; i < count; i++)
+ *         swapped += borzhanu_refusal(borzhanu_swap(size, elements, 4u * m, v2e, n, e2e, columns * m, b2e, n,
+ *                                                   work, work_len, sides[i])) == BORZHANU_ANSWERED;
+ *
+ * A borzhanu_mesh on the same buffers, each cut to what it holds, may be asked before and after: a swap
+ * leaves n, m, k and the columns, and so all its members, as they are.
+ */
+uint64_t borzhanu_swap(uint32_t size[2],
+                       uint32_t *elements, size_t elements_len,
+                       uint32_t *v2e, size_t v2e_len,
+                       uint32_t *e2e, size_t e2e_len,
+                       uint32_t *b2e, size_t b2e_len,
+                       uint32_t *work, size_t work_len, uint32_t code);
 
 /*
  * The queries take a mesh: n, columns, an element list (4 * m entries), V2e (n), E2e (columns * m) and
@@ -506,7 +562,8 @@ uint64_t borzhanu_walker_step(uint32_t n, uint32_t columns,
 /*
  * A mesh as the queries take it. Its buffers are lent, not copied; the lengths are in entries. Put it
  * together once, with the columns that borzhanu_columns answered, or with 0 and then
- * borzhanu_mesh_look. When the element list changes, look again.
+ * borzhanu_mesh_look. When the element list changes, look again, but for a swap, after which the columns
+ * are the same.
  */
 typedef struct borzhanu_mesh {
     uint32_t n;
