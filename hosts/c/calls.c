@@ -3,6 +3,7 @@
 
 #include "borzhanu.h"
 #include "guarded.h"
+#include "swapping.h"
 
 #include <signal.h>
 #include <stdio.h>
@@ -11,8 +12,8 @@
 #include <time.h>
 #include <unistd.h>
 
-static const char *const role_names[ROLES] = {"elements", "v2e", "e2e", "b2e",     "siblings",
-                                              "work",     "out", "hole", "lengths", "walker"};
+static const char *const role_names[ROLES] = {"elements", "v2e",  "e2e",     "b2e",    "siblings", "work",
+                                              "out",      "hole", "lengths", "walker", "size"};
 
 /* what the calls that compare one case may take */
 enum { SECONDS = 120 };
@@ -73,6 +74,15 @@ static struct answer expect_holes(const struct call *call, const struct slice *b
     return reference_holes(&mesh, b[HOLE], b[LENGTHS], b[WORK]);
 }
 
+static uint64_t kernel_swap(const struct call *call, const struct slice *b) {
+    return borzhanu_swap(b[SIZE].at, TABLES(b), b[WORK].at, b[WORK].len, call->number);
+}
+
+static struct answer expect_swap(const struct call *call, const struct slice *b) {
+    struct lent lent = {b[SIZE].at, b[ELEMENTS], b[V2E], b[E2E], b[B2E], b[WORK]};
+    return reference_swap(&lent, call->number);
+}
+
 static uint64_t kernel_walker_start(const struct call *call, const struct slice *b) {
     return borzhanu_walker_start(MESH(call, b), call->number, (borzhanu_walker *)(void *)b[RECORD].at);
 }
@@ -122,13 +132,16 @@ OF_A_LIST(ring)
 OF_A_LIST(neighbours)
 OF_A_LIST(border_loop)
 
-#define EXPORTED(name, writes) {#name, kernel_##name, expect_##name, writes, 0}
-#define QUERY(name, writes) {#name, kernel_##name, expect_##name, writes, 1}
+#define EXPORTED(name, writes) {#name, kernel_##name, expect_##name, writes, 0, 0}
+#define QUERY(name, writes) {#name, kernel_##name, expect_##name, writes, 1, 0}
+#define EDIT(name) {#name, kernel_##name, expect_##name, EDITED | BIT(WORK), 0, 1}
+#define EDITED (BIT(SIZE) | BIT(ELEMENTS) | BIT(V2E) | BIT(E2E) | BIT(B2E))
 
 const struct exported build_call = EXPORTED(build, BIT(V2E) | BIT(E2E) | BIT(B2E) | BIT(WORK));
 const struct exported columns_call = EXPORTED(columns, 0);
 const struct exported recover_call = EXPORTED(recover, BIT(ELEMENTS) | BIT(WORK));
 const struct exported siblings_call = EXPORTED(siblings, BIT(V2E) | BIT(SIBLINGS) | BIT(WORK));
+const struct exported swap_call = EDIT(swap);
 const struct exported holes_call = QUERY(holes, BIT(HOLE) | BIT(LENGTHS) | BIT(WORK));
 const struct exported start_call = QUERY(walker_start, BIT(RECORD));
 const struct exported step_call = QUERY(walker_step, BIT(RECORD));
@@ -204,7 +217,8 @@ static uint32_t *expected_room[ROLES];
 
 size_t room_of(enum role role) {
     const size_t m = BORZHANU_MAX_ELEMENTS + 2, n = BORZHANU_MAX_VERTICES + 2;
-    const size_t room[ROLES] = {4 * m, n, 4 * m, 4 * m, 4 * m, n + 16 * m, 4 * m, 4 * m, 4 * m, RECORD_LENGTH};
+    const size_t room[ROLES] = {4 * m, n,     4 * m, 4 * m,         4 * m,      n + 16 * m,
+                                4 * m, 4 * m, 4 * m, RECORD_LENGTH, SIZE_LENGTH};
     return room[role];
 }
 
@@ -234,12 +248,25 @@ static void check_same(const char *what, int role, const uint32_t *want, const u
             fail_entry(what, role, i, want[i], got[i]);
 }
 
+/* How many entries of a role a list and tables of this n and m take, in buffers that may be longer. */
+static size_t held_entries(const struct call *call, int role) {
+    const uint32_t *size = call->given[SIZE].at;
+    struct slice list = {call->given[ELEMENTS].at, 4 * (size_t)size[1]};
+    if (role == ELEMENTS)
+        return list.len;
+    if (role == V2E)
+        return size[0];
+    return role == E2E ? columns_of(list) * (size_t)size[1] : SIZE_LENGTH;
+}
+
 /* How many entries of a role an answer writes; the entries past them stay as they were. */
 static size_t written_entries(const struct call *call, int role, struct answer answer) {
     if (answer.refusal != 0 || (call->exported->writes & BIT(role)) == 0)
         return 0;
     if (role == HOLE)
         return call->given[B2E].len;
+    if (call->exported->is_edit && role != B2E)
+        return held_entries(call, role);
     return role == B2E || role == OUT || role == LENGTHS ? answer.first : call->given[role].len;
 }
 

@@ -7,9 +7,9 @@
 #include <stddef.h>
 #include <stdint.h>
 
-enum role { ELEMENTS, V2E, E2E, B2E, SIBLINGS, WORK, OUT, HOLE, LENGTHS, RECORD, ROLES };
+enum role { ELEMENTS, V2E, E2E, B2E, SIBLINGS, WORK, OUT, HOLE, LENGTHS, RECORD, SIZE, ROLES };
 
-enum { RECORD_LENGTH = 3, CODE_CALLS = 8, VERTEX_LISTS = 2, QUERIES = CODE_CALLS + VERTEX_LISTS + 4 };
+enum { RECORD_LENGTH = 3, SIZE_LENGTH = 2, CODE_CALLS = 8, VERTEX_LISTS = 2, QUERIES = CODE_CALLS + VERTEX_LISTS + 4 };
 
 struct call;
 
@@ -19,18 +19,18 @@ struct exported {
     uint64_t (*kernel)(const struct call *call, const struct slice *buffers);
     struct answer (*reference)(const struct call *call, const struct slice *buffers);
     unsigned writes; /* a bit for each role that an answer may change */
-    int is_query;
+    int is_query, is_edit;
 };
 
 /* What a call is given: n, the m that recovery is told, the columns that a query is told, the vertex, border or
-   half-edge asked about, and what each buffer holds. */
+   half-edge asked about, and what each buffer holds. An edit has its n and m in the buffer SIZE alone. */
 struct call {
     const struct exported *exported;
     uint32_t n, m, columns, number;
     struct slice given[ROLES];
 };
 
-extern const struct exported build_call, columns_call, recover_call, siblings_call;
+extern const struct exported build_call, columns_call, recover_call, siblings_call, swap_call;
 extern const struct exported vertex_test, border_list, holes_call, start_call, step_call;
 extern const struct exported code_calls[CODE_CALLS], vertex_lists[VERTEX_LISTS];
 /* all of these that are told columns, but for holes, which has a work buffer */
@@ -62,8 +62,8 @@ void compare_with(const struct call *call, uint32_t refusal, uint32_t first);
    when touched. */
 void refuse_far(const struct call *call, enum role role, uint32_t refusal);
 
-/* A call whose output has 2^32 entries has the same answer as with the length given; memory past the first page of it
-   faults when touched. */
+/* A call with 2^32 entries in a buffer that may be longer has the same answer as with the length given; memory past the
+   first page of it faults when touched. */
 void compare_far(const struct call *call, enum role role);
 
 /* Makes a call on the kernel alone, so many times, for its processor time. Where they take more than `allowed` seconds

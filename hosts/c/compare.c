@@ -18,6 +18,7 @@
 #include "room.h"
 #include "siblings.h"
 #include "spare.h"
+#include "swaps.h"
 
 #include <stdio.h>
 #include <stdlib.h>
@@ -503,6 +504,11 @@ static const struct {
     {"lengths of clashes", lengths_of_clashes},
     {"edges of plates", edges_of_plates},
     {"openings of housings", openings_of_housings},
+    {"known swaps", known_swaps},
+    {"swaps of every code", swaps_of_every_code},
+    {"runs of swaps", runs_of_swaps},
+    {"lengths of swaps", lengths_of_swaps},
+    {"the largest swaps", largest_swaps},
 };
 
 static double seconds(void) {

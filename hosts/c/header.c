@@ -18,7 +18,7 @@ static void check_names(const uint32_t *names, size_t count, const char *what) {
             fail_number(what, number);
 }
 
-/* The refusals up to 14, with 5, which no call gives, in its place; 18; and what a vertex can be. */
+/* The refusals up to 15, with 5, which no call gives, in its place; 18; and what a vertex can be. */
 static void check_numbers(void) {
     static const uint32_t refusals[] = {
         BORZHANU_ANSWERED,     BORZHANU_SIZES,           BORZHANU_LENGTHS,
@@ -26,6 +26,7 @@ static void check_numbers(void) {
         BORZHANU_EDGE_CROWDED, BORZHANU_SIDES_ALIKE,     BORZHANU_FAN_BROKEN,
         BORZHANU_BORDER_SHORT, BORZHANU_NO_LIST,         BORZHANU_NOT_THERE,
         BORZHANU_TABLE_BROKEN, BORZHANU_OUTPUT_SHORT,    BORZHANU_TEXT_UNFIT,
+        BORZHANU_EDGE_UNFIT,
     };
     static const uint32_t vertices[] = {BORZHANU_INNER, BORZHANU_RIM, BORZHANU_UNUSED};
     check_names(refusals, sizeof refusals / sizeof *refusals, "another name for refusal");
@@ -69,7 +70,7 @@ static int same_sentence(uint32_t a, uint32_t b) {
 }
 
 static int is_refusal(uint32_t number) {
-    return number <= BORZHANU_TEXT_UNFIT || number == BORZHANU_ELEMENTS_CLASH;
+    return number <= BORZHANU_EDGE_UNFIT || number == BORZHANU_ELEMENTS_CLASH;
 }
 
 static void check_own_sentence(uint32_t number) {
@@ -128,6 +129,7 @@ void check_header(void) {
     check_sentences();
     check_words(1, "more than 1,000,000 vertices or elements, or an element list not in fours");
     check_words(2, "a buffer's length doesn't fit n, m and the columns, or the columns told aren't 0, 3 or 4");
+    check_words(15, "the edge named is a border or has a quadrilateral beside it");
     check_words(18, "two elements meet otherwise than at one corner or one edge");
     check_lengths();
     check_sibling();
