@@ -1,6 +1,6 @@
 /* Smooths a flat panel of a duct: where the diagonal of two triangles is longer than the other one would be, it is
-   swapped. The panel, drawn as if its seams were upright; they lean to the left, so that the diagonals 3 to 6 and 4 to 7
-   are long and plates 3 to 6 are slivers:
+   swapped. The panel is drawn as if its seams were upright. They lean to the left, so that the diagonals 3 to 6 and
+   4 to 7 are long, and plates 3 to 6 are slivers:
 
        5 ----- 6 ----- 7 ----- 8
        |  2  / | \  4  | \  6  |
@@ -25,7 +25,7 @@ static uint32_t size[2] = {N, M};
 static uint32_t plates[4 * M] = {1, 2, 6, 0, 1, 6, 5, 0, 2, 3, 6, 0, 3, 7, 6, 0, 3, 4, 7, 0, 4, 8, 7, 0};
 static uint32_t v2e[N], e2e[3 * M], b2e[N], work[WORK];
 
-/* Reads the buffers that swapping writes. A swap leaves n, m, k and the columns as they are, so nothing here changes. */
+/* Reads the buffers that a swap writes. n, m, k and the columns are the same afterwards, so nothing here changes. */
 static borzhanu_mesh mesh = {.n = N, .columns = 3, .elements = plates, .elements_len = 4 * M, .v2e = v2e, .v2e_len = N,
                              .e2e = e2e, .e2e_len = 3 * M, .b2e = b2e};
 
@@ -113,8 +113,8 @@ static void print_change(uint32_t f, struct triangle before) {
 
 /* ---- smoothing ---- */
 
-/* Whether the other diagonal is shorter. Where the two triangles have a hollow corner it would lie outside them, and one
-   of the new ones would be turned over. */
+/* Whether the other diagonal is shorter. Where the two triangles have a hollow corner it would lie outside them, and
+   one of the new ones would be turned over. */
 static int is_better(uint32_t a, uint32_t b, uint32_t c, uint32_t d) {
     return length(c, d) < length(a, b) && is_left_turn(c, a, d) && is_left_turn(d, b, c);
 }
