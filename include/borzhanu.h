@@ -318,11 +318,12 @@ static inline uint32_t borzhanu_sibling(const uint32_t *siblings, size_t sibling
 }
 
 /*
- * An edit changes an element list and writes the tables of the new one, without another build. n and m
- * travel in `size`, n first: an edit reads them there and, where it answers, puts the new ones there for
- * the next edit. Every buffer may be longer than what it holds. The list is the first 4 * m entries of
- * elements, and the length of that buffer needn't be a multiple of four. List and tables stand at their
- * buffers' starts, before and after. Entries past them are never looked at and stay as they were.
+ * An edit changes an element list and writes the tables of the new list. n and m travel in `size`, n
+ * first: an edit reads them there and, where it answers, puts the new ones there for the next edit.
+ *
+ * The buffers of an edit may be longer than what they hold. The list is the first 4 * m entries of
+ * elements, whose length needn't be a multiple of four. List and tables are written from their buffers'
+ * starts; entries past them are never looked at and stay as they were.
  */
 
 /*
@@ -331,7 +332,7 @@ static inline uint32_t borzhanu_sibling(const uint32_t *siblings, size_t sibling
  * (c,a,d) and the other's (d,b,c): a and b are joined no more, c and d are. Answers k and the number of
  * edges, as building does; they, n and m are those of the old list.
  *
- *   size      two entries, n and m; never null
+ *   size      two entries, n and m; never null, and no part of another buffer
  *   elements  at least 4 * m entries
  *   v2e       at least n entries
  *   e2e       at least columns * m entries, the columns being those of the m elements
@@ -348,18 +349,18 @@ static inline uint32_t borzhanu_sibling(const uint32_t *siblings, size_t sibling
  * that building names in the new list; and 9. After a refusal size, list and tables are as they were.
  * After 1 and 2 work is as it was; after everything else it is all zero.
  *
- * Both rows have c and d in their sides 3. Swapped there once more, from either row, the diagonal is back
- * between a and b; the two triangles are then in each other's rows, (a,d,b) and (b,c,a).
+ * The new diagonal is side 3 of both rows. Swapped as well, from either row, it gives the old one back, with
+ * the two triangles in each other's rows, as (a,d,b) and (b,c,a).
  *
- * In a loop of edits size goes along, and a refused edit is passed over:
+ * In a loop of edits size goes along, and a refused edit changes nothing:
  *
  *     uint32_t size[2] = {n, m};
  *     for (size_t i = 0; i < count; i++)
  *         swapped += borzhanu_refusal(borzhanu_swap(size, elements, 4u * m, v2e, n, e2e, columns * m, b2e, n,
  *                                                   work, work_len, sides[i])) == BORZHANU_ANSWERED;
  *
- * A borzhanu_mesh on the same buffers, each cut to what it holds, may be asked before and after: a swap
- * leaves n, m, k and the columns, and so all its members, as they are.
+ * The queries take the same buffers, each cut to what it holds. A borzhanu_mesh of them, put together after
+ * building, can be asked between swaps: n, m, k and the columns, and so all its members, stay as they are.
  */
 uint64_t borzhanu_swap(uint32_t size[2],
                        uint32_t *elements, size_t elements_len,

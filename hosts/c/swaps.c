@@ -532,31 +532,36 @@ static void try_lengths(struct list list, struct dice *dice) {
     drop_list(&list);
 }
 
+static const uint32_t listing[2][4] = {{1, 2, 3, 0}, {1, 3, 4, 0}};
+
 /* List and tables in buffers of 2^32 entries: no length is cut to 32 bits. */
 static void try_far_lengths(void) {
-    static const uint32_t rows[2][4] = {{1, 2, 3, 0}, {1, 3, 4, 0}};
-    struct list list = list_of_rows(4, 2, rows);
+    struct list list = list_of_rows(4, 2, listing);
     uint32_t size[SIZE_LENGTH];
     struct call call = swap_of(&list, 4, size, borzhanu_side(1, 3));
     for (int i = 0; lent[i] != WORK; i++)
         compare_far(&call, lent[i]);
 }
 
-/* Each buffer emptied by itself, of a list and of none; all of them are null for one of the placements. */
+static struct call emptied(struct call call) {
+    for (int i = 0; i < LENT; i++)
+        call.given[lent[i]].len = 0;
+    return call;
+}
+
+/* Each buffer emptied by itself, and all of them: one of the placements then hands over null. */
 static void try_empty_buffers(uint32_t n, uint32_t m) {
-    static const uint32_t rows[2][4] = {{1, 2, 3, 0}, {1, 3, 4, 0}}, codes[] = {0, 8, 9, 11};
-    struct list list = list_of_rows(n, m, rows);
+    static const uint32_t codes[] = {0, 8, 9, 11};
+    struct list list = list_of_rows(n, m, listing);
     uint32_t size[SIZE_LENGTH];
     for (size_t i = 0; i < COUNT(codes); i++) {
-        struct call call = swap_of(&list, 4, size, codes[i]);
+        struct call call = swap_of(&list, 4, size, codes[i]), all = emptied(call);
+        compare_with(&all, n == 0 ? 11 : 2, 0);
         for (int j = 0; j < LENT; j++) {
-            struct call emptied = call;
-            emptied.given[lent[j]].len = 0;
-            compare(&emptied, NULL);
+            struct call one = call;
+            one.given[lent[j]].len = 0;
+            compare(&one, NULL);
         }
-        for (int j = 0; j < LENT; j++)
-            call.given[lent[j]].len = 0;
-        compare_with(&call, n == 0 ? 11 : 2, 0);
     }
 }
 
@@ -576,23 +581,22 @@ void lengths_of_swaps(struct dice *dice) {
 
 /* ---- the largest sizes ---- */
 
-/* n and m over their maxima, each by itself: 1, whatever the buffers, which are empty. */
-static void check_past_largest(void) {
-    static const uint32_t sizes[][SIZE_LENGTH] = {{BORZHANU_MAX_VERTICES + 1, 0},
-                                                  {0, BORZHANU_MAX_ELEMENTS + 1},
-                                                  {BORZHANU_MAX_VERTICES + 1, BORZHANU_MAX_ELEMENTS + 1},
-                                                  {4, UINT32_MAX},
-                                                  {UINT32_MAX, 2},
-                                                  {4, 0x40000002}};
-    static const uint32_t rows[2][4] = {{1, 2, 3, 0}, {1, 3, 4, 0}};
-    struct list list = list_of_rows(4, 2, rows);
+/* The listing's buffers, and none, for any n and m: 1 where one of the numbers is past its largest, else 2. In 32 bits
+   the last of these would have a list of eight entries. */
+static void check_sizes(void) {
+    enum { MOST_N = BORZHANU_MAX_VERTICES, MOST_M = BORZHANU_MAX_ELEMENTS };
+    static const uint32_t sizes[][SIZE_LENGTH + 1] = {
+        {MOST_N, 2, 2},     {4, MOST_M, 2},         {MOST_N, MOST_M, 2}, {MOST_N + 1, 2, 1}, {4, MOST_M + 1, 1},
+        {MOST_N + 1, 0, 1}, {0, MOST_M + 1, 1},     {MOST_N + 1, MOST_M + 1, 1},
+        {UINT32_MAX, 2, 1}, {4, UINT32_MAX, 1},     {4, 0x40000002, 1},
+    };
+    struct list list = list_of_rows(4, 2, listing);
     uint32_t size[SIZE_LENGTH];
-    struct call call = swap_of(&list, 4, size, borzhanu_side(1, 3));
-    for (size_t i = 0; i < 2 * COUNT(sizes); i++) {
-        memcpy(size, sizes[i % COUNT(sizes)], sizeof size);
-        compare_with(&call, 1, 0);
-        for (int j = 0; i + 1 == COUNT(sizes) && j < LENT; j++)
-            call.given[lent[j]].len = 0;
+    struct call call = swap_of(&list, 4, size, borzhanu_side(1, 3)), none = emptied(call);
+    for (size_t i = 0; i < COUNT(sizes); i++) {
+        memcpy(size, sizes[i], sizeof size);
+        compare_with(&call, sizes[i][SIZE_LENGTH], 0);
+        compare_with(&none, sizes[i][SIZE_LENGTH], 0);
     }
 }
 
@@ -608,5 +612,5 @@ void largest_swaps(struct dice *dice) {
     call.number = borzhanu_side(BORZHANU_MAX_ELEMENTS + 1, 1);
     compare_with(&call, 11, 0);
     drop_list(&list);
-    check_past_largest();
+    check_sizes();
 }
