@@ -1,6 +1,6 @@
 //! The archive's functions, as include/borzhanu.h declares them. A slice is a pointer and a length.
 
-use crate::WalkerRecord;
+use crate::{Size, WalkerRecord};
 
 macro_rules! queries {
     ($($name:ident($($argument:ident: $kind:ty),*);)*) => {
@@ -89,5 +89,20 @@ extern "C" {
         siblings_len: usize,
         work: *mut u32,
         work_len: usize,
+    ) -> u64;
+
+    pub fn borzhanu_swap(
+        size: *mut Size,
+        elements: *mut u32,
+        elements_len: usize,
+        v2e: *mut u32,
+        v2e_len: usize,
+        e2e: *mut u32,
+        e2e_len: usize,
+        b2e: *mut u32,
+        b2e_len: usize,
+        work: *mut u32,
+        work_len: usize,
+        code: u32,
     ) -> u64;
 }

@@ -85,8 +85,25 @@
 //! # Ok::<(), borzhanu::Refusal>(())
 //! ```
 //!
-//! [`columns`], [`build`], [`recover`], [`siblings()`] and [`Mesh`] are the kernel's own calls, on buffers that the
-//! caller lends; these allocate nothing. Half-edges are codes there, which [`side`], [`border`] and [`HalfEdge`] make,
+//! A smoother swaps the diagonals of triangles. [`OwnedMesh`] is a mesh to edit, whose tables are always those of its
+//! list; an edit that is refused leaves both as they were:
+//!
+//! ```
+//! use borzhanu::{HalfEdge, OwnedMesh, Refusal};
+//!
+//! // Two triangles on four vertices. Vertices 1 and 3 are joined, and then 2 and 4.
+//! let mut panel = OwnedMesh::build(4, &[[1, 2, 3, 0], [1, 3, 4, 0]])?;
+//! panel.swap(HalfEdge::side(1, 3))?;
+//! assert_eq!(panel.rows(), [[2, 3, 4, 0], [4, 1, 2, 0]]);
+//! assert_eq!(panel.tables().neighbours(1)?, [4, 2]);
+//!
+//! // On the rim there is nothing to swap.
+//! assert_eq!(panel.swap(HalfEdge::side(1, 1)), Err(Refusal::EdgeUnfit));
+//! # Ok::<(), borzhanu::Refusal>(())
+//! ```
+//!
+//! [`columns`], [`build`], [`recover`], [`siblings()`], [`swap`] and [`Mesh`] are the kernel's own calls, on buffers that
+//! the caller lends; these allocate nothing. Half-edges are codes there, which [`side`], [`border`] and [`HalfEdge`] make,
 //! and code 0 names nothing:
 //!
 //! ```
@@ -136,6 +153,7 @@ mod exports;
 mod half_edge;
 mod holes;
 mod mesh;
+mod owned;
 mod refusal;
 mod siblings;
 mod tables;
@@ -143,6 +161,7 @@ mod tables;
 pub use half_edge::HalfEdge;
 pub use holes::{Hole, Holes};
 pub use mesh::{Mesh, VertexKind, Walker, WalkerRecord};
+pub use owned::OwnedMesh;
 pub use refusal::Refusal;
 pub use siblings::{Plates, Siblings, Sides};
 pub use tables::Tables;
@@ -164,8 +183,8 @@ pub const fn border(b: u32) -> u32 {
     8 * b
 }
 
-/// The least length of the work buffer of [`build`], [`recover`], [`siblings()`] and [`Mesh::holes`] for n vertices
-/// and m elements.
+/// The least length of the work buffer of [`build`], [`recover`], [`siblings()`], [`swap`] and [`Mesh::holes`] for n
+/// vertices and m elements.
 pub const fn work_length(n: u32, m: usize) -> usize {
     n as usize + 16 * m
 }
@@ -177,6 +196,16 @@ pub struct Counts {
     pub borders: u32,
     /// The number of edges.
     pub edges: u32,
+}
+
+/// The size of a mesh in buffers that may be longer than what they hold, as an edit is lent them.
+#[repr(C)]
+#[derive(Clone, Copy, Debug, PartialEq, Eq, Hash)]
+pub struct Size {
+    /// The number of vertices.
+    pub n: u32,
+    /// The number of elements.
+    pub m: u32,
 }
 
 /// The two numbers of an answer, out of what an exported function returned.
@@ -191,6 +220,10 @@ fn taken_apart(returned: u64) -> Result<(u32, u32), Refusal> {
 
 fn first_number(returned: u64) -> Result<u32, Refusal> {
     taken_apart(returned).map(|(first, _)| first)
+}
+
+fn counted(returned: u64) -> Result<Counts, Refusal> {
+    taken_apart(returned).map(|(borders, edges)| Counts { borders, edges })
 }
 
 /// The columns of E2e for an element list: 3 where no row has a fourth corner, so also where there is no row, else 4.
@@ -239,8 +272,7 @@ pub fn build(
             work.len(),
         )
     };
-    let (borders, edges) = taken_apart(returned)?;
-    Ok(Counts { borders, edges })
+    counted(returned)
 }
 
 /// Writes the one element list of m rows that [`build`] turns into exactly this V2e and this E2e.
@@ -326,4 +358,76 @@ pub fn siblings(
         )
     };
     taken_apart(returned).map(|_| ())
+}
+
+/// Swaps the diagonal of two triangles in an element list, and writes the tables of the new list. [`OwnedMesh`] has this
+/// without buffers to lend.
+///
+/// `code` names the diagonal by a side of either triangle. Where it runs from a to b, with c the third corner of its
+/// triangle and d that of its partner's, its row becomes (c, a, d) and the partner's row (d, b, c). Every other row
+/// stays. Side 3 of both rows is then the new diagonal. Swapping that as well gives the two old triangles back, each in
+/// the other's row and begun at another corner.
+///
+/// The list is the first 4 × m entries of `elements`, where `size` has n and m. `v2e` has at least n entries, `e2e` at
+/// least [`columns`] × m, `b2e` at least k (n are always enough) and `work` at least [`work_length`]. What the tables and
+/// `work` hold before doesn't matter: nothing is read but the list, and all of it is judged as [`build`] judges it,
+/// before and after the swap. After an answer the new list and its tables stand at the starts of their buffers, every
+/// entry past them is as it was, and `size` has the new n and m, which a swap doesn't change. After a refusal `size`, the
+/// list and the tables are as they were. After 1 and 2 `work` is as it was; after everything else all of it is zero.
+///
+/// # Errors
+///
+/// Refusals 1 and 2 for the sizes and lengths; 3, 4, 6 to 8 and 18 where the list is refused; 11 where it has no half-edge
+/// of this code; 15 for a border half-edge, a border side and a side with a quadrilateral on either side; 6 and 18 where
+/// the new list is refused, since c and d are joined already or are a quadrilateral's diagonal; 9. In this order.
+///
+/// ```
+/// use borzhanu::{side, swap, work_length, Refusal, Size};
+///
+/// // Two triangles, in buffers with room for a third.
+/// let mut size = Size { n: 4, m: 2 };
+/// let mut elements = [1, 2, 3, 0, 1, 3, 4, 0, 7, 7, 7, 7];
+/// let (mut v2e, mut e2e, mut b2e) = ([7; 5], [7; 3 * 3], [7; 5]);
+/// let mut work = vec![0; work_length(5, 3)];
+///
+/// // The side from 3 to 1, in the first: 2 and 4 are the third corners.
+/// let counts = swap(&mut size, &mut elements, &mut v2e, &mut e2e, &mut b2e, &mut work, side(1, 3))?;
+/// assert_eq!((counts.borders, counts.edges), (4, 5));
+/// assert_eq!(elements, [2, 3, 4, 0, 4, 1, 2, 0, 7, 7, 7, 7]);
+/// assert_eq!(v2e, [24, 32, 8, 16, 7]);
+/// assert_eq!(e2e, [8, 16, 19, 24, 32, 11, 7, 7, 7]);
+/// assert_eq!(b2e, [9, 10, 17, 18, 7]);
+///
+/// // A border side has no other diagonal.
+/// let refused = swap(&mut size, &mut elements, &mut v2e, &mut e2e, &mut b2e, &mut work, side(1, 1));
+/// assert_eq!(refused, Err(Refusal::EdgeUnfit));
+/// # Ok::<(), borzhanu::Refusal>(())
+/// ```
+pub fn swap(
+    size: &mut Size,
+    elements: &mut [u32],
+    v2e: &mut [u32],
+    e2e: &mut [u32],
+    b2e: &mut [u32],
+    work: &mut [u32],
+    code: u32,
+) -> Result<Counts, Refusal> {
+    // SAFETY: each pointer has its slice's own length, and the kernel stays within these and the two numbers of the size.
+    let returned = unsafe {
+        exports::borzhanu_swap(
+            size,
+            elements.as_mut_ptr(),
+            elements.len(),
+            v2e.as_mut_ptr(),
+            v2e.len(),
+            e2e.as_mut_ptr(),
+            e2e.len(),
+            b2e.as_mut_ptr(),
+            b2e.len(),
+            work.as_mut_ptr(),
+            work.len(),
+            code,
+        )
+    };
+    counted(returned)
 }

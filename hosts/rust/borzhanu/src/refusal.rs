@@ -69,6 +69,9 @@ pub enum Refusal {
         /// The length that it needs.
         needed: u32,
     },
+    /// 15: the half-edge named is a border half-edge, or the side named is a border side or has a quadrilateral on either
+    /// side. An edit gives it, after 11.
+    EdgeUnfit,
     /// 18: two elements meet otherwise than at one corner or one edge, as two triangles back to back do, and two
     /// quadrilaterals with a diagonal in common. It comes after 8 and before 9.
     ElementsClash {
@@ -100,6 +103,7 @@ impl Refusal {
             11 => Refusal::NotThere,
             12 => Refusal::TableBroken,
             13 => Refusal::OutputShort { needed: first },
+            15 => Refusal::EdgeUnfit,
             18 => Refusal::ElementsClash { first, second },
             _ => panic!("libborzhanu.a gave refusal {number}, which this crate doesn't know"),
         }
@@ -121,6 +125,7 @@ impl Refusal {
             Refusal::NotThere => 11,
             Refusal::TableBroken => 12,
             Refusal::OutputShort { .. } => 13,
+            Refusal::EdgeUnfit => 15,
             Refusal::ElementsClash { .. } => 18,
         }
     }
@@ -133,7 +138,12 @@ impl Refusal {
             Refusal::VertexUnused { vertex } | Refusal::FanBroken { vertex } => (vertex, 0),
             Refusal::BorderShort { needed } | Refusal::OutputShort { needed } => (needed, 0),
             Refusal::ElementsClash { first, second } => (first, second),
-            Refusal::Sizes | Refusal::Lengths | Refusal::NoList | Refusal::NotThere | Refusal::TableBroken => (0, 0),
+            Refusal::Sizes
+            | Refusal::Lengths
+            | Refusal::NoList
+            | Refusal::NotThere
+            | Refusal::TableBroken
+            | Refusal::EdgeUnfit => (0, 0),
         }
     }
 
@@ -155,6 +165,7 @@ impl Refusal {
             Refusal::NotThere => "the vertex, border or half-edge isn't there, or the question isn't defined for it",
             Refusal::TableBroken => "a table entry that was read names nothing, or a walk is overlong",
             Refusal::OutputShort { .. } => "the output is too short",
+            Refusal::EdgeUnfit => "the edge named is a border or has a quadrilateral beside it",
             Refusal::ElementsClash { .. } => "two elements meet otherwise than at one corner or one edge",
         }
     }
@@ -173,7 +184,12 @@ impl fmt::Display for Refusal {
             Refusal::VertexUnused { vertex } | Refusal::FanBroken { vertex } => write!(f, ": vertex {vertex}"),
             Refusal::BorderShort { needed } | Refusal::OutputShort { needed } => write!(f, ": needed length {needed}"),
             Refusal::ElementsClash { first, second } => write!(f, ": elements {first} and {second}"),
-            Refusal::Sizes | Refusal::Lengths | Refusal::NoList | Refusal::NotThere | Refusal::TableBroken => Ok(()),
+            Refusal::Sizes
+            | Refusal::Lengths
+            | Refusal::NoList
+            | Refusal::NotThere
+            | Refusal::TableBroken
+            | Refusal::EdgeUnfit => Ok(()),
         }
     }
 }
@@ -197,7 +213,7 @@ mod tests {
 
     #[test]
     fn header_and_readme_say_the_same() {
-        for number in (1..=13).chain([18]) {
+        for number in (1..=13).chain([15, 18]) {
             let text = Refusal::of(number, 0, 0).text();
             assert_eq!(text_in_header(number), Some(text));
             assert!(README.contains(&format!("| {number} | {text} |")), "README on refusal {number}");

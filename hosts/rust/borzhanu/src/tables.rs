@@ -1,6 +1,7 @@
 //! An element list with its tables, owned.
 
-use crate::{build, columns, work_length, Counts, HalfEdge, Holes, Mesh, Refusal, VertexKind, Walker};
+use crate::{build, columns, swap, work_length};
+use crate::{Counts, HalfEdge, Holes, Mesh, Refusal, Size, VertexKind, Walker};
 
 /// An element list and the tables that were built of it. Whatever is asked of them, the only refusal is
 /// [`Refusal::NotThere`].
@@ -35,6 +36,11 @@ impl Tables {
     ///
     /// Refusals 1, 3, 4, 6 to 8 and 18, where these rows are no mesh.
     pub fn build(n: u32, rows: &[[u32; 4]]) -> Result<Tables, Refusal> {
+        Tables::build_with_work(n, rows).map(|(tables, _)| tables)
+    }
+
+    /// The same, with the work buffer that was used.
+    pub(crate) fn build_with_work(n: u32, rows: &[[u32; 4]]) -> Result<(Tables, Vec<u32>), Refusal> {
         // Numbers over their maximum are refused here, before memory is taken for them.
         let columns = columns(n, rows.as_flattened())?;
         let m = rows.len();
@@ -45,7 +51,20 @@ impl Tables {
         let mut work = vec![0; work_length(n, m)];
         let counts = build(n, rows.as_flattened(), &mut v2e, &mut e2e, &mut b2e, &mut work)?;
         b2e.truncate(counts.borders as usize);
-        Ok(Tables { n, columns, rows: rows.to_vec(), v2e, e2e, b2e, counts })
+        Ok((Tables { n, columns, rows: rows.to_vec(), v2e, e2e, b2e, counts }, work))
+    }
+
+    /// Swaps a diagonal; list and tables stay together, whatever comes of it.
+    pub(crate) fn swap(&mut self, side: HalfEdge, work: &mut [u32]) -> Result<Counts, Refusal> {
+        let mut size = Size { n: self.n, m: self.rows.len() as u32 };
+        let elements = self.rows.as_flattened_mut();
+        self.counts = swap(&mut size, elements, &mut self.v2e, &mut self.e2e, &mut self.b2e, work, side.code())?;
+        Ok(self.counts)
+    }
+
+    /// The element list.
+    pub(crate) fn rows(&self) -> &[[u32; 4]] {
+        &self.rows
     }
 
     /// The list and its tables, lent.
