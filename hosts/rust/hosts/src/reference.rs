@@ -4,6 +4,7 @@
 
 pub mod holes;
 pub mod siblings;
+pub mod swap;
 
 use std::collections::HashMap;
 
@@ -349,7 +350,7 @@ pub fn tables_by_pairing(n: u32, elements: &[u32]) -> Result<Built, Refused> {
 }
 
 /// Checks 3, 4, 6 to 8 and 18, and the tables of an accepted list.
-fn tables(n: u32, elements: &[u32]) -> Result<Built, Refused> {
+pub fn tables(n: u32, elements: &[u32]) -> Result<Built, Refused> {
     let rows = Rows(elements);
     let Paired { partners, by_origin } = paired(n, elements)?;
     match clash(rows, &by_origin) {

@@ -1,10 +1,11 @@
 //! One call, made on the kernel between guard pages and compared with the reference.
 
-use borzhanu::{Mesh, Refusal, VertexKind, WalkerRecord, MAX_ELEMENTS, MAX_VERTICES};
+use borzhanu::{Mesh, Refusal, Size, VertexKind, WalkerRecord, MAX_ELEMENTS, MAX_VERTICES};
 use hosts::guarded::{Guarded, Placement};
-use hosts::raw::{borzhanu_siblings, taken_apart};
+use hosts::raw::{borzhanu_siblings, borzhanu_swap, taken_apart};
 use hosts::reference::holes::{self, Holes};
 use hosts::reference::siblings::{self, Siblings};
+use hosts::reference::swap::{self, Swapped};
 use hosts::reference::{self, Built, Lengths, Refused, View};
 use hosts::told;
 use std::process;
@@ -50,6 +51,17 @@ pub enum Question {
     Query(Way, Query),
     /// asked as a query is
     Holes(Way),
+    /// through the wrapper
+    Swap(Diagonal),
+    /// straight to the archive
+    RawSwap(Diagonal),
+}
+
+/// What a swap is told beside n and the buffers.
+#[derive(Clone, Copy, Debug)]
+pub struct Diagonal {
+    pub m: u32,
+    pub code: u32,
 }
 
 /// A query goes through the wrapper, or straight to the archive, told so many columns.
@@ -256,6 +268,14 @@ impl Call<'_> {
         Outcome { answer, left: Left { work_cleared: true, ..left } }
     }
 
+    fn expected_swap(&self, Diagonal { m, code }: Diagonal) -> Outcome {
+        let work_cleared = swap::held(self.n, m, self.elements, self.lengths()).is_ok();
+        match swap::swap(self.n, m, self.elements, self.lengths(), code) {
+            Ok(Swapped { list, tables }) => swaps(list, tables),
+            Err(refused) => Outcome { answer: Err(refused), left: Left { work_cleared, ..Left::default() } },
+        }
+    }
+
     pub fn expected(&self) -> Outcome {
         match self.what {
             Question::Build => self.expected_build(),
@@ -264,8 +284,25 @@ impl Call<'_> {
             Question::Siblings | Question::RawSiblings => self.expected_siblings(),
             Question::Query(way, query) => self.expected_query(way.told(), query),
             Question::Holes(way) => self.expected_holes(way.told()),
+            Question::Swap(diagonal) | Question::RawSwap(diagonal) => self.expected_swap(diagonal),
         }
     }
+
+    /// n and m, which a swap is lent.
+    fn size(&self) -> [u32; 2] {
+        match self.what {
+            Question::Swap(diagonal) | Question::RawSwap(diagonal) => [self.n, diagonal.m],
+            _ => [0, 0],
+        }
+    }
+}
+
+/// A swap that answers and leaves this.
+pub fn swaps(list: Vec<u32>, tables: Built) -> Outcome {
+    let Built { v2e, e2e, b2e, edges } = tables;
+    let answer = Ok((b2e.len() as u32, edges));
+    let (elements, v2e, e2e, b2e) = (Some(list), Some(v2e), Some(e2e), Some(b2e));
+    Outcome { answer, left: Left { elements, v2e, e2e, b2e, work_cleared: true, ..Left::default() } }
 }
 
 fn refuses(refused: Refused) -> Outcome {
@@ -304,6 +341,7 @@ pub struct Memory {
     out: Guarded,
     lengths: Guarded,
     record: Guarded,
+    size: Guarded,
 }
 
 /// The buffers of one call, within guarded memory.
@@ -316,6 +354,7 @@ pub struct Held<'a> {
     out: &'a mut [u32],
     lengths: &'a mut [u32],
     record: &'a mut [u32],
+    size: &'a mut [u32],
 }
 
 impl Memory {
@@ -330,6 +369,7 @@ impl Memory {
             out: Guarded::new(4 * m),
             lengths: Guarded::new(4 * m),
             record: Guarded::new(3),
+            size: Guarded::new(2),
         }
     }
 
@@ -347,11 +387,12 @@ impl Memory {
             out: self.out.hold(call.out, placement),
             lengths: self.lengths.hold(call.lengths, placement),
             record: self.record.hold(&[record.start, record.next, record.count], placement),
+            size: self.size.hold(&call.size(), placement),
         }
     }
 }
 
-fn refused(refusal: Refusal) -> Refused {
+pub fn refused(refusal: Refusal) -> Refused {
     (refusal.number(), refusal.place().0, refusal.place().1)
 }
 
@@ -374,6 +415,8 @@ impl Held<'_> {
             Question::Query(Way::Told(columns), query) => taken_apart(self.ask_told(call, columns, query)),
             Question::Holes(Way::Wrapper) => self.ask_wrapper_holes(call).map_err(refused),
             Question::Holes(Way::Told(columns)) => taken_apart(self.ask_told_holes(call, columns)),
+            Question::Swap(diagonal) => self.ask_swap(diagonal.code).map_err(refused),
+            Question::RawSwap(diagonal) => taken_apart(self.ask_raw_swap(diagonal.code)),
         }
     }
 
@@ -390,6 +433,33 @@ impl Held<'_> {
                 self.e2e.len(),
                 self.work.as_mut_ptr(),
                 self.work.len(),
+            )
+        }
+    }
+
+    fn ask_swap(&mut self, code: u32) -> Result<(u32, u32), Refusal> {
+        // SAFETY: the memory holds the two numbers of the size, and nothing else refers to it meanwhile.
+        let size = unsafe { &mut *(self.size.as_mut_ptr() as *mut Size) };
+        borzhanu::swap(size, self.elements, self.v2e, self.e2e, self.b2e, self.work, code)
+            .map(|counts| (counts.borders, counts.edges))
+    }
+
+    fn ask_raw_swap(&mut self, code: u32) -> u64 {
+        // SAFETY: each pointer has its slice's own length, and the kernel stays within these.
+        unsafe {
+            borzhanu_swap(
+                self.size.as_mut_ptr(),
+                self.elements.as_mut_ptr(),
+                self.elements.len(),
+                self.v2e.as_mut_ptr(),
+                self.v2e.len(),
+                self.e2e.as_mut_ptr(),
+                self.e2e.len(),
+                self.b2e.as_mut_ptr(),
+                self.b2e.len(),
+                self.work.as_mut_ptr(),
+                self.work.len(),
+                code,
             )
         }
     }
@@ -445,6 +515,8 @@ impl Held<'_> {
         check_buffer("b2e", self.b2e, call.b2e, &want.b2e);
         check_buffer("out", self.out, call.out, &want.out);
         check_buffer("lengths", self.lengths, call.lengths, &want.lengths);
+        // No swap changes the size.
+        check_buffer("size", self.size, &call.size(), &None);
         if !want.work_cleared {
             check_buffer("work", self.work, call.work, &None);
         } else if self.work.iter().any(|&entry| entry != 0) {

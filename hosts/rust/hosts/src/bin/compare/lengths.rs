@@ -1,6 +1,6 @@
 //! Buffers longer and shorter than they should be, and sizes at their maxima and past them.
 
-use crate::call::{Call, Query, Question};
+use crate::call::{Call, Diagonal, Query, Question};
 use crate::host::Host;
 use borzhanu::{work_length, WalkerRecord, MAX_ELEMENTS, MAX_VERTICES};
 use hosts::meshes::List;
@@ -27,7 +27,7 @@ const QUERIES: [Query; 15] = [
     Query::Step(AT_END),
 ];
 
-/// Each call in turn, a query told any columns and recovery any number of elements, mostly m.
+/// Each call in turn, a query told any columns, recovery and a swap any number of elements, mostly m.
 fn any_questions(host: &mut Host, m: u32) -> Vec<Question> {
     let counts = [m, m, m, m, m + 1, m - 1, MAX_ELEMENTS + 1, u32::MAX];
     let count = counts[host.dice.below(8) as usize];
@@ -35,6 +35,8 @@ fn any_questions(host: &mut Host, m: u32) -> Vec<Question> {
     questions.extend([Question::Siblings, Question::RawSiblings]);
     questions.extend(QUERIES.map(|query| Question::Query(host.any_way(), query)));
     questions.push(Question::Holes(host.any_way()));
+    let diagonal = Diagonal { m: count, code: 9 };
+    questions.extend([Question::Swap(diagonal), Question::RawSwap(diagonal)]);
     questions
 }
 
@@ -93,7 +95,7 @@ struct Sizes {
     n: u32,
     /// of the element list
     rows: u32,
-    /// that recovery is told
+    /// that recovery and a swap are told
     m: u32,
     e2e_len: u32,
 }
@@ -104,12 +106,15 @@ fn compare_sizes(host: &mut Host, elements: &[u32], sizes: Sizes) {
     let noise = mem::take(&mut host.noise);
     let ring = Question::Query(host.any_way(), Query::Ring(1));
     let holes = Question::Holes(host.any_way());
-    for what in [Question::Build, Question::Recover(m), Question::Columns, Question::Siblings, ring, holes] {
+    let swap = Question::RawSwap(Diagonal { m, code: 9 });
+    for what in [Question::Build, Question::Recover(m), Question::Columns, Question::Siblings, ring, holes, swap] {
         let work_len = match what {
             Question::Build | Question::Siblings | Question::Holes(_) if n <= MAX_VERTICES && rows <= MAX_ELEMENTS => {
                 work_length(n, rows as usize)
             }
-            Question::Recover(m) if n <= MAX_VERTICES && m <= MAX_ELEMENTS => work_length(n, m as usize),
+            Question::Recover(m) | Question::RawSwap(Diagonal { m, .. }) if n <= MAX_VERTICES && m <= MAX_ELEMENTS => {
+                work_length(n, m as usize)
+            }
             _ => 9,
         };
         host.compare(&Call {

@@ -11,6 +11,7 @@ mod holes;
 mod host;
 mod lengths;
 mod siblings;
+mod swaps;
 
 use borzhanu::{MAX_ELEMENTS, MAX_VERTICES};
 use call::Query;
@@ -23,6 +24,7 @@ use siblings::{large_siblings, siblings};
 use std::env;
 use std::mem;
 use std::time::Instant;
+use swaps::{large_swaps, swap_diagonals};
 
 const SEED: u64 = 20_240_229;
 
@@ -231,6 +233,7 @@ fn largest(host: &mut Host) {
     large_clashes(host);
     large_siblings(host);
     large_holes(host);
+    large_swaps(host);
     mostly_unused(host);
     about_the_largest(host);
 }
@@ -240,7 +243,7 @@ fn main() {
     let start = Instant::now();
     let mut host = Host::new(seed);
     println!("seed {seed}");
-    let families: [Family; 14] = [
+    let families: [Family; 15] = [
         ("lists of one row", one_row),
         ("lists of two rows", two_rows),
         ("unused vertices", unused_vertices),
@@ -251,6 +254,7 @@ fn main() {
         ("elements that clash", clashes),
         ("edges of many plates", siblings),
         ("holes", holes),
+        ("swapped diagonals", swap_diagonals),
         ("small housings", small_housings),
         ("housings", housings),
         ("large housings", large_housings),
