@@ -352,8 +352,13 @@ fn any_extent(dice: &mut Dice, size: u32) -> (u32, u32) {
 }
 
 fn one_housing(dice: &mut Dice, size: u32) -> List {
-    let (width, height) = any_extent(dice, size);
     let kinds = any_kinds(dice);
+    housing_of(kinds, dice, size)
+}
+
+/// A housing of up to about `size` elements; fans, bipyramids and books have triangles alone.
+pub fn housing_of(kinds: Kinds, dice: &mut Dice, size: u32) -> List {
+    let (width, height) = any_extent(dice, size);
     match dice.below(10) {
         0 => fan(1 + dice.below(size), false),
         1 => fan(3 + dice.below(size), true),

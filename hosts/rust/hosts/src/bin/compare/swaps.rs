@@ -5,7 +5,7 @@ use crate::call::{refused, swaps, Call, Diagonal, Left, Outcome, Question};
 use crate::host::Host;
 use borzhanu::{border, side, swap, work_length, Counts, HalfEdge, OwnedMesh, Refusal, Size};
 use borzhanu::{MAX_ELEMENTS, MAX_VERTICES};
-use hosts::meshes::{any_housing, bipyramid, fan, pillow, sheet, wound, Dice, Kinds, List};
+use hosts::meshes::{any_housing, housing_of, sheet, Dice, Kinds, List};
 use hosts::reference::swap::Edited;
 use hosts::reference::{self, columns_of, Built, Refused};
 use std::mem;
@@ -92,6 +92,10 @@ type Room = [isize; 5];
 
 const ENOUGH: Room = [0; 5];
 const NONE: isize = isize::MIN;
+/// Everything else is refused before 9.
+const WITHOUT_B2E: Room = [0, 0, 0, NONE, 0];
+/// How many of these are enough.
+const LONGER: u32 = 9;
 const OTHER_ROOM: [Room; 22] = [
     // longer, the list by a part of a row too
     [4, 0, 0, 0, 0],
@@ -105,7 +109,7 @@ const OTHER_ROOM: [Room; 22] = [
     [400, 100, 300, 100, 1700],
     // B2e too short: 9 alone
     [0, 0, 0, -1, 0],
-    [0, 0, 0, NONE, 0],
+    WITHOUT_B2E,
     [7, 7, 7, -1, 7],
     // another too short
     [-1, 0, 0, 0, 0],
@@ -172,7 +176,7 @@ fn refused_late(refused: Refused) -> Outcome {
     Outcome { answer: Err(refused), left: Left { work_cleared: true, ..Left::default() } }
 }
 
-/// k of a list, 0 where building refuses it with less than 18.
+/// k of a list; 0 where it has none, since building refuses it before 18.
 fn borders(list: &List) -> u32 {
     reference::tables_by_pairing(list.n, list.entries()).map_or(0, |built| built.b2e.len() as u32)
 }
@@ -191,8 +195,7 @@ fn known(host: &mut Host) {
         let found = want.left.elements.as_deref().ok_or(want.answer.err());
         assert_eq!(found, new.map(|rows| rows.as_flattened()).map_err(Some), "the reference, on {rows:?}, code {code}");
         if new.is_err() {
-            // 11, 15, 6 and 18 come before 9.
-            assert_eq!(compare_swap(host, &list, code, [0, 0, 0, NONE, 0]).answer, want.answer);
+            assert_eq!(compare_swap(host, &list, code, WITHOUT_B2E).answer, want.answer);
         }
         compare_owned(host, &list, code, &want);
     }
@@ -228,16 +231,19 @@ fn assert_sound(mesh: &OwnedMesh) {
     assert_eq!(mesh.m() as usize, mesh.mesh().elements().len() / 4);
 }
 
-/// Every code of a housing, and some beyond.
+/// Every code of a housing, and some beyond: as large as codes can be, and those that are another's but for a high bit.
 fn every_code(host: &mut Host, list: &List) {
-    let k = borders(list);
-    let last = 8 * (k.max(list.rows.len() as u32) + 2);
-    let beyond = [border(MAX_VERTICES), side(MAX_ELEMENTS, 3), u32::MAX - 7, u32::MAX];
-    for code in (0..last).chain(beyond) {
+    let last = 8 * (borders(list).max(list.rows.len() as u32) + 2);
+    let largest = [border(MAX_VERTICES), side(MAX_ELEMENTS, 3), u32::MAX - 7, u32::MAX];
+    let raised = (8..32).map(|bit| host.dice.below(last) | 1 << bit).collect::<Vec<u32>>();
+    for code in (0..last).chain(largest).chain(raised) {
         let want = compare_swap(host, list, code, ENOUGH);
         if host.dice.once_in(3) {
             let room = any_room(&mut host.dice);
             compare_swap(host, list, code, room);
+        }
+        if want.answer.is_err() && host.dice.once_in(3) {
+            assert_eq!(compare_swap(host, list, code, WITHOUT_B2E).answer, want.answer);
         }
         if want.answer.is_ok() && host.dice.once_in(2) {
             compare_owned(host, list, code, &want);
@@ -245,22 +251,14 @@ fn every_code(host: &mut Host, list: &List) {
     }
 }
 
-/// A housing of triangles, closed, with rims or with openings, and sometimes of quadrilaterals too.
+/// A housing of triangles, sometimes of quadrilaterals too, closed or with rims, and sometimes with openings.
 fn any_triangulated(dice: &mut Dice, size: u32) -> List {
     let kinds = if dice.once_in(3) { Kinds::Mixed } else { Kinds::Triangles };
-    let (width, height) = (3 + dice.below(1 + size / 6), 3 + dice.below(1 + size / 12));
-    let list = match dice.below(8) {
-        0 => fan(2 + dice.below(size), dice.once_in(2)),
-        1 => bipyramid(3 + dice.below(size / 2)),
-        2 => pillow(2 + width / 2, 2 + height / 2, kinds, dice),
-        3 => wound(2 + dice.below(3), 3 + dice.below(size), dice.once_in(2), kinds, dice),
-        4 => sheet(width, height, (true, true), kinds, dice),
-        5 => sheet(width, height, (true, false), kinds, dice).with_openings(2 + dice.below(9), dice),
-        6 => sheet(width, height, (true, true), kinds, dice).with_openings(2 + dice.below(9), dice),
-        _ => sheet(width, height, (false, false), kinds, dice),
-    };
-    let unused = if dice.once_in(4) { dice.below(4) } else { 0 };
-    let after = dice.below(list.n + 1);
+    let mut list = housing_of(kinds, dice, size);
+    if dice.once_in(3) {
+        list = list.with_openings(2 + dice.below(9), dice);
+    }
+    let (after, unused) = (dice.below(list.n + 1), dice.below(3));
     list.with_unused(after, unused).put_down_anyhow(dice)
 }
 
@@ -296,7 +294,7 @@ impl Run {
             Ok(()) => swaps(self.edited.list().to_vec(), self.tables_of_copy()),
             Err(refused) => refused_late(refused),
         };
-        let room = OTHER_ROOM[host.dice.below(9) as usize];
+        let room = OTHER_ROOM[host.dice.below(LONGER) as usize];
         let subject = Subject { n: self.size.n, list: &before, k: self.edited.borders() };
         let want = compare_to(host, subject, code, room, |_| want);
         self.swap_owned_and_lent(code, &want);
@@ -320,7 +318,10 @@ impl Run {
         assert!(self.work.iter().all(|&entry| entry == 0), "the work buffer isn't clean");
         assert_eq!(self.size, Size { n: self.owned.n(), m: self.owned.m() });
         assert_eq!(self.owned.mesh().elements(), self.edited.list(), "owned, code {code}");
-        for (lent, owned) in self.lent.iter().zip(buffers(&self.owned)) {
+        let Left { elements, v2e, e2e, b2e, .. } = &want.left;
+        let written = [elements, v2e, e2e, b2e];
+        for ((owned, lent), written) in buffers(&self.owned).into_iter().zip(&self.lent).zip(written) {
+            assert_eq!(owned, written.as_deref().unwrap_or(owned), "owned, code {code}");
             assert_eq!(*lent, [owned, &PAST].concat(), "lent and owned, code {code}");
         }
     }
@@ -390,7 +391,7 @@ pub fn swap_diagonals(host: &mut Host) {
         let list = any_triangulated(&mut host.dice, 12);
         every_code(host, &list);
     }
-    for (rounds, size, steps) in [(300, 12, 20), (60, 120, 60), (10, 1_200, 60), (1, 20_000, 20)] {
+    for (rounds, size, steps) in [(500, 12, 24), (100, 120, 60), (12, 1_200, 60), (2, 20_000, 15)] {
         for _ in 0..rounds {
             let list = any_triangulated(&mut host.dice, size);
             run(host, &list, steps);
