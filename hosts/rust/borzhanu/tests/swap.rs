@@ -200,7 +200,7 @@ fn a_fan_taken_apart() {
         let spoke = mesh.tables().opposite(HalfEdge::from_code(mesh.mesh().v2e()[0])).expect("vertex 1 is inner");
         assert_eq!(mesh.swap(spoke), Ok(counts));
         assert_eq!(mesh.tables().ring(1).map(|ring| ring.len()), Ok(left as usize));
-        assert_is(&mesh, count + 1, &mesh.rows().to_vec());
+        assert_is(&mesh, count + 1, mesh.rows());
     }
     let before = mesh.clone();
     let spoke = HalfEdge::from_code(mesh.mesh().v2e()[0]);

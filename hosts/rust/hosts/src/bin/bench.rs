@@ -1,11 +1,11 @@
-//! Times building, recovery, rings, siblings and holes, and hash maps beside them, and prints tables in Markdown.
+//! Times building, recovery, rings, siblings, holes and swaps, and other means beside them, and prints tables in Markdown.
 //!
 //!     bench [FOLDER]    with a folder, also writes lists of triangles to FOLDER/build and FOLDER/holes, for bench_cpp
 //!
 //! Runs are interleaved and medians reported, so that a slow moment of the machine meets every candidate.
 //! All buffers are allocated and touched before the first run and used again in every run.
 
-use borzhanu::{build, columns, recover, siblings, work_length, Mesh, Refusal};
+use borzhanu::{build, columns, recover, siblings, work_length, HalfEdge, Mesh, OwnedMesh, Refusal};
 use hosts::meshes::{book, corners_of, fan, sheet, Dice, Kinds, List};
 use hosts::raw::taken_apart;
 use hosts::reference::View;
@@ -596,6 +596,148 @@ fn print_refused_holes(dice: &mut Dice) {
     println!();
 }
 
+/// Swaps the spokes of an inner vertex until three are left. The neighbours are then joined to each other, so that no
+/// spoke can be swapped any more; one of these is given.
+fn crowded_spoke(mesh: &mut OwnedMesh, v: u32) -> HalfEdge {
+    loop {
+        let spoke = HalfEdge::from_code(mesh.mesh().v2e()[v as usize - 1]);
+        if mesh.mesh().ring_of(v).expect("v is there").len() == 3 {
+            return spoke;
+        }
+        mesh.swap(spoke).expect("the neighbours aren't joined yet");
+    }
+}
+
+/// A third side with another diagonal, of a triangle that hasn't v and lies beside none that has it.
+fn swappable(mesh: &OwnedMesh, v: u32) -> HalfEdge {
+    let tables = mesh.tables();
+    let has_v = |f: u32| f == 0 || mesh.rows()[f as usize - 1].contains(&v);
+    let beside = |side| tables.across(side).expect("the side is there");
+    let mut sides = (1..=mesh.m()).filter(|&f| !has_v(f)).map(|f| HalfEdge::side(f, 3));
+    sides.find(|&side| !has_v(beside(side)) && mesh.clone().swap(side).is_ok()).expect("a diagonal can be swapped")
+}
+
+/// Triangles as arrays: the corners, what lies opposite each side, and a side that leaves each vertex. Sides count from
+/// 0, three to a triangle; opposite a border side is `OUTSIDE`.
+struct Plain {
+    corners: Vec<u32>,
+    opposites: Vec<u32>,
+    leaving: Vec<u32>,
+}
+
+const OUTSIDE: u32 = u32::MAX;
+
+impl Plain {
+    fn new(mesh: &Mesh) -> Plain {
+        let slot = |&code: &u32| if code % 8 == 0 { OUTSIDE } else { 3 * (code / 8) + code % 8 - 4 };
+        let corners: Vec<u32> = mesh.elements().iter().copied().filter(|&v| v != 0).collect();
+        let mut leaving = vec![OUTSIDE; mesh.n() as usize];
+        (0..).zip(&corners).for_each(|(side, &v)| leaving[v as usize - 1] = side);
+        Plain { corners, opposites: mesh.e2e().iter().map(slot).collect(), leaving }
+    }
+
+    /// Swaps the edge of a side that has an opposite, and judges nothing.
+    fn swap(&mut self, side: u32) {
+        let turned = |side: u32, by: u32| side - side % 3 + (side + by) % 3;
+        let (ab, ba) = (side, self.opposites[side as usize]);
+        let (f, g) = (ab - ab % 3, ba - ba % 3);
+        let [bc, ca, ad, db] = [turned(ab, 1), turned(ab, 2), turned(ba, 1), turned(ba, 2)];
+        let [a, b, c, d] = [ab, ba, ca, db].map(|side| self.corners[side as usize]);
+        let [past_bc, past_ca, past_ad, past_db] = [bc, ca, ad, db].map(|side| self.opposites[side as usize]);
+        for (side, v, opposite) in [
+            (f, c, past_ca),
+            (f + 1, a, past_ad),
+            (f + 2, d, g + 2),
+            (g, d, past_db),
+            (g + 1, b, past_bc),
+            (g + 2, c, f + 2),
+        ] {
+            self.corners[side as usize] = v;
+            self.leaving[v as usize - 1] = side;
+            self.opposites[side as usize] = opposite;
+            if opposite != OUTSIDE {
+                self.opposites[opposite as usize] = side;
+            }
+        }
+    }
+}
+
+/// In place the same is done.
+fn check_plain(mesh: &OwnedMesh, side: HalfEdge) {
+    let (mut swapped, mut plain) = (mesh.clone(), Plain::new(&mesh.mesh()));
+    swapped.swap(side).expect("the diagonal can be swapped");
+    plain.swap(3 * side.numbers().0 - 1);
+    let Plain { corners, opposites, .. } = Plain::new(&swapped.mesh());
+    assert!(plain.corners == corners && plain.opposites == opposites);
+    assert!((1..).zip(&plain.leaving).all(|(v, &side)| side == OUTSIDE || corners[side as usize] == v));
+}
+
+/// Medians of the milliseconds of a build, a swap, one refused early and one refused late; and of the nanoseconds of one
+/// in place.
+struct SwapTimes {
+    early: Refusal,
+    build: f64,
+    swaps: [f64; 3],
+    in_place: f64,
+}
+
+/// Swaps there and back, so that the triangles stay, and refused ones, beside a build of the same list and swaps in
+/// place, runs interleaved.
+fn swap_times(list: &List, dice: &mut Dice) -> SwapTimes {
+    let mut mesh = OwnedMesh::build(list.n, &list.rows).expect("the list is accepted");
+    let v = (1..=list.n).find(|&v| mesh.mesh().ring_of(v).is_ok_and(|ring| ring.len() == 6)).expect("v is inside");
+    let late = crowded_spoke(&mut mesh, v);
+    let side = swappable(&mesh, v);
+    let early = HalfEdge::border(1);
+    let refusal = mesh.swap(early).expect_err("there is no diagonal");
+    let list = List::new(mesh.n(), mesh.rows());
+    let (mut bench, mut plain) = (Bench::new(&list), Plain::new(&mesh.mesh()));
+    check_plain(&mesh, side);
+    let is_inner = |&side: &u32| plain.opposites[side as usize] != OUTSIDE;
+    let sides: Vec<u32> = (0..10_000).map(|_| 3 * dice.below(mesh.m()) + 2).filter(is_inner).collect();
+    let [mut build, mut swaps, mut earlies, mut lates, mut in_place] = [(); 5].map(|()| Vec::new());
+    for _ in 0..ROUNDS {
+        timed(&mut build, || bench.build()).expect("the list is accepted");
+        timed(&mut swaps, || mesh.swap(side).and_then(|_| mesh.swap(side))).expect("the diagonal can be swapped");
+        assert_eq!(timed(&mut earlies, || mesh.swap(early)), Err(refusal));
+        assert!(matches!(timed(&mut lates, || mesh.swap(late)), Err(Refusal::EdgeCrowded { .. })));
+        timed(&mut in_place, || sides.iter().for_each(|&side| (0..2).for_each(|_| black_box(&mut plain).swap(side))));
+    }
+    SwapTimes {
+        early: refusal,
+        build: median(&build),
+        swaps: [median(&swaps) / 2.0, median(&earlies), median(&lates)],
+        in_place: median(&in_place) * 1e6 / (2 * sides.len()) as f64,
+    }
+}
+
+fn print_swaps(lists: &[(&str, List)], dice: &mut Dice) {
+    println!("## Swapped diagonals\n");
+    println!("The lists of 100,000 triangles, each with three diagonals swapped before, so that one vertex has three");
+    println!("neighbours and none of its edges can be swapped. Milliseconds of processor time, medians of {ROUNDS}");
+    println!("interleaved runs on buffers that hold what the run before left, and ratios to a build of the same list.");
+    println!("The kernel needs nothing cleared; its time includes all checks of the old list and of the new one, the");
+    println!("tables, and clearing its work buffer at the end. A run swaps a diagonal and then the new one, so that");
+    println!("the triangles stay, and half its time is reported. Early, the old list alone is judged: a border");
+    println!("half-edge is named (15), which a closed mesh doesn't have (11). Late, the new list is refused (6).\n");
+    println!("In place are nanoseconds of a swap in arrays of corners and opposites that the benchmark keeps: two");
+    println!("triangles and their four neighbours are written, however long the list is, and nothing is judged. The");
+    println!("kernel takes no table on trust and judges the whole list at each call.\n");
+    println!("| list | build | swap | ratio | refused early | ratio | refused late | ratio | in place, ns |");
+    println!("|---|---|---|---|---|---|---|---|---|");
+    for (name, list) in lists {
+        let SwapTimes { early: refusal, build, swaps: [swap, early, late], in_place } = swap_times(list, dice);
+        println!(
+            "| {name} | {build:.2} | {swap:.2} | {:.2} | {}: {early:.2} | {:.2} | 6: {late:.2} | {:.2} | {in_place:.0} |",
+            swap / build,
+            refusal.number(),
+            early / build,
+            late / build
+        );
+    }
+    println!();
+}
+
 /// No element, and one, on n vertices.
 fn hardly_used(n: u32) -> [List; 2] {
     [List::new(n, &[]), List::new(n, &[[n, 1, n / 2, 0]])]
@@ -658,7 +800,7 @@ fn main() -> io::Result<()> {
     if let Some(folder) = env::args().nth(1) {
         write_lists(Path::new(&folder), &triangles, &mut Dice::new(SEED))?;
     }
-    print_hundred_thousand(&[triangles, quadrilaterals_100_000(&mut dice)].concat());
+    print_hundred_thousand(&[triangles.clone(), quadrilaterals_100_000(&mut dice)].concat());
     print_growth(&mut dice);
     print_extremes(&mut dice);
     print_told(&mut dice);
@@ -666,5 +808,6 @@ fn main() -> io::Result<()> {
     print_siblings(&mut dice);
     print_holes(&mut dice);
     print_refused_holes(&mut dice);
+    print_swaps(&triangles, &mut dice);
     Ok(())
 }
