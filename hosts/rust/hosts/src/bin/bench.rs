@@ -660,6 +660,20 @@ impl Plain {
             }
         }
     }
+
+    fn any_third_sides(&self, dice: &mut Dice) -> Vec<u32> {
+        let is_inner = |&side: &u32| self.opposites[side as usize] != OUTSIDE;
+        let m = self.corners.len() as u32 / 3;
+        (0..10_000).map(|_| 3 * dice.below(m) + 2).filter(is_inner).collect()
+    }
+
+    /// After a swap the third sides are on the new diagonal.
+    fn swap_there_and_back(&mut self, third_sides: &[u32]) {
+        for &side in third_sides {
+            self.swap(side);
+            self.swap(side);
+        }
+    }
 }
 
 /// In place the same is done.
@@ -681,33 +695,46 @@ struct SwapTimes {
     in_place: f64,
 }
 
+/// A mesh in which one side's edge can be swapped and another's can't.
+struct Prepared {
+    mesh: OwnedMesh,
+    side: HalfEdge,
+    crowded: HalfEdge,
+}
+
+impl Prepared {
+    fn new(list: &List) -> Prepared {
+        let mut mesh = OwnedMesh::build(list.n, &list.rows).expect("the list is accepted");
+        let has_six = |v: &u32| mesh.mesh().ring_of(*v).is_ok_and(|ring| ring.len() == 6);
+        let v = (1..=list.n).find(has_six).expect("inner vertices have six elements");
+        let crowded = crowded_spoke(&mut mesh, v);
+        let side = swappable(&mesh, v);
+        Prepared { mesh, side, crowded }
+    }
+}
+
 /// Swaps there and back, so that the triangles stay, and refused ones, beside a build of the same list and swaps in
 /// place, runs interleaved.
 fn swap_times(list: &List, dice: &mut Dice) -> SwapTimes {
-    let mut mesh = OwnedMesh::build(list.n, &list.rows).expect("the list is accepted");
-    let v = (1..=list.n).find(|&v| mesh.mesh().ring_of(v).is_ok_and(|ring| ring.len() == 6)).expect("v is inside");
-    let late = crowded_spoke(&mut mesh, v);
-    let side = swappable(&mesh, v);
-    let early = HalfEdge::border(1);
-    let refusal = mesh.swap(early).expect_err("there is no diagonal");
+    let Prepared { mut mesh, side, crowded } = Prepared::new(list);
     let list = List::new(mesh.n(), mesh.rows());
     let (mut bench, mut plain) = (Bench::new(&list), Plain::new(&mesh.mesh()));
     check_plain(&mesh, side);
-    let is_inner = |&side: &u32| plain.opposites[side as usize] != OUTSIDE;
-    let sides: Vec<u32> = (0..10_000).map(|_| 3 * dice.below(mesh.m()) + 2).filter(is_inner).collect();
+    let inner_sides = plain.any_third_sides(dice);
+    let (border, mut early) = (HalfEdge::border(1), None);
     let [mut build, mut swaps, mut earlies, mut lates, mut in_place] = [(); 5].map(|()| Vec::new());
     for _ in 0..ROUNDS {
         timed(&mut build, || bench.build()).expect("the list is accepted");
         timed(&mut swaps, || mesh.swap(side).and_then(|_| mesh.swap(side))).expect("the diagonal can be swapped");
-        assert_eq!(timed(&mut earlies, || mesh.swap(early)), Err(refusal));
-        assert!(matches!(timed(&mut lates, || mesh.swap(late)), Err(Refusal::EdgeCrowded { .. })));
-        timed(&mut in_place, || sides.iter().for_each(|&side| (0..2).for_each(|_| black_box(&mut plain).swap(side))));
+        early = timed(&mut earlies, || mesh.swap(border)).err();
+        assert!(matches!(timed(&mut lates, || mesh.swap(crowded)), Err(Refusal::EdgeCrowded { .. })));
+        timed(&mut in_place, || plain.swap_there_and_back(&inner_sides));
     }
     SwapTimes {
-        early: refusal,
+        early: early.expect("a border has no diagonal"),
         build: median(&build),
         swaps: [median(&swaps) / 2.0, median(&earlies), median(&lates)],
-        in_place: median(&in_place) * 1e6 / (2 * sides.len()) as f64,
+        in_place: median(&in_place) * 1e6 / (2 * inner_sides.len()) as f64,
     }
 }
 
