@@ -54,7 +54,7 @@ impl Tables {
         Ok((Tables { n, columns, rows: rows.to_vec(), v2e, e2e, b2e, counts }, work))
     }
 
-    /// Swaps a diagonal; list and tables stay together, whatever comes of it.
+    /// Swaps a diagonal: in list and tables, or, refused, in neither. B2e is long enough as it is, since k stays.
     pub(crate) fn swap(&mut self, side: HalfEdge, work: &mut [u32]) -> Result<Counts, Refusal> {
         let mut size = Size { n: self.n, m: self.rows.len() as u32 };
         let elements = self.rows.as_flattened_mut();
