@@ -1,5 +1,5 @@
-//! Swaps by a map that leads from two vertices, in the one direction, to the side that runs so. It is made once of an
-//! accepted list and kept up over a run of swaps. What is refused is looked up in it: the new list isn't built.
+//! Swaps by a map from two vertices, in one direction, to the side that runs so. It is made once of an accepted list and
+//! kept up over a run of swaps. What is refused is looked up in it: the new list isn't built.
 
 use super::{check_sizes, columns_of, sides_by_origin, tables, tables_of};
 use super::{Built, Lengths, Opposites, Refused, Rows, Side, FEW, NOT_THERE, UNFIT};

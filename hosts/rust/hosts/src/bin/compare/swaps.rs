@@ -401,9 +401,18 @@ pub fn swap_diagonals(host: &mut Host) {
     }
 }
 
-/// A million triangles without a border, by the map alone: what isn't there, what is one entry too short, and the last
-/// diagonal.
+/// As many vertices as there may be and one more, with two triangles; and as many triangles.
 pub fn large_swaps(host: &mut Host) {
+    for n in [MAX_VERTICES, MAX_VERTICES + 1] {
+        for room in [ENOUGH, [0, -1, 0, 0, 0], [0, 0, 0, 0, -1]] {
+            compare_swap(host, &List::new(n, &LISTING), 11, room);
+        }
+    }
+    most_triangles(host);
+}
+
+/// Without a border, by the map alone: what isn't there, what is one entry too short, and the last diagonal.
+fn most_triangles(host: &mut Host) {
     let List { n, rows } = sheet(1000, 500, (true, true), Kinds::Triangles, &mut host.dice);
     let mut edited = Edited::of_accepted(n, rows.as_flattened());
     let subject = Subject { n, list: rows.as_flattened(), k: 0 };
