@@ -1,1 +1,2 @@
 pub mod Walkers
+pub mod Sizes

@@ -9,11 +9,13 @@ ghost use Rattle.rules.specs.Queries.{halfEdgeBorderAnswer, vertexBorderAnswer,
 ghost use Rattle.rules.specs.Queries.{borderLoopLeaves, walkerStart, walkerStep};
 ghost use Rattle.rules.specs.Siblings.{siblingsAnswer, siblingsLeaves};
 ghost use Rattle.rules.specs.Holes.{holesAnswer, holesLeaves};
+ghost use Rattle.rules.specs.Swap.{swapAnswer, swapLeaves};
 ghost use Rattle.build.specs.Building.{lent};
 ghost use Rattle.sibling_map.specs.Mapping.{lentMaps};
 ghost use Rattle.holes.specs.Marks.{lentHoles};
 ghost use Rattle.walker.specs.Walkers.{calledBy};
 ghost use Rattle.borzhanu.specs.Walkers.{walkerIn, entriesOf};
+ghost use Rattle.borzhanu.specs.Sizes.{lentSized};
 
 // V2e, E2e and the first k entries of B2e of an element list: k and the number of edges.
 #[no_mangle]
@@ -69,6 +71,25 @@ pub extern "C" fn borzhanu_siblings(
     ensures { λ _. ⌜ lentMaps (now (v2e .exit)) (now (siblings .exit)) (now (work .exit)) ≡ siblingsLeaves n (now (elements .entry)) (lentMaps (now (v2e .entry)) (now (siblings .entry)) (now (work .entry))) ⌝ }
 {
     answer::pack(sibling_map::siblings(n, elements, v2e, siblings, work))
+}
+
+// The diagonal of two triangles swapped, in the list and its tables: k and the number of edges. `size` holds n and m, which stay.
+#[no_mangle]
+pub extern "C" fn borzhanu_swap(
+    size: &mut [u32; 2],
+    elements: &mut [u32],
+    v2e: &mut [u32],
+    e2e: &mut [u32],
+    b2e: &mut [u32],
+    work: &mut [u32],
+    code: u32,
+) -> u64
+    ensures { λ r. ⌜ r ≡ packedAnswer (swapAnswer (lentSized (now (size .entry)) (now (elements .entry)) (now (v2e .entry)) (now (e2e .entry)) (now (b2e .entry)) (now (work .entry))) code) ⌝ }
+    ensures { λ _. ⌜ lentSized (now (size .exit)) (now (elements .exit)) (now (v2e .exit)) (now (e2e .exit)) (now (b2e .exit)) (now (work .exit)) ≡ swapLeaves (lentSized (now (size .entry)) (now (elements .entry)) (now (v2e .entry)) (now (e2e .entry)) (now (b2e .entry)) (now (work .entry))) code ⌝ }
+{
+    let n = size[0];
+    let m = size[1];
+    answer::pack(swap::swap(n, m, elements, v2e, e2e, b2e, work, code))
 }
 
 // The half-edge that runs along the same edge the other way.
