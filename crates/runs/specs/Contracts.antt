@@ -25,6 +25,10 @@ use Rattle.recover.proofs.recover.Reads as recover-reads
 use Rattle.holes.specs.Marks.{lentHoles}
 use Rattle.holes.proofs.holes.Kinds as holes-kinds
 use Rattle.holes.proofs.holes.Reads as holes-reads
+use Rattle.edits.specs.Holding.{lentEdit}
+use Rattle.rules.specs.Swap.{swapAnswer, swapLeaves}
+use Rattle.swap.proofs.swap.Kinds as swap-kinds
+use Rattle.swap.proofs.swap.Reads as swap-reads
 use Rattle.sibling_map.specs.Mapping.{lentMaps}
 use Rattle.sibling_map.proofs.siblings.Kinds as siblings-kinds
 use Rattle.sibling_map.proofs.siblings.Reads as siblings-reads
@@ -47,7 +51,7 @@ use Rattle.walker.specs.declared.Call.the-variants.{Start, Step}
 use Rattle.walker.specs.Walkers.{recordOf, movedOf, calledBy}
 use Rattle.walker.proofs.call_at.Kinds as call-at-kinds
 use Rattle.walker.proofs.call_at.Reads as call-at-reads
-use Rattle.runs.specs.Runs.{StartRun, StepRun, BuildRun, RecoverRun, SiblingsRun, RingRun, NeighboursRun, BorderLoopRun, HolesRun}
+use Rattle.runs.specs.Runs.{StartRun, StepRun, BuildRun, RecoverRun, SiblingsRun, SwapRun, RingRun, NeighboursRun, BorderLoopRun, HolesRun}
 
 -- next_side(row, i) and previous_side(row, i)
 module _ (κs : Lfts 0) (a : Dens κs next-side-kinds.ps) (r : resT next-side-kinds.r κs .Denot) (s : AtExit (endedOf 0 next-side-kinds.ps next-side-kinds.r) κs) where
@@ -81,6 +85,16 @@ module _ (κs : Lfts 4) (a : Dens κs siblings-kinds.ps) (r : resT siblings-kind
       → SiblingsRun (a .0) (a .1 .0 .now) (lentMaps (a .1 .1 .0 .now) (a .1 .1 .1 .0 .now) (a .1 .1 .1 .1 .0 .now)) (numbers r)
       (lentMaps (s .1 .1 .0 .now) (s .1 .1 .1 .0 .now) (s .1 .1 .1 .1 .0 .now))
   siblings-run p = record { answer = p .0; leaves = p .1 }
+
+-- swap(n, m, list, v2e, e2e, b2e, work, code)
+module _ (κs : Lfts 5) (a : Dens κs swap-kinds.ps) (r : resT swap-kinds.r κs .Denot) (s : AtExit (endedOf 5 swap-kinds.ps swap-kinds.r) κs) where
+  pub swap-run : swap-reads.Post κs a r s
+      → SwapRun
+      (lentEdit (a .0) (a .1 .0) (a .1 .1 .0 .now) (a .1 .1 .1 .0 .now) (a .1 .1 .1 .1 .0 .now) (a .1 .1 .1 .1 .1 .0 .now) (a .1 .1 .1 .1 .1 .1 .0 .now))
+      (a .1 .1 .1 .1 .1 .1 .1 .0) (numbers r)
+      (lentEdit (a .0) (a .1 .0) (s .1 .1 .0 .now) (s .1 .1 .1 .0 .now) (s .1 .1 .1 .1 .0 .now) (s .1 .1 .1 .1 .1 .0 .now) (s .1 .1 .1 .1 .1 .1 .0 .now))
+  unfolding swapAnswer swapLeaves
+  swap-run p = record { answer = p .0; leaves = p .1 }
 
 -- columns(n, list)
 module _ (κs : Lfts 1) (a : Dens κs columns-kinds.ps) (r : resT columns-kinds.r κs .Denot) (s : AtExit (endedOf 1 columns-kinds.ps columns-kinds.r) κs) where

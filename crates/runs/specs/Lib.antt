@@ -7,6 +7,7 @@ pub mod Unused
 pub mod Siblings
 pub mod Holes
 pub mod RoundTrip
+pub mod Edits
 pub mod Bounds
 pub mod Exports
 pub mod SideSteps

@@ -11,31 +11,32 @@ use mathlib.Core.Bool.{Bool, true, false}
 use mathlib.Core.Logic.{_⊎_, inl, inr}
 use mathlib.Core.Option.{Option, some}
 use mathlib.Core.List.{List, _++_}
-use Prim.Native.Nat.{ℕ, zero, suc, _≤_, _<_}
+use Prim.Native.Nat.{ℕ, zero, suc, _+_, _*_, _≤_, _<_}
 use native.Mathlib.Omega.{arith}
 use lib.Dec.{T, leb}
-use lib.ListN.{length, take, drop}
+use lib.ListN.{length, take, drop, replicate, length-replicate}
 use lib.Seq.{take-append-seam}
 use Rattle.lists.specs.Tests.{within}
-use Rattle.lists.specs.TestLaws.{decide, true-of, false-of, means-not, means-le, means-within}
+use Rattle.lists.specs.TestLaws.{decide, true-of, false-of, passes, means-not, means-both, means-eq, means-le, means-within}
 use Rattle.lists.specs.Search.{at}
-use Rattle.rules.specs.Elements.{Side, isSide, sides, element, next, previous}
-use Rattle.rules.specs.Pairing.{Accepted, sizesFit}
-use Rattle.rules.specs.Tables.{b2e, columns, e2e, v2e}
-use Rattle.rules.specs.Refusals.{Answer, gives, refused, Buffers, buildLengths, after, onto, workAfter, buildLeaves}
+use Rattle.rules.specs.Elements.{elements, Side, isSide, sides, element, next, previous}
+use Rattle.rules.specs.Pairing.{Accepted, sizesFit, rowsFit}
+use Rattle.rules.specs.Tables.{borders, edges, b2e, columns, e2e, v2e}
+use Rattle.rules.specs.Refusals.{Answer, gives, refused, Buffers, callLengths, buildLengths, after, onto, workAfter, buildAnswer, buildLeaves}
 use Rattle.rules.specs.Queries.{Mesh, asked, defined, found, listed, listLeaves, listedAnswer, bySide, isHalfEdge, isVertex, opposite, borderNext, ring}
 use Rattle.rules.specs.Queries.{neighbours, borderLoop, Walker, started, startSide, walkerStart, walkerStep, oppositeAnswer, nextAnswer, previousAnswer}
 use Rattle.rules.specs.Queries.{vertexBorderAnswer, ringAnswer}
 use Rattle.rules.specs.Queries.{ringLeaves, neighboursAnswer, neighboursLeaves, borderLoopAnswer, borderLoopLeaves, startAnswer}
 use Rattle.theory.specs.Steps.{FirstBack, next-side, previous-side, previous-next, next-previous, next-back}
-use Rattle.theory.specs.Entries.{length-b2e}
+use Rattle.theory.specs.Entries.{length-b2e, length-v2e}
+use Rattle.theory.specs.Columns.{length-e2e}
 use Rattle.theory.specs.Built.{built, by-side}
 use Rattle.theory.specs.Rings.{ListsOnce}
 use Rattle.theory.specs.Reaching.{LoopOf}
 use Rattle.theory.specs.Neighbours.{ListsJoined}
 use Rattle.theory.specs.Walkers.{stepped}
 use Rattle.theory.specs.Vertices.{Tells}
-use Rattle.theory.specs.Answers.{never-gives}
+use Rattle.theory.specs.Answers.{never-gives, room-enough, build-accepted}
 use Rattle.theory.specs.Sound.{Sound}
 use Rattle.theory.specs.Served.{Served, served}
 use Rattle.runs.specs.Runs.{RingRun, NeighboursRun, BorderLoopRun, StartRun, StepRun, LeftBy, walked-answers}
@@ -89,6 +90,51 @@ module _ (M : Mesh) (checks : (a : Answer) → asked M a ≡ a) where
           let c : leb (length xs) (length out) ≡ false = false-of (leb (length xs) (length out)) no in
           let q : listedAnswer M there r out ≡ refused 13 (length xs) 0 = plain ∙ (rw (c, listed) refl) in
           (f ∙ q, left (refused 13 (length xs) 0) q)
+
+-- the tables of an accepted list are what a run of build leaves
+module _ (n : ℕ) (L : List ℕ) (x : Accepted n L) where
+  -- buffers as long as what they are to hold
+  u : Buffers
+  u = record { vertices = v2e n L; opposites = e2e L; border = b2e L; work = replicate (n + 16 * elements L) 0 }
+
+  lengths : T (buildLengths n L u)
+  unfolding u buildLengths callLengths
+  lengths =
+      means-both (means-eq (length (v2e n L)) n)
+      (means-both (means-eq (length (e2e L)) (columns L * elements L)) (means-le (n + 16 * elements L) (length (u .work)))) .shows
+      (length-v2e L n, (length-e2e L, omega (arith, length-replicate {A = ℕ} (n + 16 * elements L) 0)))
+
+  counted-there : buildAnswer n L u ≡ gives (borders L) (edges L)
+  unfolding u rowsFit
+  counted-there =
+      build-accepted n L (x .rows) u (passes (sizesFit n L) _ (x .rows) .0) lengths x
+      ∙ room-enough (length (b2e L)) (borders L) (edges L) (omega (arith, length-b2e L))
+
+  left-after : Answer → Mesh
+  left-after y =
+      record {
+        n = n;
+        columns = columns L;
+        list = L;
+        vertices = after y (v2e n L) (v2e n L);
+        opposites = after y (e2e L) (e2e L);
+        border = take (borders L) (after y (onto (b2e L) (b2e L)) (b2e L));
+      }
+
+  pub built-left : LeftBy n L (built n L)
+  unfolding u left-after buildLeaves after onto
+  built-left =
+      let whole = ap (λ (j : ℕ). take j (onto (b2e L) (b2e L))) (sym (length-b2e L)) ∙ take-append-seam (b2e L) (drop (length (b2e L)) (b2e L)) in
+      record {
+        lent = u;
+        left = buildLeaves n L u;
+        k = borders L;
+        edges = edges L;
+        run = record { answer = sym counted-there; leaves = refl };
+        mesh =
+            ap (λ (B : List ℕ). record { n = n; columns = columns L; list = L; vertices = v2e n L; opposites = e2e L; border = B }) (sym whole)
+            ∙ ap left-after (sym counted-there);
+      }
 
 -- theorem 6 holds of what a run of build left
 module _ (n : ℕ) (L : List ℕ) (M : Mesh) (x : LeftBy n L M) where

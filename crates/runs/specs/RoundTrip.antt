@@ -49,6 +49,12 @@ module _ (n : ℕ) (L V2e E2e : List ℕ) (h : HasTables n (elements L) L V2e E2
       (means-both (means-both (means-eq (length list) (4 * m)) columned) (means-le (n + 16 * m) (length work))) .shows
       (ap length (sym (h .vertices)) ∙ length-v2e L n, ((omega (arith, fit .fours), either-long), room))
 
+  -- recovery writes exactly that list
+  pub tables-come-back : (b : Answer) (list′ work′ : List ℕ) → RecoverRun n (elements L) V2e E2e list work b list′ work′ → (b ≡ gives 0 0) × (list′ ≡ L)
+  tables-come-back b list′ work′ run =
+      let (f, g) = recover-gives n (elements L) V2e E2e list work sizes-fit lengths-fit L h in
+      (run .answer ∙ f, run .leaves ∙ g)
+
 -- a run of build that counts, and then a run of recovery on what it left, told m
 module _ (n : ℕ) (L : List ℕ) (w w′ : Buffers) (a : Answer) (k e : ℕ) (built : BuildRun n L w a w′) (counts : a ≡ gives k e)
     (list work : List ℕ) (b : Answer) (list′ work′ : List ℕ) (run : RecoverRun n (elements L) (w′ .vertices) (w′ .opposites) list work b list′ work′) where
@@ -57,11 +63,7 @@ module _ (n : ℕ) (L : List ℕ) (w w′ : Buffers) (a : Answer) (k e : ℕ) (b
 
   -- it writes exactly that list, where the element list and the work buffer have fit lengths
   pub comes-back : length list ≡ length L → n + 16 * elements L ≤ length work → (b ≡ gives 0 0) × (list′ ≡ L)
-  comes-back long room =
-      let sizes = sizes-fit n L (w′ .vertices) (w′ .opposites) tables list work long room in
-      let lengths = lengths-fit n L (w′ .vertices) (w′ .opposites) tables list work long room in
-      let (f, g) = recover-gives n (elements L) (w′ .vertices) (w′ .opposites) list work sizes lengths L tables in
-      (run .answer ∙ f, run .leaves ∙ g)
+  comes-back long room = tables-come-back n L (w′ .vertices) (w′ .opposites) tables list work long room b list′ work′ run
 
   -- ... and no other, whenever it answers
   pub comes-back-alone : (p q : ℕ) → b ≡ gives p q → list′ ≡ L

@@ -8,6 +8,8 @@ use Rattle.rules.specs.Tables.{columns}
 use Rattle.rules.specs.Refusals.{Answer, gives, refused, Buffers, buildAnswer, buildLeaves, recoverAnswer, recoverList, recoverWork}
 use Rattle.rules.specs.Siblings.{SiblingBuffers, siblingsAnswer, siblingsLeaves}
 use Rattle.rules.specs.Holes.{HoleBuffers, holesAnswer, holesLeaves}
+use Rattle.rules.specs.Edits.{Edited, Lent, held, editAnswer, editLeaves}
+use Rattle.rules.specs.Swap.{swap}
 use Rattle.rules.specs.Queries.{Mesh, oppositeAnswer, nextAnswer, previousAnswer, elementAnswer, originAnswer, destinationAnswer, acrossAnswer}
 use Rattle.rules.specs.Queries.{halfEdgeBorderAnswer, vertexBorderAnswer, ringAnswer, ringLeaves, neighboursAnswer, neighboursLeaves}
 use Rattle.rules.specs.Queries.{borderLoopAnswer, borderLoopLeaves, Walker, walked, walkerStart, walkerStep}
@@ -27,6 +29,15 @@ pub record RecoverRun (n m : ℕ) (V2e E2e list work : List ℕ) (a : Answer) (l
 pub record SiblingsRun (n : ℕ) (L : List ℕ) (w : SiblingBuffers) (a : Answer) (w′ : SiblingBuffers) : Type 0 where
   pub answer : a ≡ siblingsAnswer n L w
   pub leaves : w′ ≡ siblingsLeaves n L w
+
+-- a run of an edit on what is lent, w: x is what the edit makes of the list that is held
+pub record EditRun (x : Edited) (w : Lent) (a : Answer) (w′ : Lent) : Type 0 where
+  pub answer : a ≡ editAnswer w x
+  pub leaves : w′ ≡ editLeaves w x
+
+-- a run of swap with the code s
+abbrev pub SwapRun : Lent → ℕ → Answer → Lent → Type 0
+SwapRun w s = EditRun (swap (w .n) (held w) s) w
 
 -- runs of the queries that write a list
 pub record RingRun (M : Mesh) (v : ℕ) (out : List ℕ) (a : Answer) (out′ : List ℕ) : Type 0 where

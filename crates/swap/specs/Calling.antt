@@ -20,6 +20,7 @@ use Rattle.theory.specs.Entries.{length-v2e}
 use Rattle.theory.specs.Columns.{length-e2e}
 use Rattle.theory.specs.Answers.{fit-passed}
 use Rattle.theory.specs.Calls as calls
+use Rattle.theory.specs.Edits.{past-old}
 use Rattle.theory.specs.Replacing.{same-columns}
 use Rattle.theory.specs.Swapping.{means-swappable, swapped-replaced}
 use Rattle.buffers.specs.Whole.{onto-full}
@@ -55,12 +56,6 @@ stays n L s fit {n′} {L′} e = go (test (isThere L s)) (test (isSwappable L s
           long = sym (ap length same) ∙ r .long;
           columned = sym (ap columns same) ∙ same-columns r;
         }
-
--- an answer after the old list's says that this was accepted
-once : (old new : Answer) {k e : ℕ} → onceAccepted old new ≡ gives k e → (i : ℕ) × (j : ℕ) × (old ≡ gives i j)
-unfolding onceAccepted
-once (gives i j) new g = (i, j, refl)
-once (refused r a b) new g = let z : _≡_ {A = ℕ} 0 1 = cc in absurd (omega arith)
 
 counts-fit : (n : ℕ) (L : List ℕ) {i j : ℕ} → T (sizesFit n L) → listAnswer n L ≡ gives i j → Fit n L
 unfolding listAnswer
@@ -170,7 +165,7 @@ module _ (n m : ℕ) (list V2e E2e B2e work : List ℕ) (s : ℕ) where
           let (e, f) = calls.cleared leaves (editSizes w) (editLengths w) rest work fit (x .answer) (z ∙ ap (λ (k : ℕ). replicate k 0) same) in
           let accepted : (i j n′ : ℕ) (L′ : List ℕ) → a ≡ gives i j → swap n L s ≡ becomes n′ L′ → Stays n L n′ L′ =
           λ i j n′ L′ g d.
-          (let (k, o, h) = once (listAnswer n L) _ (sym (x .answer) ∙ g) in stays n L s (counts-fit n L (checked-front .sizes) h) d) in
+          (let (k, o, h, new) = past-old (listAnswer n L) _ (sym (x .answer) ∙ g) in stays n L s (counts-fit n L (checked-front .sizes) h) d) in
           let m-is = sym (ap (λ (u : Lent). u .m) (x .leaves) ∙ same-m (swap n L s) a accepted) in (
             e,
             (λ k. lentEdit n (m-is k) (L₁ ++ drop (rows k) list) (V₁ ++ drop (vertices k) V2e) (E₁ ++ drop (opposites k) E2e) B₁ work′)

@@ -26,6 +26,7 @@ pub mod Deciding
 pub mod Described
 pub mod Answers
 pub mod Calls
+pub mod Edits
 pub mod Recovering
 pub mod Reads
 pub mod Follows
