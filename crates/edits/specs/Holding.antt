@@ -29,7 +29,7 @@ unfoldable pub columnsHeld : ℕ → ℕ → List ℕ → ℕ → ℕ → ℕ �
 columnsHeld n m L v e work = elim (holds n m L v e work) [ true ↦ columns (take (4 * m) L) | false ↦ 0 ]
 
 module _ (n m : ℕ) (L : List ℕ) (v e work : ℕ) where
-  means-holds : Means (holds n m L v e work) ((4 * m ≤ length L) × ((n ≤ v) × ((columns (take (4 * m) L) * m ≤ e) × (n + 16 * m ≤ work))))
+  pub means-holds : Means (holds n m L v e work) ((4 * m ≤ length L) × ((n ≤ v) × ((columns (take (4 * m) L) * m ≤ e) × (n + 16 * m ≤ work))))
   means-holds =
       means-both (means-le (4 * m) (length L))
       (means-both (means-le n v) (means-both (means-le (columns (take (4 * m) L) * m) e) (means-le (n + 16 * m) work)))

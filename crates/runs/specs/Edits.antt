@@ -2,30 +2,33 @@
 -- the tables that build gives of it, so recovery covers edited housings too". x is what the edit makes of the list that is held.
 -- Assumes nothing.
 use mathlib.Core.Path.{_≡_, refl, ap, sym, subst, _∙_}
-use mathlib.Core.Logic.{_↔_}
+use mathlib.Core.Logic.{inl, inr}
 use mathlib.Core.List.{List}
 use Prim.Native.Nat.{ℕ, _+_, _*_, _≤_}
 use native.Mathlib.Omega.{arith}
 use lib.Dec.{T}
-use lib.ListN.{length, take, drop}
-use lib.Seq.{take-append-seam}
-use Rattle.lists.specs.TestLaws.{true-of}
-use Rattle.rules.specs.Elements.{elements}
+use lib.ListN.{length, take, drop, length-append, length-drop, length-replicate}
+use lib.Seq.{take-append-seam, length-take-le}
+use Rattle.lists.specs.Tests.{both}
+use Rattle.lists.specs.TestLaws.{Test, pass, fail, test, true-of, means-both, means-le}
+use Rattle.lists.specs.SearchLaws.{le-or-lt}
+use Rattle.rules.specs.Elements.{maxVertex, maxElement, elements}
 use Rattle.rules.specs.Pairing.{Accepted, sizesFit}
 use Rattle.rules.specs.Tables.{borders, b2e, columns, e2e, v2e, edges}
 use Rattle.rules.specs.Recovery.{HasTables}
 use Rattle.rules.specs.Refusals.{Answer, gives, refused, Buffers, buildLengths, listAnswer, lengthChecks, roomCheck, after, onto, workAfter, buildAnswer}
+use Rattle.rules.specs.Refusals.{recoverAnswer, recoverList, recoverWork}
 use Rattle.rules.specs.Queries.{Mesh}
 use Rattle.rules.specs.Edits.{Edited, becomes, refuses, Lent, held, onceAccepted, newAnswer, editSizes, editLengths, editAnswer, written, editLeaves}
+use Rattle.theory.specs.FitRows.{means-sizes}
 use Rattle.theory.specs.Entries.{length-b2e, length-v2e}
 use Rattle.theory.specs.Columns.{length-e2e}
 use Rattle.theory.specs.Orders.{good}
-use Rattle.theory.specs.Answers.{past-lengths, past-room, room-enough, accepted-answer}
+use Rattle.theory.specs.Answers.{past-lengths, room-enough, room-short, accepted-answer}
 use Rattle.theory.specs.Edits.{past-old, past-new}
 use Rattle.theory.specs.Built.{built}
-use Rattle.edits.specs.Holding.{lentEdit}
+use Rattle.edits.specs.Holding.{lentEdit, means-holds}
 use Rattle.runs.specs.Runs.{BuildRun, RecoverRun, EditRun, LeftBy}
-use Rattle.runs.specs.Demand3.{list-counted}
 use Rattle.runs.specs.RoundTrip.{tables-come-back}
 use Rattle.runs.specs.OnBuilt.{built-left}
 
@@ -45,10 +48,29 @@ meshIn w k =
       border = take k (w .border);
     }
 
--- what was written to the front of a buffer stands there
+-- what was written to the front of a buffer stands there, and the buffer is as long as it was
 front : (xs buffer : List ℕ) (k : ℕ) → length xs ≡ k → take k (onto xs buffer) ≡ xs
 unfolding onto
 front xs buffer k e = ap (λ (j : ℕ). take j (onto xs buffer)) (sym e) ∙ take-append-seam xs (drop (length xs) buffer)
+
+onto-length : (xs buffer : List ℕ) → length xs ≤ length buffer → length (onto xs buffer) ≡ length buffer
+unfolding onto
+onto-length xs buffer h = simp (length-append, length-drop) (omega arith)
+
+-- what a run of build says of a list with fit sizes, in buffers of fit lengths
+build-tried : (n : ℕ) (L : List ℕ) (u : Buffers) (b : Answer) (u′ : Buffers) → BuildRun n L u b u′ → T (sizesFit n L) → T (buildLengths n L u)
+    → b ≡ roomCheck (length (u .border)) (listAnswer n L)
+unfolding buildAnswer lengthChecks
+build-tried n L u b u′ run sizes lengths =
+    run .answer ∙ rw (true-of (sizesFit n L) sizes, true-of (buildLengths n L u) lengths, lengthChecks) refl
+
+not-by-room : (room : ℕ) (a : Answer) {r p q : ℕ} → roomCheck room a ≡ refused r p q → (r ≡ 9 → ⊥) → a ≡ refused r p q
+unfolding roomCheck
+not-by-room room (refused r p q) e d = e
+not-by-room room (gives k j) {r} e d = elim (le-or-lt k room) [
+  | inl h ↦ let f = sym (room-enough room k j h) ∙ e in let z : _≡_ {A = ℕ} 0 1 = cc in absurd (omega arith)
+  | inr h ↦ let f = sym (room-short room k j h) ∙ e in let z : r ≡ 9 = cc in absurd (d z)
+]
 
 module _ (x : Edited) (w : Lent) (a : Answer) (w′ : Lent) (run : EditRun x w a w′) where
   abbrev L : List ℕ
@@ -56,6 +78,13 @@ module _ (x : Edited) (w : Lent) (a : Answer) (w′ : Lent) (run : EditRun x w a
 
   abbrev work′ : List ℕ
   work′ = workAfter (editSizes w) (editLengths w) (w .work)
+
+  work-length : length work′ ≡ length (w .work)
+  unfolding workAfter
+  work-length = elim (test (both (editSizes w) (editLengths w))) [
+    | pass t e ↦ rw (e, workAfter) (length-replicate {A = ℕ} (length (w .work)) 0)
+    | fail t e ↦ rw (e, workAfter) refl
+  ]
 
   -- what is left, by the answer
   left-by : {y : Answer} → a ≡ y → w′ ≡ withWork (after y (written w x) w) work′
@@ -97,12 +126,30 @@ module _ (x : Edited) (w : Lent) (a : Answer) (w′ : Lent) (run : EditRun x w a
     tried-by : {old : Answer} {y : Edited} → listAnswer (w .n) L ≡ old → x ≡ y → a ≡ onceAccepted old (newAnswer (length (w .border)) y)
     tried-by e f = tried ∙ (λ i. onceAccepted (e i) (newAnswer (length (w .border)) (f i)))
 
-    -- "The list as given must first be accepted by build": what build says of it, but for 9
-    pub old-refused : {r p q : ℕ} → listAnswer (w .n) L ≡ refused r p q → a ≡ refused r p q
-    unfolding onceAccepted
-    old-refused e = tried-by e refl
+    enough : (4 * w .m ≤ length (w .list)) × (w .n ≤ length (w .vertices)) × (columns L * w .m ≤ length (w .opposites)) × (w .n + 16 * w .m ≤ length (w .work))
+    unfolding editLengths
+    enough =
+        let (l, (v, (e, r))) = means-holds (w .n) (w .m) (w .list) (length (w .vertices)) (length (w .opposites)) (length (w .work)) .says lengths in
+        (l, v, e, r)
 
-    -- then the edit's own refusal, or what build says of the new list, with 9 by its k
+    -- the list that is held has m rows, and fit sizes
+    pub held-rows : (length L ≡ 4 * w .m) × (elements L ≡ w .m)
+    held-rows = let long = length-take-le (4 * w .m) (w .list) (enough .0) in (long, omega (arith, long))
+
+    pub held-sizes : T (sizesFit (w .n) L)
+    unfolding editSizes
+    held-sizes =
+        let (v, m) = means-both (means-le (w .n) maxVertex) (means-le (w .m) maxElement) .says sizes in
+        means-sizes (w .n) L .shows (v, (omega (arith, m, held-rows), omega (arith, held-rows)))
+
+    -- "The list as given must first be accepted by build": what a run of build says of it, but for 9
+    pub old-refused : (u u′ : Buffers) (b : Answer) → BuildRun (w .n) L u b u′ → T (buildLengths (w .n) L u)
+        → {r p q : ℕ} → b ≡ refused r p q → (r ≡ 9 → ⊥) → a ≡ refused r p q
+    unfolding onceAccepted
+    old-refused u u′ b built fit e d =
+        tried-by (not-by-room (length (u .border)) _ (sym (build-tried (w .n) L u b u′ built held-sizes fit) ∙ e) d) refl
+
+    -- then the edit's own refusal, or what a run of build says of the new list, with 9 by its k
     module _ (old : Accepted (w .n) L) where
       counts : listAnswer (w .n) L ≡ gives (borders L) (edges L)
       counts = accepted-answer (w .n) L (old .rows) old
@@ -111,13 +158,18 @@ module _ (x : Edited) (w : Lent) (a : Answer) (w′ : Lent) (run : EditRun x w a
       unfolding onceAccepted newAnswer
       edit-refused e = tried-by counts e
 
-      pub new-tried : {n′ : ℕ} {L′ : List ℕ} → x ≡ becomes n′ L′ → a ≡ roomCheck (length (w .border)) (listAnswer n′ L′)
+      new-answer : {n′ : ℕ} {L′ : List ℕ} → x ≡ becomes n′ L′ → a ≡ roomCheck (length (w .border)) (listAnswer n′ L′)
       unfolding onceAccepted newAnswer
-      new-tried e = tried-by counts e
+      new-answer e = tried-by counts e
+
+      pub new-tried : {n′ : ℕ} {L′ : List ℕ} → x ≡ becomes n′ L′ → (u u′ : Buffers) (b : Answer) → BuildRun n′ L′ u b u′ → T (sizesFit n′ L′)
+          → T (buildLengths n′ L′ u) → length (u .border) ≡ length (w .border) → a ≡ b
+      new-tried {n′} {L′} e u u′ b built fit long room =
+          new-answer e ∙ ap (λ (i : ℕ). roomCheck i (listAnswer n′ L′)) (sym room) ∙ sym (build-tried n′ L′ u b u′ built fit long)
 
       pub answers : {n′ : ℕ} {L′ : List ℕ} → x ≡ becomes n′ L′ → Accepted n′ L′ → borders L′ ≤ length (w .border) → a ≡ gives (borders L′) (edges L′)
       answers {n′} {L′} e new room =
-          new-tried e
+          new-answer e
           ∙ ap (roomCheck (length (w .border))) (accepted-answer n′ L′ (new .rows) new)
           ∙ room-enough (length (w .border)) (borders L′) (edges L′) room
 
@@ -151,3 +203,53 @@ module _ (x : Edited) (w : Lent) (a : Answer) (w′ : Lent) (run : EditRun x w a
 
     pub as-built : LeftBy n′ L′ (meshIn w′ k)
     as-built = subst (LeftBy n′ L′) (sym tables-left) (built-left n′ L′ new)
+
+    same-n : w′ .n ≡ n′
+    unfolding written
+    same-n = ap (λ (u : Lent). u .n) left
+
+    same-m : w′ .m ≡ elements L′
+    unfolding written
+    same-m = ap (λ (u : Lent). u .m) left
+
+    -- "so recovery covers edited housings too": of the tables left, told the m left, it gives the list left
+    pub comes-back : (list work : List ℕ) (b : Answer) (list′ work″ : List ℕ)
+        → RecoverRun (w′ .n) (w′ .m) (meshIn w′ k .vertices) (meshIn w′ k .opposites) list work b list′ work″
+        → length list ≡ 4 * w′ .m → w′ .n + 16 * w′ .m ≤ length work → (b ≡ gives 0 0) × (list′ ≡ held w′)
+    comes-back list work b list′ work″ recovers long room =
+        let V2e = meshIn w′ k .vertices in
+        let E2e = meshIn w′ k .opposites in
+        let tables : HasTables n′ (elements L′) L′ V2e E2e =
+        record {
+          accepted = new;
+          size = refl;
+          vertices = sym (ap (λ (M : Mesh). M .vertices) tables-left);
+          opposites = sym (ap (λ (M : Mesh). M .opposites) tables-left);
+        } in
+        let told : RecoverRun n′ (elements L′) V2e E2e list work b list′ work″ =
+        record {
+          answer = recovers .answer ∙ (λ i. recoverAnswer (same-n i) (same-m i) V2e E2e list work);
+          leaves = recovers .leaves ∙ (λ i. recoverList (same-n i) (same-m i) V2e E2e list work);
+          clears = recovers .clears ∙ (λ i. recoverWork (same-n i) (same-m i) V2e E2e list work);
+        } in
+        let (f, g) = tables-come-back n′ L′ V2e E2e tables list work (omega (arith, fours, same-m)) (omega (arith, same-n, same-m)) b list′ work″ told in
+        (f, g ∙ sym (ap (λ (M : Mesh). M .list) tables-left))
+
+    -- where the buffers have room for the new list, the next edit finds what it needs in them
+    pub fit-still : length L′ ≤ length (w .list) → n′ ≤ length (w .vertices) → columns L′ * elements L′ ≤ length (w .opposites) → k ≤ length (w .border)
+        → n′ + 16 * elements L′ ≤ length (w .work) → T (editSizes w′) × T (editLengths w′) × (length (w′ .border) ≡ length (w .border))
+    unfolding editSizes editLengths written
+    fit-still list vertices opposites border work =
+        let fit = good n′ L′ new .fit in
+        let same : held w′ ≡ L′ = ap (λ (M : Mesh). M .list) tables-left in
+        let list-long = ap (λ (u : Lent). length (u .list)) left ∙ onto-length L′ (w .list) list in
+        let vertices-long = ap (λ (u : Lent). length (u .vertices)) left ∙ onto-length (v2e n′ L′) (w .vertices) (omega (arith, length-v2e L′ n′)) in
+        let opposites-long = ap (λ (u : Lent). length (u .opposites)) left ∙ onto-length (e2e L′) (w .opposites) (omega (arith, length-e2e L′)) in
+        let border-long = ap (λ (u : Lent). length (u .border)) left ∙ onto-length (b2e L′) (w .border) (omega (arith, length-b2e L′, number)) in
+        let work-long = ap (λ (u : Lent). length (u .work)) left ∙ work-length in
+        let columned : columns (held w′) * w′ .m ≡ columns L′ * elements L′ = λ i. columns (same i) * same-m i in (
+          means-both (means-le (w′ .n) maxVertex) (means-le (w′ .m) maxElement) .shows (omega (arith, fit .vertices, same-n), omega (arith, fit .size, same-m)),
+          means-holds (w′ .n) (w′ .m) (w′ .list) (length (w′ .vertices)) (length (w′ .opposites)) (length (w′ .work)) .shows
+          (omega (arith, list-long, fit .fours, same-m), (omega (arith, vertices-long, same-n), (omega (arith, opposites-long, columned), omega (arith, work-long, same-n, same-m)))),
+          border-long,
+        )
