@@ -126,7 +126,7 @@ module _ (x : Edited) (w : Lent) (a : Answer) (w′ : Lent) (run : EditRun x w a
     tried-by : {old : Answer} {y : Edited} → listAnswer (w .n) L ≡ old → x ≡ y → a ≡ onceAccepted old (newAnswer (length (w .border)) y)
     tried-by e f = tried ∙ (λ i. onceAccepted (e i) (newAnswer (length (w .border)) (f i)))
 
-    enough : (4 * w .m ≤ length (w .list)) × (w .n ≤ length (w .vertices)) × (columns L * w .m ≤ length (w .opposites)) × (w .n + 16 * w .m ≤ length (w .work))
+    pub enough : (4 * w .m ≤ length (w .list)) × (w .n ≤ length (w .vertices)) × (columns L * w .m ≤ length (w .opposites)) × (w .n + 16 * w .m ≤ length (w .work))
     unfolding editLengths
     enough =
         let (l, (v, (e, r))) = means-holds (w .n) (w .m) (w .list) (length (w .vertices)) (length (w .opposites)) (length (w .work)) .says lengths in
@@ -204,11 +204,11 @@ module _ (x : Edited) (w : Lent) (a : Answer) (w′ : Lent) (run : EditRun x w a
     pub as-built : LeftBy n′ L′ (meshIn w′ k)
     as-built = subst (LeftBy n′ L′) (sym tables-left) (built-left n′ L′ new)
 
-    same-n : w′ .n ≡ n′
+    pub same-n : w′ .n ≡ n′
     unfolding written
     same-n = ap (λ (u : Lent). u .n) left
 
-    same-m : w′ .m ≡ elements L′
+    pub same-m : w′ .m ≡ elements L′
     unfolding written
     same-m = ap (λ (u : Lent). u .m) left
 

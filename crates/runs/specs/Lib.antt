@@ -8,6 +8,8 @@ pub mod Siblings
 pub mod Holes
 pub mod RoundTrip
 pub mod Edits
+pub mod Swaps
+pub mod SwapBack
 pub mod Bounds
 pub mod Exports
 pub mod SideSteps

@@ -8,13 +8,12 @@ use native.Mathlib.Omega.{arith}
 use lib.Dec.{T}
 use lib.ListN.{length, take, drop, replicate, take-append-drop}
 use lib.Seq.{length-take-le}
-use Rattle.lists.specs.TestLaws.{Test, pass, fail, test}
 use Rattle.rules.specs.Elements.{maxVertex, maxElement, elements}
 use Rattle.rules.specs.Pairing.{sizesFit}
 use Rattle.rules.specs.Tables.{columns, v2e, e2e, b2e}
 use Rattle.rules.specs.Refusals.{Answer, gives, refused, listAnswer, after, onto}
-use Rattle.rules.specs.Edits.{Edited, becomes, refuses, Lent, onceAccepted, newAnswer, editSizes, editLengths, editAnswer, written, editLeaves, isThere}
-use Rattle.rules.specs.Swap.{swapped, isSwappable, swap, swapAnswer, swapLeaves}
+use Rattle.rules.specs.Edits.{Edited, becomes, refuses, Lent, onceAccepted, newAnswer, editSizes, editLengths, editAnswer, written, editLeaves}
+use Rattle.rules.specs.Swap.{swap, swapAnswer, swapLeaves}
 use Rattle.theory.specs.FitRows.{Fit, means-sizes}
 use Rattle.theory.specs.Entries.{length-v2e}
 use Rattle.theory.specs.Columns.{length-e2e}
@@ -22,11 +21,11 @@ use Rattle.theory.specs.Answers.{fit-passed}
 use Rattle.theory.specs.Calls as calls
 use Rattle.theory.specs.Edits.{past-old}
 use Rattle.theory.specs.Replacing.{same-columns}
-use Rattle.theory.specs.Swapping.{means-swappable, swapped-replaced}
+use Rattle.theory.specs.Swapping.{swapped-replaced}
 use Rattle.buffers.specs.Whole.{onto-full}
 use Rattle.build.specs.Building.{Checked}
 use Rattle.edits.specs.Holding.{lentEdit, Held}
-use Rattle.swap.specs.Swaps.{tight, Left, gone, unfit, swaps}
+use Rattle.swap.specs.Swaps.{tight, Left, becomes-swapped}
 
 -- what is written to the front of a buffer is written to the buffer
 front-onto : (X buffer : List ℕ) (k : ℕ) → length X ≡ k → k ≤ length buffer → onto X (take k buffer) ++ drop k buffer ≡ onto X buffer
@@ -42,20 +41,10 @@ pub record Stays (n : ℕ) (L : List ℕ) (n′ : ℕ) (L′ : List ℕ) : Type 
   pub columned : columns L′ ≡ columns L
 
 stays : (n : ℕ) (L : List ℕ) (s : ℕ) → Fit n L → {n′ : ℕ} {L′ : List ℕ} → swap n L s ≡ becomes n′ L′ → Stays n L n′ L′
-stays n L s fit {n′} {L′} e = go (test (isThere L s)) (test (isSwappable L s))
-  where
-    go : Test (isThere L s) → Test (isSwappable L s) → Stays n L n′ L′
-    go (fail t f) c = let g = sym (gone n L s f) ∙ e in let z : _≡_ {A = ℕ} 0 1 = cc in absurd (omega arith)
-    go (pass t f) (fail u h) = let g = sym (unfit n L s f h) ∙ e in let z : _≡_ {A = ℕ} 0 1 = cc in absurd (omega arith)
-    go (pass t f) (pass u h) =
-        let g = sym (swaps n L s f h) ∙ e in
-        let same : swapped L s ≡ L′ = cc in
-        let r = swapped-replaced n L fit s (means-swappable L s .says u) in
-        record {
-          vertices = cc;
-          long = sym (ap length same) ∙ r .long;
-          columned = sym (ap columns same) ∙ same-columns r;
-        }
+stays n L s fit e =
+    let (x, same-n, same) = becomes-swapped n L s e in
+    let r = swapped-replaced n L fit s x in
+    record { vertices = sym same-n; long = sym (ap length same) ∙ r .long; columned = sym (ap columns same) ∙ same-columns r }
 
 counts-fit : (n : ℕ) (L : List ℕ) {i j : ℕ} → T (sizesFit n L) → listAnswer n L ≡ gives i j → Fit n L
 unfolding listAnswer

@@ -10,7 +10,7 @@ use lib.Dec.{eqb, not-T}
 use lib.ListN.{length, take, drop, length-take, length-drop}
 use lib.Seq.{drop-drop}
 use Rattle.lists.specs.Tests.{both}
-use Rattle.lists.specs.TestLaws.{true-of, false-of, means-not, zero-or}
+use Rattle.lists.specs.TestLaws.{Test, pass, fail, test, true-of, false-of, means-not, zero-or}
 use Rattle.lists.specs.Search.{at}
 use Rattle.lists.specs.Parts.{part, at-part}
 use Rattle.rules.specs.Elements.{maxVertex, maxElement, elements, row, corner, sides, isSide, Side, slot, origin, previousNumber, previous}
@@ -286,6 +286,15 @@ module _ (n : ℕ) (L : List ℕ) (s : ℕ) where
   pub swaps : isThere L s ≡ true → isSwappable L s ≡ true → swap n L s ≡ becomes n (swapped L s)
   unfolding swap
   swaps e d = rw (e, d, swap)
+
+  -- a list comes only of a diagonal
+  pub becomes-swapped : {n′ : ℕ} {L′ : List ℕ} → swap n L s ≡ becomes n′ L′ → Diagonal L s × (n ≡ n′) × (swapped L s ≡ L′)
+  becomes-swapped {n′} {L′} e = go (test (isThere L s)) (test (isSwappable L s))
+    where
+      go : Test (isThere L s) → Test (isSwappable L s) → Diagonal L s × (n ≡ n′) × (swapped L s ≡ L′)
+      go (fail t f) c = let g = sym (gone f) ∙ e in let z : _≡_ {A = ℕ} 0 1 = cc in absurd (omega arith)
+      go (pass t f) (fail u h) = let g = sym (unfit f h) ∙ e in let z : _≡_ {A = ℕ} 0 1 = cc in absurd (omega arith)
+      go (pass t f) (pass u h) = let g = sym (swaps f h) ∙ e in (means-swappable L s .says u, cc, cc)
 
 -- the old list was tried in the front of the work, which has become W: it is accepted
 module _ {n : ℕ} {L V2e E2e work : List ℕ} (x : Checked n L V2e E2e work) {t : Answer} {W : List ℕ} (y : Scratched n L t work W) {k e : ℕ} (g : t ≡ gives k e) where

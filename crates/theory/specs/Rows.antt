@@ -88,3 +88,24 @@ module _ (f g : ℕ) (row row′ L M : List ℕ) (four : length row ≡ 4) (four
       go p (inl e) c = twice-g M long p e ∙ sym (twice-g L refl p e)
       go p (inr d) (inl e) = twice-f M long p d e ∙ sym (twice-f L refl p d e)
       go p (inr d) (inr e) = twice-other M long p d e ∙ same p e d ∙ sym (twice-other L refl p d e)
+
+-- two rows, put in either order
+pub rows-either-way : (f g : ℕ) (row row′ L : List ℕ) → length row ≡ 4 → length row′ ≡ 4 → Element L f → Element L g → (f ≡ g → ⊥)
+    → withRow f row (withRow g row′ L) ≡ withRow g row′ (withRow f row L)
+rows-either-way f g row row′ L four four′ mine other apart =
+    ext-getD 0 _ _
+    (twice-long g f row′ row L L four′ four other mine refl (λ p d e. refl) L refl
+    ∙ sym (twice-long f g row row′ L L four four′ mine other refl (λ p d e. refl) L refl))
+    (λ p h. go p (decide (means-eq (p / 4 + 1) g)) (decide (means-eq (p / 4 + 1) f)))
+  where
+    go : (p : ℕ) → (p / 4 + 1 ≡ g) ⊎ (p / 4 + 1 ≡ g → ⊥) → (p / 4 + 1 ≡ f) ⊎ (p / 4 + 1 ≡ f → ⊥)
+        → at (withRow f row (withRow g row′ L)) p ≡ at (withRow g row′ (withRow f row L)) p
+    go p (inl e) c =
+        twice-f g f row′ row L L four′ four other mine refl (λ p d e. refl) L refl p (λ z. apart (sym z ∙ e)) e
+        ∙ sym (twice-g f g row row′ L L four four′ mine other refl (λ p d e. refl) L refl p e)
+    go p (inr d) (inl e) =
+        twice-g g f row′ row L L four′ four other mine refl (λ p d e. refl) L refl p e
+        ∙ sym (twice-f f g row row′ L L four four′ mine other refl (λ p d e. refl) L refl p d e)
+    go p (inr d) (inr e) =
+        twice-other g f row′ row L L four′ four other mine refl (λ p d e. refl) L refl p e d
+        ∙ sym (twice-other f g row row′ L L four four′ mine other refl (λ p d e. refl) L refl p d e)

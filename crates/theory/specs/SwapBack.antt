@@ -1,4 +1,5 @@
--- Swapping the new diagonal as well: the two old triangles come back in each other's rows and turned, and the list is accepted again.
+-- A diagonal named from either side is swapped alike. Swapping the new diagonal as well: the two old triangles come back in each other's rows
+-- and turned, and the list is accepted again.
 -- Assumes nothing.
 use mathlib.Core.Path.{_≡_, refl, ap, sym, _∙_}
 use mathlib.Core.Logic.{inr}
@@ -13,12 +14,34 @@ use Rattle.theory.specs.Sides.{side-positive}
 use Rattle.theory.specs.Pairings.{means-opposed, means-joins}
 use Rattle.theory.specs.FitRows.{Fit}
 use Rattle.theory.specs.Triangles.{TriangleSide, third-side}
-use Rattle.theory.specs.Rows.{rows-alike}
+use Rattle.theory.specs.Rows.{rows-alike, rows-either-way}
 use Rattle.theory.specs.Replacing.{Replaced, same-size}
 use Rattle.theory.specs.Turned.{Turned, turned-accepted}
 use Rattle.theory.specs.Orders.{Good}
 use Rattle.theory.specs.Counts.{Crossed}
 use Rattle.theory.specs.Swapping.{Diagonal, across, starts, ends, apart, mine, other, put-twice, origin-mine, origin-other, swapped-replaced}
+
+-- the other side of a diagonal is one
+module _ (n : ℕ) (L : List ℕ) (g : Good n L) (s : ℕ) (x : Diagonal L s) where
+  back : partner L (partner L s) ≡ s
+  back = g .pairing .mutually s (x .side) (x .paired) .1
+
+  pub other-diagonal : Diagonal L (partner L s)
+  other-diagonal =
+      record {
+        side = across n L (g .fit) s x .0;
+        paired = λ z. side-positive L s (x .side) (sym back ∙ z);
+        mine-three = x .other-three;
+        other-three = ap (λ (r : ℕ). sides L (r / 8)) back ∙ x .mine-three;
+      }
+
+  pub swapped-alike : swapped L (partner L s) ≡ swapped L s
+  unfolding swapped flipped
+  swapped-alike =
+      let t = partner L s in
+      ap (λ (r : ℕ). withRow (r / 8) (flipped L r t) (withRow (t / 8) (flipped L t r) L)) back
+      ∙ rows-either-way (s / 8) (t / 8) (flipped L s t) (flipped L t s) L refl refl (mine n L (g .fit) s x) (other n L (g .fit) s x)
+      (apart n L (g .fit) s x)
 
 -- the rows (a,d,b) of s and (b,c,a) of t: the other's triangle in each, turned
 unfoldable pub turnedBack : List ℕ → ℕ → List ℕ
