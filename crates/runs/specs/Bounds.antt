@@ -1,6 +1,6 @@
 -- A bound on every number that each call can answer, so that nothing is lost in the packed number.
 -- Assumes nothing.
-use mathlib.Core.Path.{_≡_, sym, subst}
+use mathlib.Core.Path.{_≡_, refl, sym, subst, _∙_}
 use mathlib.Core.Bool.{Bool, true, false}
 use mathlib.Core.Logic.{_⊎_, inl, inr}
 use mathlib.Core.Option.{Option, none, some}
@@ -14,11 +14,13 @@ use Rattle.lists.specs.TestLaws.{passes, Test, pass, fail, test, means-itself, 
 use Rattle.lists.specs.SearchLaws.{count-bound}
 use Rattle.rules.specs.Elements.{maxVertex, maxElement, elements, element, number, sides, isSide, Side, next, sideWith, firstSide, countSides}
 use Rattle.rules.specs.Elements.{firstNumber}
-use Rattle.rules.specs.Pairing.{callSizes, sizesFit, unfitCorner, repeatedCorner}
+use Rattle.rules.specs.Pairing.{Accepted, callSizes, sizesFit, unfitCorner, repeatedCorner}
 use Rattle.rules.specs.Tables.{borders, columns, edges}
 use Rattle.rules.specs.Refusals.{clashOf, clashing, Answer, gives, refused, Buffers, crowdedSide, alikeSide, unorderedVertex, checkFound}
 use Rattle.rules.specs.Refusals.{rowChecks, listAnswer, lengthChecks, roomCheck, buildAnswer, recovers, recoverAnswer}
 use Rattle.rules.specs.Siblings.{SiblingBuffers, siblingsAnswer}
+use Rattle.rules.specs.Edits.{Edited, becomes, refuses, Lent, held, isThere, onceAccepted, newAnswer, editSizes, editLengths, editAnswer}
+use Rattle.rules.specs.Swap.{swapped, isSwappable, swap, swapAnswer}
 use Rattle.rules.specs.Holes.{HoleBuffers, leastOf, holesUpTo, holeCount, holesFound, holesFit, holesAnswer}
 use Rattle.rules.specs.Queries.{Mesh, columnsAnswer, queryLengths, asked, defined, found, listed, andThen, prepend, readAll, read, bySide, byEntry, follow, over, isBorderCode, isHalfEdge, isEntry}
 use Rattle.rules.specs.Queries.{isVertex, readOpposite, readBorderSide, readVertexEntry, readOrigin, readDestination, opposite, borderNext, startSide}
@@ -32,7 +34,11 @@ use Rattle.theory.specs.FitRows.{means-sizes}
 use Rattle.theory.specs.Columns.{three-or-four}
 use Rattle.theory.specs.Built.{borders-bound}
 use Rattle.answer.specs.Packing.{Fits}
+use Rattle.swap.specs.Swaps.{gone, unfit, swaps, becomes-swapped}
 use Rattle.runs.specs.Runs.{walked-answers}
+use Rattle.runs.specs.Demand3.{list-counted}
+use Rattle.runs.specs.Edits.{held-sizes}
+use Rattle.runs.specs.Swaps.{new-sizes}
 
 -- what check 1 says of n and the list
 abbrev Sized : ℕ → List ℕ → Type 0
@@ -111,6 +117,42 @@ pub build-fits : (n : ℕ) (L : List ℕ) (w : Buffers) → Fits (buildAnswer n 
 unfolding buildAnswer
 build-fits n L w =
     lengths-fit (sizesFit n L) _ _ (λ s l. room-fits (length (w .border)) (listAnswer n L) (list-fits n L (means-sizes n L .says s)))
+
+-- an edit: what build says of the old list, a number of its own, or what build says of the new list
+once-fits : (old new : Answer) → Fits old → ((k e : ℕ) → old ≡ gives k e → Fits new) → Fits (onceAccepted old new)
+unfolding onceAccepted
+once-fits (gives k e) new f g = g k e refl
+once-fits (refused r a b) new f g = f
+
+new-fits : (room : ℕ) (x : Edited) → ((n : ℕ) (L : List ℕ) → x ≡ becomes n L → Sized n L) → ((r : ℕ) → x ≡ refuses r → (1 ≤ r) × (r < 256)) → Fits (newAnswer room x)
+unfolding newAnswer
+new-fits room (becomes n L) f g = room-fits room (listAnswer n L) (list-fits n L (f n L refl))
+new-fits room (refuses r) f g = omega (arith, g r refl)
+
+pub swap-fits : (w : Lent) (s : ℕ) → Fits (swapAnswer w s)
+unfolding swapAnswer editAnswer
+swap-fits w s =
+    lengths-fit (editSizes w) (editLengths w) _
+    (λ sizes lengths.
+    let fit = held-sizes w sizes lengths in
+    once-fits (listAnswer n L) _ (list-fits n L (means-sizes n L .says fit))
+    (λ k e g. new-fits (length (w .border)) (swap n L s) (becomes-sized (list-counted n L fit k e g .0)) (λ r h. refuses-small r h (test (isThere L s)) (test (isSwappable L s)))))
+  where
+    n : ℕ
+    n = w .n
+
+    L : List ℕ
+    L = held w
+
+    becomes-sized : Accepted n L → (n′ : ℕ) (L′ : List ℕ) → swap n L s ≡ becomes n′ L′ → Sized n′ L′
+    becomes-sized old n′ L′ e =
+        let (d, vertices, same) = becomes-swapped n L s e in
+        rw (vertices, same) at (means-sizes n (swapped L s) .says (new-sizes n L s old d))
+
+    refuses-small : (r : ℕ) → swap n L s ≡ refuses r → Test (isThere L s) → Test (isSwappable L s) → (1 ≤ r) × (r < 256)
+    refuses-small r e (fail t f) c = let g = sym (gone n L s f) ∙ e in let z : r ≡ 11 = cc in omega arith
+    refuses-small r e (pass t f) (fail u h) = let g = sym (unfit n L s f h) ∙ e in let z : r ≡ 15 = cc in omega arith
+    refuses-small r e (pass t f) (pass u h) = let g = sym (swaps n L s f h) ∙ e in let z : _≡_ {A = ℕ} 0 1 = cc in absurd (omega arith)
 
 pub siblings-fits : (n : ℕ) (L : List ℕ) (w : SiblingBuffers) → Fits (siblingsAnswer n L w)
 unfolding siblingsAnswer

@@ -72,6 +72,24 @@ not-by-room room (gives k j) {r} e d = elim (le-or-lt k room) [
   | inr h ↦ let f = sym (room-short room k j h) ∙ e in let z : r ≡ 9 = cc in absurd (d z)
 ]
 
+-- where checks 1 and 2 find nothing
+module _ (w : Lent) (sizes : T (editSizes w)) (lengths : T (editLengths w)) where
+  pub enough : (4 * w .m ≤ length (w .list)) × (w .n ≤ length (w .vertices)) × (columns (held w) * w .m ≤ length (w .opposites)) × (w .n + 16 * w .m ≤ length (w .work))
+  unfolding editLengths
+  enough =
+      let (l, (v, (e, r))) = means-holds (w .n) (w .m) (w .list) (length (w .vertices)) (length (w .opposites)) (length (w .work)) .says lengths in
+      (l, v, e, r)
+
+  -- the list that is held has m rows, and fit sizes
+  pub held-rows : (length (held w) ≡ 4 * w .m) × (elements (held w) ≡ w .m)
+  held-rows = let long = length-take-le (4 * w .m) (w .list) (enough .0) in (long, omega (arith, long))
+
+  pub held-sizes : T (sizesFit (w .n) (held w))
+  unfolding editSizes
+  held-sizes =
+      let (v, m) = means-both (means-le (w .n) maxVertex) (means-le (w .m) maxElement) .says sizes in
+      means-sizes (w .n) (held w) .shows (v, (omega (arith, m, held-rows), omega (arith, held-rows)))
+
 module _ (x : Edited) (w : Lent) (a : Answer) (w′ : Lent) (run : EditRun x w a w′) where
   abbrev L : List ℕ
   L = held w
@@ -126,28 +144,12 @@ module _ (x : Edited) (w : Lent) (a : Answer) (w′ : Lent) (run : EditRun x w a
     tried-by : {old : Answer} {y : Edited} → listAnswer (w .n) L ≡ old → x ≡ y → a ≡ onceAccepted old (newAnswer (length (w .border)) y)
     tried-by e f = tried ∙ (λ i. onceAccepted (e i) (newAnswer (length (w .border)) (f i)))
 
-    pub enough : (4 * w .m ≤ length (w .list)) × (w .n ≤ length (w .vertices)) × (columns L * w .m ≤ length (w .opposites)) × (w .n + 16 * w .m ≤ length (w .work))
-    unfolding editLengths
-    enough =
-        let (l, (v, (e, r))) = means-holds (w .n) (w .m) (w .list) (length (w .vertices)) (length (w .opposites)) (length (w .work)) .says lengths in
-        (l, v, e, r)
-
-    -- the list that is held has m rows, and fit sizes
-    pub held-rows : (length L ≡ 4 * w .m) × (elements L ≡ w .m)
-    held-rows = let long = length-take-le (4 * w .m) (w .list) (enough .0) in (long, omega (arith, long))
-
-    pub held-sizes : T (sizesFit (w .n) L)
-    unfolding editSizes
-    held-sizes =
-        let (v, m) = means-both (means-le (w .n) maxVertex) (means-le (w .m) maxElement) .says sizes in
-        means-sizes (w .n) L .shows (v, (omega (arith, m, held-rows), omega (arith, held-rows)))
-
     -- "The list as given must first be accepted by build": what a run of build says of it, but for 9
     pub old-refused : (u u′ : Buffers) (b : Answer) → BuildRun (w .n) L u b u′ → T (buildLengths (w .n) L u)
         → {r p q : ℕ} → b ≡ refused r p q → (r ≡ 9 → ⊥) → a ≡ refused r p q
     unfolding onceAccepted
     old-refused u u′ b built fit e d =
-        tried-by (not-by-room (length (u .border)) _ (sym (build-tried (w .n) L u b u′ built held-sizes fit) ∙ e) d) refl
+        tried-by (not-by-room (length (u .border)) _ (sym (build-tried (w .n) L u b u′ built (held-sizes w sizes lengths) fit) ∙ e) d) refl
 
     -- then the edit's own refusal, or what a run of build says of the new list, with 9 by its k
     module _ (old : Accepted (w .n) L) where

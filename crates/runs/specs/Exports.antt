@@ -6,6 +6,7 @@ use borrow.Fn.Kinds.{Dens, resT, endedOf}
 use denote.Triple.Clauses.{AtExit}
 use Rattle.rules.specs.Refusals.{buildAnswer, recoverAnswer}
 use Rattle.rules.specs.Siblings.{siblingsAnswer}
+use Rattle.rules.specs.Swap.{swapAnswer}
 use Rattle.rules.specs.Holes.{holesAnswer}
 use Rattle.rules.specs.Queries.{told as mesh-of}
 use Rattle.rules.specs.Queries.{Mesh, columnsAnswer, oppositeAnswer, nextAnswer, previousAnswer, elementAnswer, originAnswer, destinationAnswer, acrossAnswer}
@@ -19,6 +20,8 @@ use Rattle.borzhanu.proofs.borzhanu_recover.Kinds as recover-kinds
 use Rattle.borzhanu.proofs.borzhanu_recover.Reads as recover-reads
 use Rattle.borzhanu.proofs.borzhanu_siblings.Kinds as siblings-kinds
 use Rattle.borzhanu.proofs.borzhanu_siblings.Reads as siblings-reads
+use Rattle.borzhanu.proofs.borzhanu_swap.Kinds as swap-kinds
+use Rattle.borzhanu.proofs.borzhanu_swap.Reads as swap-reads
 use Rattle.borzhanu.proofs.borzhanu_opposite.Kinds as opposite-kinds
 use Rattle.borzhanu.proofs.borzhanu_opposite.Reads as opposite-reads
 use Rattle.borzhanu.proofs.borzhanu_next.Reads as next-reads
@@ -42,9 +45,10 @@ use Rattle.borzhanu.proofs.borzhanu_walker_step.Reads as step-reads
 use Rattle.sibling_map.specs.Mapping.{lentMaps}
 use Rattle.holes.specs.Marks.{lentHoles}
 use Rattle.borzhanu.specs.Walkers.{walkerIn}
+use Rattle.borzhanu.specs.Sizes.{lentSized}
 use Rattle.answer.specs.Packing.{told}
 use Rattle.runs.specs.Contracts.{buffers, of}
-use Rattle.runs.specs.Bounds.{build-fits, columns-fits, recover-fits, siblings-fits, opposite-fits, next-fits, previous-fits, element-fits, origin-fits, destination-fits}
+use Rattle.runs.specs.Bounds.{build-fits, columns-fits, recover-fits, siblings-fits, swap-fits, opposite-fits, next-fits, previous-fits, element-fits, origin-fits, destination-fits}
 use Rattle.runs.specs.Bounds.{across-fits, half-edge-border-fits, vertex-border-fits, ring-fits, neighbours-fits}
 use Rattle.runs.specs.Bounds.{border-loop-fits, holes-fits, start-fits, step-fits}
 
@@ -61,6 +65,14 @@ module _ (κs : Lfts 4) (a : Dens κs siblings-kinds.ps) (r : resT siblings-kind
   pub siblings-told : siblings-reads.Post κs a r s
       → unpacked r ≡ siblingsAnswer (a .0) (a .1 .0 .now) (lentMaps (a .1 .1 .0 .now) (a .1 .1 .1 .0 .now) (a .1 .1 .1 .1 .0 .now))
   siblings-told p = told _ (siblings-fits _ _ _) r (p .0)
+
+-- borzhanu_swap(size, elements, v2e, e2e, b2e, work, code)
+module _ (κs : Lfts 6) (a : Dens κs swap-kinds.ps) (r : resT swap-kinds.r κs .Denot) (s : AtExit (endedOf 6 swap-kinds.ps swap-kinds.r) κs) where
+  pub swap-told : swap-reads.Post κs a r s
+      → unpacked r
+      ≡ swapAnswer (lentSized (a .0 .now) (a .1 .0 .now) (a .1 .1 .0 .now) (a .1 .1 .1 .0 .now) (a .1 .1 .1 .1 .0 .now) (a .1 .1 .1 .1 .1 .0 .now))
+      (a .1 .1 .1 .1 .1 .1 .0)
+  swap-told p = told _ (swap-fits _ _) r (p .0)
 
 module _ (κs : Lfts 1) (a : Dens κs columns-kinds.ps) (r : resT columns-kinds.r κs .Denot) (s : AtExit (endedOf 1 columns-kinds.ps columns-kinds.r) κs) where
   pub columns-told : columns-reads.Post κs a r s → unpacked r ≡ columnsAnswer (a .0) (a .1 .0 .now)

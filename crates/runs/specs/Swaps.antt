@@ -110,7 +110,7 @@ module _ (w : Lent) (s : ℕ) (a : Answer) (w′ : Lent) (run : SwapRun w s a w�
     (λ gave.
         let y = edits.answered x w a w′ run gave in
         let (d, vertices, same) = becomes-swapped n L s (y .edited) in
-        let (old, counts) = list-counted n L (edits.held-sizes x w a w′ run (y .sizes) (y .lengths)) _ _ (y .old) in
+        let (old, counts) = list-counted n L (edits.held-sizes w (y .sizes) (y .lengths)) _ _ (y .old) in
         let (new, (b, i)) = list-counted n L′ (new-sizes n L s old d) k e (rw (← vertices, ← same) at (y .new)) in
         record { sizes = y .sizes; lengths = y .lengths; old = old; diagonal = d; new = new; borders-are = b; edges-are = i; room = y .room }),
     (λ y.
@@ -141,7 +141,7 @@ module _ (w : Lent) (s : ℕ) (a : Answer) (w′ : Lent) (run : SwapRun w s a w�
     -- n, m, k and the number of edges stay
     pub sizes-stay : (w′ .n ≡ n) × (w′ .m ≡ w .m)
     sizes-stay =
-        let (long, rows) = edits.held-rows x w a w′ run (y .sizes) (y .lengths) in
+        let (long, rows) = edits.held-rows w (y .sizes) (y .lengths) in
         (
           edits.same-n x w a w′ run gave edited (y .new) (y .borders-are),
           edits.same-m x w a w′ run gave edited (y .new) (y .borders-are) ∙ same-size (replaced n L s (y .old) (y .diagonal)) ∙ rows,
@@ -157,8 +157,8 @@ module _ (w : Lent) (s : ℕ) (a : Answer) (w′ : Lent) (run : SwapRun w s a w�
     pub fit-still : T (editSizes w′) × T (editLengths w′) × (length (w′ .border) ≡ length (w .border))
     fit-still =
         let r = replaced n L s (y .old) (y .diagonal) in
-        let (long, rows) = edits.held-rows x w a w′ run (y .sizes) (y .lengths) in
-        let (list, vertices, opposites, work) = edits.enough x w a w′ run (y .sizes) (y .lengths) in
+        let (long, rows) = edits.held-rows w (y .sizes) (y .lengths) in
+        let (list, vertices, opposites, work) = edits.enough w (y .sizes) (y .lengths) in
         let wide : columns L′ * elements L′ ≡ columns L * w .m = λ i. same-columns r i * (same-size r ∙ rows) i in
         edits.fit-still x w a w′ run gave edited (y .new) (y .borders-are)
         (omega (arith, r .long)) vertices (omega (arith, wide)) (y .room) (omega (arith, same-size r))
