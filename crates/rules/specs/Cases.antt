@@ -385,8 +385,10 @@ cases =
     swapRefused 4 2 listing 4 6 0 36 9 (refused 15 0 0) (blank 36) ∷
     swapRefused 5 2 mixed 5 8 5 37 11 (refused 15 0 0) (blank 37) ∷
     swapRefused 5 2 mixed 5 8 5 37 17 (refused 15 0 0) (blank 37) ∷
-    -- "the old list, 9 apart, is tried first"; the new list: c and d joined already, the new diagonal a quadrilateral's; 9 by the new k
+    -- "the old list, 9 apart, is tried first", also where the new one would be accepted; the new list: c and d joined already, the new diagonal a
+    -- quadrilateral's; 9 by the new k
     swapRefused 4 2 (tri 1 2 3 ++ tri 1 2 4) 4 6 0 36 0 (refused 7 1 1) (blank 36) ∷
+    swapRefused 5 3 (tri 3 1 4 ++ tri 4 2 3 ++ quad 3 2 4 5) 5 12 5 53 11 (refused 18 1 3) (blank 53) ∷
     swapRefused 4 4 tetrahedron 4 12 0 68 9 (refused 6 1 3) (blank 68) ∷
     swapRefused 5 3 fan 5 12 0 53 9 (refused 18 1 3) (blank 53) ∷
     swapRefused 4 2 listing 4 6 3 36 11 (refused 9 4 0) (blank 36) ∷
@@ -396,6 +398,7 @@ cases =
     swapRefused 4 2 listing 4 5 4 36 11 (refused 2 0 0) (replicate 36 1) ∷
     swapRefused 4 2 listing 4 6 4 35 11 (refused 2 0 0) (replicate 35 1) ∷
     swapRefused 4 2 (listing ++ quad 1 2 3 4) 4 6 3 36 11 (refused 9 4 0) (blank 36) ∷
+    swapRefused 1_000_000 1_000_000 [] 4 6 4 36 11 (refused 2 0 0) (replicate 36 1) ∷
     swapRefused 1_000_001 2 [] 4 6 4 36 11 (refused 1 0 0) (replicate 36 1) ∷
     swapRefused 4 1_000_001 [] 4 6 4 36 11 (refused 1 0 0) (replicate 36 1) ∷
     []
