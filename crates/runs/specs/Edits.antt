@@ -252,6 +252,6 @@ module _ (x : Edited) (w : Lent) (a : Answer) (w′ : Lent) (run : EditRun x w a
         let columned : columns (held w′) * w′ .m ≡ columns L′ * elements L′ = λ i. columns (same i) * same-m i in (
           means-both (means-le (w′ .n) maxVertex) (means-le (w′ .m) maxElement) .shows (omega (arith, fit .vertices, same-n), omega (arith, fit .size, same-m)),
           means-holds (w′ .n) (w′ .m) (w′ .list) (length (w′ .vertices)) (length (w′ .opposites)) (length (w′ .work)) .shows
-          (omega (arith, list-long, fit .fours, same-m), (omega (arith, vertices-long, same-n), (omega (arith, opposites-long, columned), omega (arith, work-long, same-n, same-m)))),
+              (omega (arith, list-long, fit .fours, same-m), (omega (arith, vertices-long, same-n), (omega (arith, opposites-long, columned), omega (arith, work-long, same-n, same-m)))),
           border-long,
         )

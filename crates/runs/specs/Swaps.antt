@@ -141,8 +141,7 @@ module _ (w : Lent) (s : ℕ) (a : Answer) (w′ : Lent) (run : SwapRun w s a w�
     -- n, m, k and the number of edges stay
     pub sizes-stay : (w′ .n ≡ n) × (w′ .m ≡ w .m)
     sizes-stay =
-        let (long, rows) = edits.held-rows w (y .sizes) (y .lengths) in
-        (
+        let (long, rows) = edits.held-rows w (y .sizes) (y .lengths) in (
           edits.same-n x w a w′ run gave edited (y .new) (y .borders-are),
           edits.same-m x w a w′ run gave edited (y .new) (y .borders-are) ∙ same-size (replaced n L s (y .old) (y .diagonal)) ∙ rows,
         )
