@@ -62,6 +62,14 @@ past-check x k e r p q rest g = go (zero-or x)
     go (inl z) = (z, sym (check-clear x (refused r p q) rest z) ∙ g)
     go (inr d) = let h = check-refuses x (refused r p q) rest d in let z : _≡_ {A = ℕ} 0 1 = cc in absurd (omega arith)
 
+-- a refusal is this check's, or comes after it
+pub refused-here : (x i j k r p q : ℕ) (rest : Answer) → checkFound x (refused i j k) rest ≡ refused r p q
+    → (r ≡ i) ⊎ ((x ≡ 0) × (rest ≡ refused r p q))
+refused-here x i j k r p q rest g = elim (zero-or x) [
+  | inl z ↦ inr (z, sym (check-clear x (refused i j k) rest z) ∙ g)
+  | inr d ↦ let h = check-refuses x (refused i j k) rest d in let e : r ≡ i = cc in inl e
+]
+
 -- checks 3 and 4: what they say by themselves they say before any later check
 module _ (n : ℕ) (L : List ℕ) where
   pub rows-clear : (rest : Answer) → unfitCorner n L ≡ 0 → repeatedCorner L ≡ 0 → rowChecks n L rest ≡ rest

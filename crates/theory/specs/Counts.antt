@@ -27,38 +27,54 @@ use Rattle.theory.specs.Replacing.{Replaced, same-size, same-side, side-
 use Rattle.theory.specs.Orders.{Good, lone}
 
 -- two triangles with a common side: s from a to b with the third corner c, t from b to a with the third corner d
-record Diamond (L : List ℕ) (s t a b c d : ℕ) : Type 0 where
-  one : TriangleSide L s a b c
-  other : TriangleSide L t b a d
-  apart : s / 8 ≡ t / 8 → ⊥
+pub record Diamond (L : List ℕ) (s t a b c d : ℕ) : Type 0 where
+  pub one : TriangleSide L s a b c
+  pub other : TriangleSide L t b a d
+  pub apart : s / 8 ≡ t / 8 → ⊥
 
--- what runs in L′ as side r does in L, and is neither s nor t
-record Counterpart (L : List ℕ) (r : ℕ) (L′ : List ℕ) (s t : ℕ) : Type 0 where
-  code : ℕ
-  runs : Runs L′ code (origin L r) (destination L r)
-  not-one : code ≡ s → ⊥
-  not-other : code ≡ t → ⊥
+-- what runs in L′ as side r does in L, and is neither s nor t; where the elements of s and t count as one, it is in the element of r
+pub record Counterpart (L : List ℕ) (r : ℕ) (L′ : List ℕ) (s t : ℕ) : Type 0 where
+  pub code : ℕ
+  pub runs : Runs L′ code (origin L r) (destination L r)
+  pub not-one : code ≡ s → ⊥
+  pub not-other : code ≡ t → ⊥
+  pub home : (h : ℕ → ℕ) → h (s / 8) ≡ h (t / 8) → h (r / 8) ≡ h (code / 8)
 
 -- the sides of all elements but those of s and t have counterparts other than s′ and t′
 abbrev Elsewhere : List ℕ → ℕ → ℕ → List ℕ → ℕ → ℕ → Type 0
 Elsewhere L s t L′ s′ t′ = (r : ℕ) → Side L r → (r / 8 ≡ s / 8 → ⊥) → (r / 8 ≡ t / 8 → ⊥) → Counterpart L r L′ s′ t′
 
+-- the elements of s and t are those of s′ and t′
+abbrev Kept : ℕ → ℕ → ℕ → ℕ → Type 0
+Kept s t s′ t′ = (h : ℕ → ℕ) → h (s′ / 8) ≡ h (t′ / 8) → (h (s / 8) ≡ h (s′ / 8)) × (h (t / 8) ≡ h (t′ / 8))
+
 -- two lists that differ by the diagonal of two triangles: in L it joins a and b, in L′ d and c
-record Swapped (L : List ℕ) (s t : ℕ) (L′ : List ℕ) (s′ t′ a b c d : ℕ) : Type 0 where
-  old : Diamond L s t a b c d
-  new : Diamond L′ s′ t′ d c a b
+pub record Swapped (L : List ℕ) (s t : ℕ) (L′ : List ℕ) (s′ t′ a b c d : ℕ) : Type 0 where
+  pub old : Diamond L s t a b c d
+  pub new : Diamond L′ s′ t′ d c a b
+  pub kept : Kept s t s′ t′
+  kept-back : Kept s′ t′ t s
   there : Elsewhere L s t L′ s′ t′
   back : Elsewhere L′ s′ t′ L t s
 
 -- the two sides of a diagonal exchanged, and the two lists
-exchanged : {L : List ℕ} {s t a b c d : ℕ} → Diamond L s t a b c d → Diamond L t s b a d c
+pub exchanged : {L : List ℕ} {s t a b c d : ℕ} → Diamond L s t a b c d → Diamond L t s b a d c
 exchanged x = record { one = x .other; other = x .one; apart = λ e. x .apart (sym e) }
 
 abbrev other-way : {L L′ : List ℕ} {r s t : ℕ} → Counterpart L r L′ s t → Counterpart L r L′ t s
-other-way c = record { code = c .code; runs = c .runs; not-one = c .not-other; not-other = c .not-one }
+other-way c =
+    record { code = c .code; runs = c .runs; not-one = c .not-other; not-other = c .not-one; home = λ h e. c .home h (sym e) }
 
-swapped-back : {L L′ : List ℕ} {s t s′ t′ a b c d : ℕ} → Swapped L s t L′ s′ t′ a b c d → Swapped L′ s′ t′ L t s d c a b
-swapped-back x = record { old = x .new; new = exchanged (x .old); there = x .back; back = λ r w e f. other-way (x .there r w f e) }
+pub swapped-back : {L L′ : List ℕ} {s t s′ t′ a b c d : ℕ} → Swapped L s t L′ s′ t′ a b c d → Swapped L′ s′ t′ L t s d c a b
+swapped-back x =
+    record {
+      old = x .new;
+      new = exchanged (x .old);
+      kept = x .kept-back;
+      kept-back = λ h e. let (p, q) = x .kept h (sym e) in (q, p);
+      there = x .back;
+      back = λ r w e f. other-way (x .there r w f e);
+    }
 
 -- a side is a border where none is opposed to it
 means-unopposed : (L : List ℕ) (r : ℕ) → Means (isBorder L r) ((u : ℕ) → Side L u → T (opposed L r u) → ⊥)
@@ -66,29 +82,34 @@ unfolding isBorder partner
 means-unopposed L r = means-none L (opposed L r)
 
 module _ {L : List ℕ} {s t a b c d : ℕ} (x : Diamond L s t a b c d) where
-  across : T (opposed L s t)
+  pub across : T (opposed L s t)
   across =
       let y = x .one .runs in
       let z = x .other .runs in
       means-opposed L s t .shows (y .from ∙ sym (z .to), y .to ∙ sym (z .from))
 
-  -- nothing but t is opposed to s: s would be paired with both
-  no-third : Pairing L (partner L) → {L₀ : List ℕ} {r : ℕ} → (u : Counterpart L₀ r L s t) → T (opposed L (u .code) s) → ⊥
-  no-third p u o =
-      let differ : s ≡ t → ⊥ = λ e. x .apart (ap (λ (v : ℕ). v / 8) e) in
-      let first = paired (u .code) (u .runs .side) (λ e. u .not-one (sym e)) (opposed-sym L (u .code) s o) in
-      u .not-other (sym first ∙ paired t (x .other .runs .side) differ across)
-    where
-      paired : (r : ℕ) → Side L r → (s ≡ r → ⊥) → T (opposed L s r) → partner L s ≡ r
-      paired r w d y = p .paired s r (x .one .runs .side) w d (means-joins L s r .shows (inr y))
+  module _ (p : Pairing L (partner L)) where
+    opposed-paired : (r : ℕ) → Side L r → (s ≡ r → ⊥) → T (opposed L s r) → partner L s ≡ r
+    opposed-paired r w d y = p .paired s r (x .one .runs .side) w d (means-joins L s r .shows (inr y))
+
+    -- s is paired with t
+    pub paired-across : partner L s ≡ t
+    paired-across = opposed-paired t (x .other .runs .side) (λ e. x .apart (ap (λ (v : ℕ). v / 8) e)) across
+
+    -- nothing but t is opposed to s: s would be paired with both
+    no-third : {L₀ : List ℕ} {r : ℕ} → (u : Counterpart L₀ r L s t) → T (opposed L (u .code) s) → ⊥
+    no-third u o =
+        let first = opposed-paired (u .code) (u .runs .side) (λ e. u .not-one (sym e)) (opposed-sym L (u .code) s o) in
+        u .not-other (sym first ∙ paired-across)
 
 same-run : {L L′ : List ℕ} {r u a b : ℕ} → Runs L r a b → Runs L′ u a b → Runs L′ u (origin L r) (destination L r)
 same-run x y = record { side = y .side; from = y .from ∙ sym (x .from); to = y .to ∙ sym (x .to) }
 
 -- of the triangle of s the side from b to c now comes before t′, and the side from c to a after s′
-near : {L L′ : List ℕ} {s s′ t′ a b c d : ℕ} → TriangleSide L s a b c → Diamond L′ s′ t′ d c a b → (r : ℕ) → Side L r → r / 8 ≡ s / 8 → (r ≡ s → ⊥)
+near : {L L′ : List ℕ} {s s′ t′ a b c d : ℕ} → TriangleSide L s a b c → Diamond L′ s′ t′ d c a b
+    → ((h : ℕ → ℕ) → h (s′ / 8) ≡ h (t′ / 8) → h (s / 8) ≡ h (s′ / 8)) → (r : ℕ) → Side L r → r / 8 ≡ s / 8 → (r ≡ s → ⊥)
     → Counterpart L r L′ s′ t′
-near {L} {L′} {s} {s′} {t′} x y r w e f = go (around L s (x .runs .side) (x .triangle) r w e)
+near {L} {L′} {s} {s′} {t′} x y mine r w e f = go (around L s (x .runs .side) (x .triangle) r w e)
   where
     one : Side L′ s′
     one = y .one .runs .side
@@ -104,6 +125,7 @@ near {L} {L′} {s} {s′} {t′} x y r w e f = go (around L s (x .runs .side) (
           runs = rw k (same-run (next-runs x) (previous-runs (y .other)));
           not-one = λ z. y .apart (ap (λ (u : ℕ). u / 8) (sym z) ∙ previous-numbered L′ t′ other .same);
           not-other = λ z. next-differs L′ t′ other (ap (next L′) (sym z) ∙ next-previous L′ t′ other);
+          home = λ h i. ap h e ∙ mine h i ∙ i ∙ sym (ap h (previous-numbered L′ t′ other .same));
         }
     go (before k) =
         record {
@@ -111,33 +133,33 @@ near {L} {L′} {s} {s′} {t′} x y r w e f = go (around L s (x .runs .side) (
           runs = rw k (same-run (previous-runs x) (next-runs (y .one)));
           not-one = next-differs L′ s′ one;
           not-other = λ z. y .apart (sym (next-numbered L′ s′ one .same) ∙ ap (λ (u : ℕ). u / 8) z);
+          home = λ h i. ap h e ∙ mine h i ∙ sym (ap h (next-numbered L′ s′ one .same));
         }
 
 -- every side but the diagonal has a counterpart that isn't of the other diagonal
-counterpart : {L L′ : List ℕ} {s t s′ t′ a b c d : ℕ} → Swapped L s t L′ s′ t′ a b c d → (r : ℕ) → Side L r → (r ≡ s → ⊥) → (r ≡ t → ⊥)
+pub counterpart : {L L′ : List ℕ} {s t s′ t′ a b c d : ℕ} → Swapped L s t L′ s′ t′ a b c d → (r : ℕ) → Side L r → (r ≡ s → ⊥) → (r ≡ t → ⊥)
     → Counterpart L r L′ s′ t′
 counterpart {L} {L′} {s} {t} {s′} {t′} x r w e f = go (decide (means-eq (r / 8) (s / 8))) (decide (means-eq (r / 8) (t / 8)))
   where
     go : (r / 8 ≡ s / 8) ⊎ (r / 8 ≡ s / 8 → ⊥) → (r / 8 ≡ t / 8) ⊎ (r / 8 ≡ t / 8 → ⊥) → Counterpart L r L′ s′ t′
-    go (inl i) j = near (x .old .one) (x .new) r w i e
-    go (inr i) (inl j) = other-way (near (x .old .other) (exchanged (x .new)) r w j f)
+    go (inl i) j = near (x .old .one) (x .new) (λ h k. x .kept h k .0) r w i e
+    go (inr i) (inl j) = other-way (near (x .old .other) (exchanged (x .new)) (λ h k. x .kept h (sym k) .1) r w j f)
     go (inr i) (inr j) = x .there r w i j
 
-module _ (n : ℕ) {L L′ : List ℕ} {s t s′ t′ a b c d : ℕ} (good : Good n L) (good′ : Good n L′) (x : Swapped L s t L′ s′ t′ a b c d) where
+module _ {L L′ : List ℕ} {s t s′ t′ a b c d : ℕ} (x : Swapped L s t L′ s′ t′ a b c d) where
   -- no border side is of the diagonal
-  border-counterpart : (r : ℕ) → Side L r → T (isBorder L r) → Counterpart L r L′ s′ t′
+  pub border-counterpart : (r : ℕ) → Side L r → T (isBorder L r) → Counterpart L r L′ s′ t′
   border-counterpart r w z = counterpart x r w (alone (x .old)) (alone (exchanged (x .old)))
     where
       alone : {s t a b c d : ℕ} → Diamond L s t a b c d → r ≡ s → ⊥
       alone {s} {t} y e = means-unopposed L r .says z t (y .other .runs .side) (rw e (across y))
 
   -- what is opposed to its counterpart would have a counterpart opposed to it
-  still-border : (r : ℕ) → T (isBorder L r) → (u : Counterpart L r L′ s′ t′) → T (isBorder L′ (u .code))
-  still-border r z u = means-unopposed L′ (u .code) .shows go
+  pub still-border : Pairing L′ (partner L′) → (r : ℕ) → T (isBorder L r) → (u : Counterpart L r L′ s′ t′) → T (isBorder L′ (u .code))
+  still-border p r z u = means-unopposed L′ (u .code) .shows go
     where
       go : (w : ℕ) → Side L′ w → T (opposed L′ (u .code) w) → ⊥
       go w y o =
-          let p = good′ .pairing in
           let not-one : w ≡ s′ → ⊥ = λ e. no-third (x .new) p u (rw e at o) in
           let not-other : w ≡ t′ → ⊥ = λ e. no-third (exchanged (x .new)) p (other-way u) (rw e at o) in
           let v = counterpart (swapped-back x) w y not-one not-other in
@@ -145,6 +167,7 @@ module _ (n : ℕ) {L L′ : List ℕ} {s t s′ t′ a b c d : ℕ} (good : Goo
           means-unopposed L r .says z (v .code) (v .runs .side)
           (means-opposed L r (v .code) .shows (sym (u .runs .from) ∙ from ∙ sym (v .runs .to), sym (u .runs .to) ∙ to ∙ sym (v .runs .from)))
 
+module _ (n : ℕ) {L L′ : List ℕ} {s t s′ t′ a b c d : ℕ} (good : Good n L) (good′ : Good n L′) (x : Swapped L s t L′ s′ t′ a b c d) where
   -- the side at i and its counterpart at j
   abbrev Own : ℕ → ℕ → Type 0
   Own i j = Side L (sideAt i) × Runs L′ (sideAt j) (origin L (sideAt i)) (destination L (sideAt i))
@@ -161,9 +184,9 @@ module _ (n : ℕ) {L L′ : List ℕ} {s t s′ t′ a b c d : ℕ} (good : Goo
       own : (i : ℕ) → i < length L → T (sideWith L (isBorder L) i) → (j : ℕ) × (j < length L′) × T (sideWith L′ (isBorder L′) j) × Own i j
       own i h y =
           let (w, z) = passes (isSide L (sideAt i)) (isBorder L (sideAt i)) y in
-          let u = border-counterpart (sideAt i) w z in
+          let u = border-counterpart x (sideAt i) w z in
           let v = u .runs .side in
-          let still = means-border L′ (u .code) .says (still-border (sideAt i) z u) in
+          let still = means-border L′ (u .code) .says (still-border x (good′ .pairing) (sideAt i) z u) in
           (slot (u .code), slot-below L′ (u .code) v, border-with L′ (u .code) v still, (w, (rw (sideAt-slot L′ (u .code) v) (u .runs))))
 
 -- L′ is L with the diagonal s, t swapped, document 02, point 1: "With side a to b, its third corner c, and the partner's third corner d, the
@@ -217,6 +240,7 @@ module _ {L L′ : List ℕ} {s t : ℕ} (x : Crossed L L′ s t) where
         runs = record { side = side-still y r a; from = same-origin y r a d e; to = same-destination y r a d e };
         not-one = λ z. d (omega arith);
         not-other = λ z. e (omega arith);
+        home = λ h i. refl;
       }
 
   stayed : Elsewhere L′ s′ t′ L t s
@@ -230,12 +254,24 @@ module _ {L L′ : List ℕ} {s t : ℕ} (x : Crossed L L′ s t) where
         runs = record { side = b; from = sym (same-origin y r b f g); to = sym (same-destination y r b f g) };
         not-one = λ z. g (ap (λ (u : ℕ). u / 8) z);
         not-other = λ z. f (ap (λ (u : ℕ). u / 8) z);
+        home = λ h i. refl;
+      }
+
+  pub crossed-swapped : Swapped L s t L′ s′ t′ (origin L s) (origin L t) (origin L (previous L s)) (origin L (previous L t))
+  crossed-swapped =
+      let (e, f) : (s / 8 ≡ s′ / 8) × (t / 8 ≡ t′ / 8) = omega arith in
+      record {
+        old = before-swap;
+        new = after-swap;
+        kept = λ h i. (ap h e, ap h f);
+        kept-back = λ h i. (sym (ap h e) ∙ sym i, sym (ap h f) ∙ i);
+        there = stay;
+        back = stayed;
       }
 
   pub same-borders : (n : ℕ) → Good n L → Good n L′ → borders L′ ≡ borders L
   same-borders n g h =
-      let y : Swapped L s t L′ s′ t′ _ _ _ _ = record { old = before-swap; new = after-swap; there = stay; back = stayed } in
-      omega (arith, no-fewer n g h y, no-fewer n h g (swapped-back y))
+      let y = crossed-swapped in omega (arith, no-fewer n g h y, no-fewer n h g (swapped-back y))
 
   -- there are as many sides as there were
   same-count : countSides L′ (λ s. true) ≡ countSides L (λ s. true)

@@ -28,7 +28,7 @@ Covered L W v = (s : ℕ) → SideAt L v s → at W (slot s) ≡ v
 
 module _ (L : List ℕ) (p : Pairing L (partner L)) (v c : ℕ) (o : List ℕ) (fan : Fan L v c o) where
   -- the turn of a side that was met was met
-  met-turn : (s t : ℕ) → Met o s → Turn L (partner L) s t → Met o t
+  pub met-turn : (s t : ℕ) → Met o s → Turn L (partner L) s t → Met o t
   met-turn s t (i, h, e) (z, g) = go (lt-or-eq (suc i) (length o) (omega arith))
     where
       go : (suc i < length o) ⊎ (suc i ≡ length o) → Met o t
@@ -79,6 +79,16 @@ module _ (L : List ℕ) (p : Pairing L (partner L)) (v c : ℕ) (o : List ℕ) (
           closed (inr (z, g)) =
               let (r, d, w, k, e) = begins L p v q x length-q g in absurd (f r d w k)
 
+  -- the turn of the last is the first: any other is the turn of another
+  pub last-turn : (i : ℕ) → i < length o → Turn L (partner L) (at o (length o - 1)) (at o i) → Turn L (partner L) (at o (length o - 1)) (at o 0)
+  last-turn zero h t = t
+  last-turn (suc i) h t =
+      let last = at o (length o - 1) in
+      let a = fan .sides i (omega arith) .0 in
+      let b = fan .sides (length o - 1) (omega arith) .0 in
+      let e = fan .once i (length o - 1) (omega arith) (omega arith) (turn-inj L p (at o i) last (at o (suc i)) a b (fan .turns i h) t) in
+      absurd (omega arith)
+
   -- a fan of all sides at the vertex is a turn order
   pub fan-order : ((s : ℕ) → SideAt L v s → Met o s) → TurnOrder L (partner L) v o
   fan-order all =
@@ -100,18 +110,9 @@ module _ (L : List ℕ) (p : Pairing L (partner L)) (v c : ℕ) (o : List ℕ) (
           go i h g (inr k) =
               let q : i ≡ length o - 1 = omega arith in t .0 (ap (partner L) (sym g ∙ ap (at o) q) ∙ z)
 
-      -- the turn of the last is the first: any other is the turn of another
-      back : (i : ℕ) → i < length o → Turn L (partner L) last (at o i) → Turn L (partner L) last (at o 0)
-      back zero h t = t
-      back (suc i) h t =
-          let a = fan .sides i (omega arith) .0 in
-          let b = fan .sides (length o - 1) (omega arith) .0 in
-          let e = fan .once i (length o - 1) (omega arith) (omega arith) (turn-inj L p (at o i) last (at o (suc i)) a b (fan .turns i h) t) in
-          absurd (omega arith)
-
       ends : 0 < length o → (partner L last ≡ 0) ⊎ ((i : ℕ) × (i < length o) × Turn L (partner L) last (at o i)) → Ends L o
       ends some (inl z) = inr (z, nobodys some z)
-      ends some (inr (i, h, t)) = inl (back i h t)
+      ends some (inr (i, h, t)) = inl (last-turn i h t)
 
 module _ (n : ℕ) (L : List ℕ) (p : Pairing L (partner L)) (v : ℕ) (from : 1 ≤ v) (to : v ≤ n) where
   -- a turn order exactly where the walk writes every side

@@ -22,9 +22,11 @@ pub mod SwapBack
 pub mod Tracing
 pub mod Walking
 pub mod Covering
+pub mod Spreading
 pub mod Deciding
 pub mod Described
 pub mod Answers
+pub mod SwapRefusals
 pub mod Calls
 pub mod Edits
 pub mod Recovering

@@ -227,7 +227,7 @@ module _ (L : List ℕ) (f g : ℕ) where
   unfolding meetWell
   means-meet = means-either (means-le (sharedCorners L f g) 1) (means-both (means-eq (sharedCorners L f g) 2) (means-itself (shareSide L f g)))
 
-  not-three : 3 ≤ sharedCorners L f g → T (meetWell L f g) → ⊥
+  pub not-three : 3 ≤ sharedCorners L f g → T (meetWell L f g) → ⊥
   not-three h m = elim (means-meet .says m) [ inl k ↦ omega arith | inr (k, s) ↦ omega arith ]
 
   -- their places in f
@@ -251,7 +251,7 @@ module _ (L : List ℕ) (f g : ℕ) where
       let z : count (sharedAt L f g) i ≡ count (sharedAt L f g) j → ⊥ = λ r. let t = count-inj (sharedAt L f g) i j p q r in d (cc) in
       omega (arith, count-lt (sharedAt L f g) i (sides L f) a p, count-lt (sharedAt L f g) j (sides L f) b q)
 
-  three-shared : {u v w : ℕ} → (u ≡ v → ⊥) → (u ≡ w → ⊥) → (v ≡ w → ⊥) → Shared L f g u → Shared L f g v → Shared L f g w
+  pub three-shared : {u v w : ℕ} → (u ≡ v → ⊥) → (u ≡ w → ⊥) → (v ≡ w → ⊥) → Shared L f g u → Shared L f g v → Shared L f g w
       → 3 ≤ sharedCorners L f g
   unfolding sharedCorners
   three-shared d d′ d″ x y z =

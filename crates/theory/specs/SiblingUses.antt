@@ -13,9 +13,10 @@ use Rattle.lists.specs.SearchLaws.{le-not-lt}
 use Rattle.rules.specs.Elements.{Side, origin, firstSide, countSides}
 use Rattle.rules.specs.Pairing.{alike, opposed, joins, Pairing}
 use Rattle.rules.specs.Tables.{partner}
+use Rattle.rules.specs.Refusals.{crowdedSide}
 use Rattle.rules.specs.Siblings.{sibling}
 use Rattle.theory.specs.Sides.{side-positive}
-use Rattle.theory.specs.Least.{first-found, means-some}
+use Rattle.theory.specs.Least.{first-found, means-none, means-some}
 use Rattle.theory.specs.FitRows.{Fit, ends-differ}
 use Rattle.theory.specs.Pairings.{means-alike, means-opposed, means-joins, partner-opposed}
 use Rattle.theory.specs.Rounds.{joining, Rounds, rounds}
@@ -146,6 +147,18 @@ module _ (L : List ℕ) (s : ℕ) (a : Side L s) where
           let (b, o) = partner-opposed L s d in
           let z = sibling-lone .0 e (partner L s) b (means-joins L s (partner L s) .shows (inr o)) in
           absurd (not-opposed n f (subst (λ (t : ℕ). T (opposed L s t)) z o))
+
+-- where no three sides join the same two vertices, only one other joins those of s
+pub two-join : (L : List ℕ) → crowdedSide L ≡ 0 → (s t q : ℕ) → Side L s → Side L t → Side L q → T (joins L s t) → T (joins L s q)
+    → (t ≡ s → ⊥) → (q ≡ s → ⊥) → t ≡ q
+unfolding crowdedSide
+two-join L c s t q a b d x y i j = sibling-other L s a two t b x i ∙ sym (sibling-other L s a two q d y j)
+  where
+    two : sibling L (sibling L s) ≡ s
+    two = elim (decide (means-eq (sibling L (sibling L s)) s)) [
+      | inl e ↦ e
+      | inr e ↦ absurd (means-none L (λ r. leb 3 (countSides L (joins L r))) .says (means-eq _ 0 .shows c) s a (means-crowded L s a .shows e))
+    ]
 
 -- where sides are paired, the sibling of a paired side is its partner, and a border side is its own
 module _ (L : List ℕ) (p : Pairing L (partner L)) (s : ℕ) (a : Side L s) where
