@@ -148,14 +148,14 @@ counterpart {L} {L′} {s} {t} {s′} {t′} x r w e f = go (decide (means-eq (r
 
 module _ {L L′ : List ℕ} {s t s′ t′ a b c d : ℕ} (x : Swapped L s t L′ s′ t′ a b c d) where
   -- no border side is of the diagonal
-  pub border-counterpart : (r : ℕ) → Side L r → T (isBorder L r) → Counterpart L r L′ s′ t′
+  border-counterpart : (r : ℕ) → Side L r → T (isBorder L r) → Counterpart L r L′ s′ t′
   border-counterpart r w z = counterpart x r w (alone (x .old)) (alone (exchanged (x .old)))
     where
       alone : {s t a b c d : ℕ} → Diamond L s t a b c d → r ≡ s → ⊥
       alone {s} {t} y e = means-unopposed L r .says z t (y .other .runs .side) (rw e (across y))
 
   -- what is opposed to its counterpart would have a counterpart opposed to it
-  pub still-border : Pairing L′ (partner L′) → (r : ℕ) → T (isBorder L r) → (u : Counterpart L r L′ s′ t′) → T (isBorder L′ (u .code))
+  still-border : Pairing L′ (partner L′) → (r : ℕ) → T (isBorder L r) → (u : Counterpart L r L′ s′ t′) → T (isBorder L′ (u .code))
   still-border p r z u = means-unopposed L′ (u .code) .shows go
     where
       go : (w : ℕ) → Side L′ w → T (opposed L′ (u .code) w) → ⊥
@@ -166,6 +166,12 @@ module _ {L L′ : List ℕ} {s t s′ t′ a b c d : ℕ} (x : Swapped L s t L�
           let (from, to) = means-opposed L′ (u .code) w .says o in
           means-unopposed L r .says z (v .code) (v .runs .side)
           (means-opposed L r (v .code) .shows (sym (u .runs .from) ∙ from ∙ sym (v .runs .to), sym (u .runs .to) ∙ to ∙ sym (v .runs .from)))
+
+  pub border-there : Pairing L′ (partner L′) → (r : ℕ) → Side L r → partner L r ≡ 0
+      → (q : ℕ) × Runs L′ q (origin L r) (destination L r) × (partner L′ q ≡ 0)
+  border-there p r w e =
+      let z = means-border L r .shows e in
+      let u = border-counterpart r w z in (u .code, u .runs, means-border L′ (u .code) .says (still-border p r z u))
 
 module _ (n : ℕ) {L L′ : List ℕ} {s t s′ t′ a b c d : ℕ} (good : Good n L) (good′ : Good n L′) (x : Swapped L s t L′ s′ t′ a b c d) where
   -- the side at i and its counterpart at j
@@ -184,10 +190,9 @@ module _ (n : ℕ) {L L′ : List ℕ} {s t s′ t′ a b c d : ℕ} (good : Goo
       own : (i : ℕ) → i < length L → T (sideWith L (isBorder L) i) → (j : ℕ) × (j < length L′) × T (sideWith L′ (isBorder L′) j) × Own i j
       own i h y =
           let (w, z) = passes (isSide L (sideAt i)) (isBorder L (sideAt i)) y in
-          let u = border-counterpart x (sideAt i) w z in
-          let v = u .runs .side in
-          let still = means-border L′ (u .code) .says (still-border x (good′ .pairing) (sideAt i) z u) in
-          (slot (u .code), slot-below L′ (u .code) v, border-with L′ (u .code) v still, (w, (rw (sideAt-slot L′ (u .code) v) (u .runs))))
+          let (q, u, still) = border-there x (good′ .pairing) (sideAt i) w (means-border L (sideAt i) .says z) in
+          let v = u .side in
+          (slot q, slot-below L′ q v, border-with L′ q v still, (w, (rw (sideAt-slot L′ q v) u)))
 
 -- L′ is L with the diagonal s, t swapped, document 02, point 1: "With side a to b, its third corner c, and the partner's third corner d, the
 -- side's row becomes (c,a,d) and the partner's (d,b,c)"

@@ -18,6 +18,7 @@ pub mod Swapping
 pub mod Turns
 pub mod Orders
 pub mod Counts
+pub mod Diamonds
 pub mod SwapBack
 pub mod Tracing
 pub mod Walking

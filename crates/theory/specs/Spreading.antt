@@ -21,7 +21,7 @@ pub record Spreads (L : List ℕ) (v : ℕ) (P : ℕ → Type 0) : Type 0 where
   pub on : (s t : ℕ) → SideAt L v s → Turn L (partner L) s t → P s → P t
   pub back : (s t : ℕ) → SideAt L v s → Turn L (partner L) s t → P t → P s
 
--- what does reaches all sides at v from any one
+-- whatever does reaches all sides at v from any one
 abbrev pub Reached : List ℕ → ℕ → Type 1
 Reached L v = (P : ℕ → Type 0) → Spreads L v P → (s t : ℕ) → SideAt L v s → SideAt L v t → P s → P t
 
@@ -75,13 +75,17 @@ reached-order n L p v from to leads reached =
     let spreads = met-spreads L p v _ o fan (start-at n L v from to) leads in
     (o, fan-order L p v _ o fan (λ s a. let h = fan .some s a in reached (Met o) spreads (at o 0) s (fan .sides 0 h) a (0, h, refl)))
 
--- the sides of two lists at v stand in places, one or more in each: a turn of L leads from place to place as a turn of L′ does, if not within
--- one, and in a place of L′ no more than a turn is between two sides
+-- r and u stand in one place, or a turn of L′ at v leads from the place of r to that of u
+abbrev pub Stepped : List ℕ → ℕ → (ℕ → ℕ) → (ℕ → ℕ) → ℕ → ℕ → Type 0
+Stepped L′ v place place′ r u = (place r ≡ place u)
+    ⊎ ((q : ℕ) × (w : ℕ) × SideAt L′ v q × SideAt L′ v w × Turn L′ (partner L′) q w × (place r ≡ place′ q) × (place u ≡ place′ w))
+
+-- the sides of two lists at v stand in places: each of L′ in that of one of L, two of L′ in one place only where one is the turn of the other, and
+-- turns of L are turns of L′, up to places
 pub record Carried (L L′ : List ℕ) (v : ℕ) (place place′ : ℕ → ℕ) : Type 0 where
   pub each : (q : ℕ) → SideAt L′ v q → (r : ℕ) × SideAt L v r × (place r ≡ place′ q)
   pub together : (q w : ℕ) → SideAt L′ v q → SideAt L′ v w → place′ q ≡ place′ w → (q ≡ w) ⊎ (Turn L′ (partner L′) q w ⊎ Turn L′ (partner L′) w q)
-  pub steps : (r u : ℕ) → SideAt L v r → Turn L (partner L) r u → (place r ≡ place u)
-      ⊎ ((q : ℕ) × (w : ℕ) × SideAt L′ v q × SideAt L′ v w × Turn L′ (partner L′) q w × (place r ≡ place′ q) × (place u ≡ place′ w))
+  pub steps : (r u : ℕ) → SideAt L v r → Turn L (partner L) r u → Stepped L′ v place place′ r u
 
 pub carried : {L L′ : List ℕ} {v : ℕ} {place place′ : ℕ → ℕ} → Carried L L′ v place place′ → Reached L v → Reached L′ v
 carried {L} {L′} {v} {place} {place′} x reached P c s t a b y =
