@@ -22,8 +22,8 @@ pub mod Diamonds
 pub mod SwapBack
 pub mod Tracing
 pub mod Walking
-pub mod Covering
 pub mod Spreading
+pub mod Covering
 pub mod Deciding
 pub mod Described
 pub mod Answers

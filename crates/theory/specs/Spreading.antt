@@ -1,20 +1,20 @@
--- What spreads by turns, from a side to its turn and back: from one side at a vertex it reaches all others exactly where the vertex has a turn
--- order. So a turn order is carried over to another list in which the turns are kept up to what stands in one place.
+-- What spreads by turns, from a side to its turn and back. At a vertex with a turn order it reaches all sides from any one; to be met by the
+-- walk spreads so, which makes the converse (`Covering`). And what it reaches in one list it reaches in another with the same turns, up to places.
 -- Assumes nothing.
-use mathlib.Core.Path.{_≡_, refl, sym, _∙_}
+use mathlib.Core.Path.{_≡_, ap, sym, _∙_}
 use mathlib.Core.Logic.{_⊎_, inl, inr}
 use mathlib.Core.List.{List}
-use Prim.Native.Nat.{ℕ, zero, suc, _-_, _≤_, _<_}
+use Prim.Native.Nat.{ℕ, zero, suc, _-_, _<_}
 use native.Mathlib.Omega.{arith}
 use lib.ListN.{length}
 use Rattle.lists.specs.Search.{at}
-use Rattle.lists.specs.SearchLaws.{Met}
+use Rattle.lists.specs.SearchLaws.{Met, lt-or-eq}
+use Rattle.rules.specs.Elements.{next}
 use Rattle.rules.specs.Pairing.{Pairing, Turn, SideAt, TurnOrder}
 use Rattle.rules.specs.Tables.{partner}
 use Rattle.theory.specs.Orders.{turn-inj, after-border}
 use Rattle.theory.specs.Rims.{BorderInto}
-use Rattle.theory.specs.Walking.{Start, after, side, nowhere, start-at, Fan, walk-walked}
-use Rattle.theory.specs.Covering.{met-turn, last-turn, fan-order}
+use Rattle.theory.specs.Walking.{Start, after, side, nowhere, Fan}
 
 -- P spreads by turns at v
 pub record Spreads (L : List ℕ) (v : ℕ) (P : ℕ → Type 0) : Type 0 where
@@ -40,11 +40,37 @@ order-reached {L} {v} {o} x P c s t a b y =
     up zero h y = y
     up (suc i) h y = c .on (at o i) (at o (suc i)) (x .sides i (omega arith)) (x .turns i h) (up i (omega arith) y)
 
+module _ (L : List ℕ) (p : Pairing L (partner L)) (v c : ℕ) (o : List ℕ) (fan : Fan L v c o) where
+  -- the turn of a side that was met was met
+  met-turn : (s t : ℕ) → Met o s → Turn L (partner L) s t → Met o t
+  met-turn s t (i, h, e) (z, g) = go (lt-or-eq (suc i) (length o) (omega arith))
+    where
+      go : (suc i < length o) ⊎ (suc i ≡ length o) → Met o t
+      go (inl k) = (suc i, k, sym (fan .turns i k .1) ∙ ap (λ (x : ℕ). next L (partner L x)) e ∙ g)
+      go (inr k) = last (fan .last (omega arith))
+        where
+          at-last : at o (length o - 1) ≡ s
+          at-last = let q : length o - 1 ≡ i = omega arith in ap (at o) q ∙ e
+
+          last : (partner L (at o (length o - 1)) ≡ 0) ⊎ ((j : ℕ) × (j < length o) × Turn L (partner L) (at o (length o - 1)) (at o j)) → Met o t
+          last (inl w) = absurd (z (ap (partner L) (sym at-last) ∙ w))
+          last (inr (j, l, (y, q))) = (j, l, sym q ∙ ap (λ (x : ℕ). next L (partner L x)) at-last ∙ g)
+
+  -- the turn of the last is the first: any other is the turn of another
+  pub last-turn : (i : ℕ) → i < length o → Turn L (partner L) (at o (length o - 1)) (at o i) → Turn L (partner L) (at o (length o - 1)) (at o 0)
+  last-turn zero h t = t
+  last-turn (suc i) h t =
+      let last = at o (length o - 1) in
+      let a = fan .sides i (omega arith) .0 in
+      let b = fan .sides (length o - 1) (omega arith) .0 in
+      let e = fan .once i (length o - 1) (omega arith) (omega arith) (turn-inj L p (at o i) last (at o (suc i)) a b (fan .turns i h) t) in
+      absurd (omega arith)
+
 -- where a border side begins at v one ends there, as at every vertex with a turn order
 abbrev pub Leads : List ℕ → ℕ → Type 0
 Leads L v = (s : ℕ) → SideAt L v s → partner L s ≡ 0 → (r : ℕ) × BorderInto L v r
 
--- then to be met by the walk about v spreads, so the walk meets all sides
+-- then what was met by the walk about v spreads
 module _ (L : List ℕ) (p : Pairing L (partner L)) (v c : ℕ) (o : List ℕ) (fan : Fan L v c o) (start : Start L v c) (leads : Leads L v) where
   met-back : (s t : ℕ) → SideAt L v s → Turn L (partner L) s t → Met o t → Met o s
   met-back s t a y (suc i, h, e) =
@@ -66,14 +92,8 @@ module _ (L : List ℕ) (p : Pairing L (partner L)) (v c : ℕ) (o : List ℕ) (
       go (after r b z d g) = absurd (after-border L p r s b z (a .0) (rw (sym e ∙ fan .first h ∙ g) at y))
       go (side f b) = closed (fan .last h) (λ r (d, z, g). f r d z g)
 
-  met-spreads : Spreads L v (Met o)
+  pub met-spreads : Spreads L v (Met o)
   met-spreads = record { on = λ s t a y m. met-turn L p v c o fan s t m y; back = met-back }
-
-pub reached-order : (n : ℕ) (L : List ℕ) → Pairing L (partner L) → (v : ℕ) → 1 ≤ v → v ≤ n → Leads L v → Reached L v → (o : List ℕ) × TurnOrder L (partner L) v o
-reached-order n L p v from to leads reached =
-    let (o, fan, written, empty) = walk-walked n L p .fans v from to in
-    let spreads = met-spreads L p v _ o fan (start-at n L v from to) leads in
-    (o, fan-order L p v _ o fan (λ s a. let h = fan .some s a in reached (Met o) spreads (at o 0) s (fan .sides 0 h) a (0, h, refl)))
 
 -- r and u stand in one place, or a turn of L′ at v leads from the place of r to that of u
 abbrev pub Stepped : List ℕ → ℕ → (ℕ → ℕ) → (ℕ → ℕ) → ℕ → ℕ → Type 0

@@ -2,23 +2,21 @@
 -- and turned, and the list is accepted again.
 -- Assumes nothing.
 use mathlib.Core.Path.{_≡_, refl, ap, sym, _∙_}
-use mathlib.Core.Logic.{inr}
 use mathlib.Core.List.{List, [], _∷_}
-use Prim.Native.Nat.{ℕ, _+_, _*_, _-_, _/_}
+use Prim.Native.Nat.{ℕ, _+_, _*_, _/_}
 use native.Mathlib.Omega.{arith}
 use Rattle.rules.specs.Elements.{sides, origin}
 use Rattle.rules.specs.Pairing.{Accepted}
 use Rattle.rules.specs.Tables.{partner}
 use Rattle.rules.specs.Swap.{third, flipped, withRow, swapped}
 use Rattle.theory.specs.Sides.{side-positive}
-use Rattle.theory.specs.Pairings.{means-opposed, means-joins}
 use Rattle.theory.specs.FitRows.{Fit}
-use Rattle.theory.specs.Triangles.{TriangleSide, third-side}
+use Rattle.theory.specs.Triangles.{TriangleSide}
 use Rattle.theory.specs.Rows.{rows-alike, rows-either-way}
-use Rattle.theory.specs.Replacing.{Replaced, same-size}
+use Rattle.theory.specs.Replacing.{Replaced}
 use Rattle.theory.specs.Turned.{Turned, turned-accepted}
 use Rattle.theory.specs.Orders.{Good}
-use Rattle.theory.specs.Counts.{Crossed}
+use Rattle.theory.specs.Counts.{Crossed, paired-across, crossed-swapped}
 use Rattle.theory.specs.Swapping.{Diagonal, across, starts, ends, apart, mine, other, put-twice, origin-mine, origin-other, swapped-replaced}
 
 -- the other side of a diagonal is one
@@ -94,17 +92,11 @@ module _ (n : ℕ) (L : List ℕ) (fit : Fit n L) (s : ℕ) (x : Diagonal L s) w
 
   new-mine : TriangleSide L′ s′ (third L t) (third L s) (origin L s)
   unfolding third
-  new-mine =
-      let c = crossed in
-      third-side L′ f (mine n L fit s x .0, omega (arith, mine n L fit s x .1, same-size replaced)) (replaced .mine-still)
-      (c .mine-first) (c .mine-second) (c .mine-third)
+  new-mine = crossed-swapped crossed .new .one
 
   new-other : TriangleSide L′ t′ (third L s) (third L t) (origin L t)
   unfolding third
-  new-other =
-      let c = crossed in
-      third-side L′ g (other n L fit s x .0, omega (arith, other n L fit s x .1, same-size replaced)) (replaced .other-still)
-      (c .other-first) (c .other-second) (c .other-third)
+  new-other = crossed-swapped crossed .new .other
 
   -- what the rows of both lists hold: (a,d,b) and (b,c,a)
   abbrev row : List ℕ
@@ -116,12 +108,7 @@ module _ (n : ℕ) (L : List ℕ) (fit : Fit n L) (s : ℕ) (x : Diagonal L s) w
   -- where the new list is accepted, its own pairing pairs them, and they can be swapped
   module _ (new : Good n L′) where
     pub new-partner : partner L′ s′ ≡ t′
-    new-partner =
-        let p = new-mine .runs in
-        let q = new-other .runs in
-        let opposite = means-opposed L′ s′ t′ .shows (p .from ∙ sym (q .to), p .to ∙ sym (q .from)) in
-        let differ : s′ ≡ t′ → ⊥ = λ e. apart n L fit s x (omega arith) in
-        new .pairing .paired s′ t′ (p .side) (q .side) differ (means-joins L′ s′ t′ .shows (inr opposite))
+    new-partner = paired-across (crossed-swapped crossed .new) (new .pairing)
 
     pub new-diagonal : Diagonal L′ s′
     new-diagonal =

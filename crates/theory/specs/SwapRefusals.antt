@@ -22,7 +22,8 @@ use Rattle.theory.specs.Triangles.{Runs, next-runs, previous-runs}
 use Rattle.theory.specs.Replacing.{same-size, side-before, same-origin}
 use Rattle.theory.specs.Orders.{Good, good, lone}
 use Rattle.theory.specs.Rims.{border-leads}
-use Rattle.theory.specs.Spreading.{Leads, Stepped, Carried, order-reached, reached-order, carried}
+use Rattle.theory.specs.Spreading.{order-reached, Leads, Stepped, Carried, carried}
+use Rattle.theory.specs.Covering.{reached-covered, covered-order}
 use Rattle.theory.specs.Swapping.{Diagonal}
 use Rattle.theory.specs.Counts.{Counterpart, Swapped, Crossed, exchanged, swapped-back, across, paired-across, counterpart, border-there, crossed-swapped}
 use Rattle.theory.specs.Diamonds.{whole, one-whole, one-corner, Across, one, other, runs-differ, thirds-differ, beside}
@@ -67,9 +68,9 @@ module _ {L L′ : List ℕ} {s t s′ t′ a b c d : ℕ} (x : Swapped L s t L�
       let not-other : r ≡ t → ⊥ = λ e. runs-differ fit (previous-runs y) (sym (k .from) ∙ ap (origin L) e ∙ y .runs .from) in
       let u = counterpart x r (k .side) not-one not-other in
       let v = z .one .runs in
-      let beside = means-alike L′ s′ (u .code) .shows (v .from ∙ sym (u .runs .from ∙ k .from), v .to ∙ sym (u .runs .to ∙ k .to)) in
+      let like = means-alike L′ s′ (u .code) .shows (v .from ∙ sym (u .runs .from ∙ k .from), v .to ∙ sym (u .runs .to ∙ k .to)) in
       u .not-other
-      (two-join L′ free s′ (u .code) t′ (v .side) (u .runs .side) (z .other .runs .side) (means-joins L′ s′ (u .code) .shows (inl beside))
+      (two-join L′ free s′ (u .code) t′ (v .side) (u .runs .side) (z .other .runs .side) (means-joins L′ s′ (u .code) .shows (inl like))
       (means-joins L′ s′ t′ .shows (inr (across z))) (u .not-one) (λ e. z .apart (sym (ap (λ (q : ℕ). q / 8) e))))
 
 -- the new rows are fit
@@ -238,7 +239,8 @@ module _ {n : ℕ} {L L′ : List ℕ} {s t s′ t′ a b c d : ℕ} (old : Good
 
     new-orders : (v : ℕ) → 1 ≤ v → v ≤ n → (o : List ℕ) × TurnOrder L′ (partner L′) v o
     new-orders v from to =
-        let (o, y) = old .orders v from to in reached-order n L′ p v from to (leads v o y) (carried (places v) (order-reached y))
+        let (o, y) = old .orders v from to in
+        covered-order n L′ p v from to (reached-covered n L′ p v from to (leads v o y) (carried (places v) (order-reached y)))
 
   -- where no side joins c and d, all is well but for elements that clash; and only there
   swapped-good : Unjoined L c d → Good n L′
