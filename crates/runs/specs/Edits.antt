@@ -64,7 +64,7 @@ unfolding buildAnswer lengthChecks
 build-tried n L u b u′ run sizes lengths =
     run .answer ∙ rw (true-of (sizesFit n L) sizes, true-of (buildLengths n L u) lengths, lengthChecks) refl
 
-not-by-room : (room : ℕ) (a : Answer) {r p q : ℕ} → roomCheck room a ≡ refused r p q → (r ≡ 9 → ⊥) → a ≡ refused r p q
+pub not-by-room : (room : ℕ) (a : Answer) {r p q : ℕ} → roomCheck room a ≡ refused r p q → (r ≡ 9 → ⊥) → a ≡ refused r p q
 unfolding roomCheck
 not-by-room room (refused r p q) e d = e
 not-by-room room (gives k j) {r} e d = elim (le-or-lt k room) [
@@ -160,7 +160,7 @@ module _ (x : Edited) (w : Lent) (a : Answer) (w′ : Lent) (run : EditRun x w a
       unfolding onceAccepted newAnswer
       edit-refused e = tried-by counts e
 
-      new-answer : {n′ : ℕ} {L′ : List ℕ} → x ≡ becomes n′ L′ → a ≡ roomCheck (length (w .border)) (listAnswer n′ L′)
+      pub new-answer : {n′ : ℕ} {L′ : List ℕ} → x ≡ becomes n′ L′ → a ≡ roomCheck (length (w .border)) (listAnswer n′ L′)
       unfolding onceAccepted newAnswer
       new-answer e = tried-by counts e
 

@@ -8,20 +8,21 @@ use Prim.Native.Nat.{ℕ, _+_, _*_, _/_, _%_, _≤_}
 use native.Mathlib.Omega.{arith}
 use lib.Dec.{T}
 use lib.ListN.{length}
-use Rattle.lists.specs.TestLaws.{Means, true-of, false-of, means-not, means-itself, means-either, means-both, means-eq, means-within}
+use Rattle.lists.specs.TestLaws.{Means, decide, true-of, false-of, means-not, means-itself, means-either, means-both, means-eq, means-within}
 use Rattle.rules.specs.Elements.{elements, isSide, Side}
 use Rattle.rules.specs.Pairing.{Accepted, sizesFit}
 use Rattle.rules.specs.Tables.{partner, borders, columns, edges}
-use Rattle.rules.specs.Refusals.{Answer, gives, refused, Buffers, buildLengths}
+use Rattle.rules.specs.Refusals.{Answer, gives, refused, Buffers, crowdedSide, listAnswer, buildLengths, roomCheck}
 use Rattle.rules.specs.Queries.{Mesh}
 use Rattle.rules.specs.Edits.{Edited, becomes, Lent, held, isThere, editSizes, editLengths, editAnswer, editLeaves}
-use Rattle.rules.specs.Swap.{swapped, isSwappable, swap}
+use Rattle.rules.specs.Swap.{third, swapped, isSwappable, swap}
 use Rattle.theory.specs.FitRows.{means-sizes}
 use Rattle.theory.specs.Orders.{Good, good}
 use Rattle.theory.specs.Replacing.{Replaced, same-size, same-columns}
 use Rattle.theory.specs.Counts.{same-borders, same-edges}
 use Rattle.theory.specs.Swapping.{Diagonal, means-swappable, swapped-replaced}
 use Rattle.theory.specs.SwapBack.{other-diagonal, swapped-alike, crossed}
+use Rattle.theory.specs.SwapRefusals.{Unjoined, swapped-crowded, swapped-clashes}
 use Rattle.swap.specs.Swaps.{gone, unfit, swaps, becomes-swapped}
 use Rattle.runs.specs.Runs.{BuildRun, RecoverRun, SwapRun, LeftBy}
 use Rattle.runs.specs.Demand3.{list-counted}
@@ -93,6 +94,23 @@ module _ (w : Lent) (s : ℕ) (a : Answer) (w′ : Lent) (run : SwapRun w s a w�
         → length (u .border) ≡ length (w .border) → a ≡ b
     new-tried d u u′ b built fit room =
         edits.new-tried x w a w′ run sizes lengths old (diagonal-swaps n L s d) u u′ b built (new-sizes n L s old d) fit room
+
+    -- so 6 comes where a side joins c and d, the ends of the new diagonal, already, and else only 18 and 9
+    module _ (d : Diagonal L s) where
+      of-new : a ≡ roomCheck (length (w .border)) (listAnswer n L′)
+      of-new = edits.new-answer x w a w′ run sizes lengths old (diagonal-swaps n L s d)
+
+      pub gives-6 : (Unjoined L (third L s) (third L (partner L s)) → ⊥) → (p : ℕ) × (q : ℕ) × (a ≡ refused 6 p q)
+      unfolding roomCheck
+      gives-6 f =
+          let r = crowdedSide L′ in
+          (r / 8, r % 8, of-new ∙ ap (roomCheck (length (w .border))) (swapped-crowded n L old s d f))
+
+      pub else-18 : Unjoined L (third L s) (third L (partner L s)) → {r p q : ℕ} → a ≡ refused r p q → (r ≡ 18) ⊎ (r ≡ 9)
+      else-18 f {r} e = elim (decide (means-eq r 9)) [
+        | inl z ↦ inr z
+        | inr z ↦ inl (swapped-clashes n L old s d f (edits.not-by-room (length (w .border)) (listAnswer n L′) (sym of-new ∙ e) z))
+      ]
 
   -- an answer, exactly where none of the refusals is due
   pub record Swaps (k e : ℕ) : Type 0 where

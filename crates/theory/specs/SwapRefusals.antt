@@ -4,14 +4,14 @@
 use mathlib.Core.Path.{_≡_, refl, ap, sym, _∙_}
 use mathlib.Core.Logic.{_⊎_, inl, inr, _↔_}
 use mathlib.Core.List.{List}
-use Prim.Native.Nat.{ℕ, _/_, _≤_}
+use Prim.Native.Nat.{ℕ, _/_, _%_, _≤_}
 use native.Mathlib.Omega.{arith}
 use lib.Dec.{T}
 use Rattle.lists.specs.TestLaws.{decide, means-either, means-eq}
 use Rattle.rules.specs.Elements.{Side, origin, next, previous, destination}
 use Rattle.rules.specs.Pairing.{alike, SideAt, Turn, TurnOrder, Pairing, Conformal, Accepted}
 use Rattle.rules.specs.Tables.{partner}
-use Rattle.rules.specs.Refusals.{refused, crowdedSide, alikeSide, unorderedVertex, clashing, listAnswer}
+use Rattle.rules.specs.Refusals.{Answer, refused, crowdedSide, alikeSide, unorderedVertex, clashing, rowChecks, listAnswer}
 use Rattle.rules.specs.Swap.{third, swapped}
 use Rattle.theory.specs.Sides.{side-positive}
 use Rattle.theory.specs.Steps.{next-numbered, previous-numbered}
@@ -29,7 +29,7 @@ use Rattle.theory.specs.Counts.{Counterpart, Swapped, Crossed, exchanged
 use Rattle.theory.specs.Diamonds.{whole, one-whole, one-corner, Across, one, other, runs-differ, thirds-differ, beside}
 use Rattle.theory.specs.SwapBack.{crossed}
 use Rattle.theory.specs.Deciding.{means-ordered}
-use Rattle.theory.specs.Answers.{check-clear, refused-here, fit-rows-clear}
+use Rattle.theory.specs.Answers.{check-clear, check-refuses, refused-here, fit-rows-clear}
 
 -- no side joins c and d
 abbrev pub Unjoined : List ℕ → ℕ → ℕ → Type 0
@@ -266,23 +266,32 @@ module _ (n : ℕ) (L : List ℕ) (y : Accepted n L) (s : ℕ) (x : Diagonal L s
   fit : Fit n L′
   fit = crossed-fit (old .fit) (y .meeting) rows
 
-  -- check 6 finds nothing exactly where no side joins the ends of the new diagonal
-  pub swapped-uncrowded : (crowdedSide L′ ≡ 0) ↔ Unjoined L (third L s) (third L (partner L s))
+  abbrev c : ℕ
+  c = third L s
+
+  abbrev d : ℕ
+  d = third L (partner L s)
+
+  -- check 6 finds nothing exactly where no side joins c and d
+  pub swapped-uncrowded : (crowdedSide L′ ≡ 0) ↔ Unjoined L c d
   unfolding third
   swapped-uncrowded = uncrowded old fit (crossed-swapped rows)
 
-  -- else the list is refused by 6; and if by none, only by 18
-  pub swapped-refused : {r p q : ℕ} → listAnswer n L′ ≡ refused r p q → (r ≡ 6) ⊎ (r ≡ 18)
+  past-rows : (rest : Answer) → rowChecks n L′ rest ≡ rest
+  past-rows = fit-rows-clear n L′ (means-fit n L′ .shows fit)
+
+  -- where one does, the list is refused by 6
+  pub swapped-crowded : (Unjoined L c d → ⊥) → listAnswer n L′ ≡ refused 6 (crowdedSide L′ / 8) (crowdedSide L′ % 8)
   unfolding listAnswer
-  swapped-refused {r} {p} {q} g =
-      elim (refused-here (crowdedSide L′) 6 _ _ r p q _ (sym (fit-rows-clear n L′ (means-fit n L′ .shows fit) _) ∙ g)) [
-        | inl e ↦ inl e
-        | inr (none, h) ↦
-            let z = swapped-good old fit (crossed-swapped rows) (uncrowded old fit (crossed-swapped rows) .0 none) in
-            let alike = pairing-exists n L′ fit .0 (partner L′, z .pairing) .1 in
-            let ordered = means-eq (unorderedVertex n L′) 0 .says (means-ordered n L′ (z .pairing) .shows (z .orders)) in
-            elim (refused-here (clashing L′) 18 _ _ r p q _ (sym (check-clear _ _ _ alike ∙ check-clear _ _ _ ordered) ∙ h)) [
-              | inl e ↦ inr e
-              | inr (c, k) ↦ let z : _≡_ {A = ℕ} 0 1 = cc in absurd (omega arith)
-            ]
-      ]
+  swapped-crowded f = past-rows _ ∙ check-refuses (crowdedSide L′) _ _ (λ e. f (swapped-uncrowded .0 e))
+
+  -- else only by 18
+  pub swapped-clashes : Unjoined L c d → {r p q : ℕ} → listAnswer n L′ ≡ refused r p q → r ≡ 18
+  unfolding listAnswer third
+  swapped-clashes free {r} {p} {q} g =
+      let z = swapped-good old fit (crossed-swapped rows) free in
+      let alike = pairing-exists n L′ fit .0 (partner L′, z .pairing) .1 in
+      let ordered = means-eq (unorderedVertex n L′) 0 .says (means-ordered n L′ (z .pairing) .shows (z .orders)) in
+      let past = past-rows _ ∙ check-clear _ _ _ (swapped-uncrowded .1 free) ∙ check-clear _ _ _ alike ∙ check-clear _ _ _ ordered in
+      elim (refused-here (clashing L′) 18 _ _ r p q _ (sym past ∙ g))
+      [ inl e ↦ e | inr (c, k) ↦ let z : _≡_ {A = ℕ} 0 1 = cc in absurd (omega arith) ]
