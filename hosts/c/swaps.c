@@ -56,21 +56,21 @@ static struct list list_of(struct mesh *t) {
     return (struct list){t->n, m, m, t->elements.at};
 }
 
-static struct slice first_entries(struct slice s, size_t len) {
+static struct slice copied_entries(struct slice s, size_t len) {
     return copied((struct slice){s.at, len});
 }
 
 /* List and tables that a swap left, without what stands past them. */
 static struct mesh mesh_left(const struct call *call, const struct slice *results, uint32_t k) {
     size_t n = call->given[SIZE].at[0], m = call->given[SIZE].at[1];
-    struct slice rows = first_entries(results[ELEMENTS], 4 * m);
+    struct slice rows = copied_entries(results[ELEMENTS], 4 * m);
     uint32_t columns = columns_of(rows);
     return (struct mesh){(uint32_t)n,
                          columns,
                          rows,
-                         first_entries(results[V2E], n),
-                         first_entries(results[E2E], columns * m),
-                         first_entries(results[B2E], k)};
+                         copied_entries(results[V2E], n),
+                         copied_entries(results[E2E], columns * m),
+                         copied_entries(results[B2E], k)};
 }
 
 static int same_entries(struct slice a, struct slice b) {

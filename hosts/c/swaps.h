@@ -19,7 +19,7 @@ void runs_of_swaps(struct dice *dice);
 /* Buffers that are longer, each by itself and together, or too short; lengths past 32 bits; empty buffers. */
 void lengths_of_swaps(struct dice *dice);
 
-/* n and m at their largest and past it; the time is that of two builds. */
+/* n and m at their largest and past it, in linear time. */
 void largest_swaps(struct dice *dice);
 
 #endif

@@ -134,8 +134,11 @@ static int smooth_side(uint32_t side, uint64_t *counts) {
     printf("swap ");
     print_edge(side);
     uint64_t swapped = swap(side);
-    if (refused(swapped))
+    if (borzhanu_refusal(swapped) != 0) {
+        printf(": ");
+        refused(swapped);
         return 0;
+    }
     printf(", for %u to %u, %.1f mm\n", c, d, length(c, d));
     print_change(f, old_f);
     print_change(g, old_g);

@@ -94,6 +94,7 @@ fn smooth_side(panel: &mut OwnedMesh, side: HalfEdge) -> Result<bool, Refusal> {
     let before = panel.rows().to_vec();
     print!("swap {}", edge(a, b));
     if let Err(refusal) = panel.swap(side) {
+        print!(": ");
         print_refusal(refusal);
         return Ok(false);
     }

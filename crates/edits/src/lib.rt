@@ -1,8 +1,7 @@
-// The way of every edit: checks 1 and 2 where buffers may be longer than what they hold, and whether the half-edge named is there.
+// What every edit asks first: checks 1 and 2, where buffers may be longer than what they hold, and whether the half-edge named is there.
 ghost use mathlib.Core.Path.{_≡_};
 ghost use Prim.Native.Nat.{_≤_};
 ghost use lib.Dec.{leb};
-ghost use lib.ListN.{length};
 ghost use Rattle.lists.specs.Tests.{both};
 ghost use Rattle.rules.specs.Elements.{maxVertex, maxElement};
 ghost use Rattle.rules.specs.Tables.{borders};

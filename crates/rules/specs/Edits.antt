@@ -2,10 +2,10 @@
 -- build gives of it". What an edit adds is its own "new list, or a refusal", in a file of its own.
 -- Assumes nothing.
 use mathlib.Core.Bool.{Bool}
-use mathlib.Core.List.{List}
-use Prim.Native.Nat.{ℕ, _+_, _*_}
+use mathlib.Core.List.{List, _++_}
+use Prim.Native.Nat.{ℕ, _+_, _*_, _-_}
 use lib.Dec.{leb, eqb}
-use lib.ListN.{length, take}
+use lib.ListN.{length, take, replicate}
 use Rattle.lists.specs.Tests.{both, either, within}
 use Rattle.rules.specs.Elements.{maxVertex, maxElement, elements, element, number, isSide}
 use Rattle.rules.specs.Tables.{borders, b2e, columns, e2e, v2e}
@@ -25,6 +25,24 @@ pub record Lent : Type 0 where
   pub opposites : List ℕ
   pub border : List ℕ
   pub work : List ℕ
+
+-- the same with another work buffer
+abbrev pub withWork : Lent → List ℕ → Lent
+withWork w work =
+    record {
+      n = w .n;
+      m = w .m;
+      list = w .list;
+      vertices = w .vertices;
+      opposites = w .opposites;
+      border = w .border;
+      work = work;
+    }
+
+-- xs put at the start of a buffer that held `old` entries; "entries past both the old and the new length stay untouched" (point 6), and "Entries
+-- between the new and the old length become 0" (point 8)
+unfoldable pub overOld : ℕ → List ℕ → List ℕ → List ℕ
+overOld old xs buffer = onto (xs ++ replicate (old - length xs) 0) buffer
 
 -- "The list as given must first be accepted": what comes then, or what was said of the list
 unfoldable pub onceAccepted : Answer → Answer → Answer
@@ -62,15 +80,15 @@ module _ (w : Lent) where
   editAnswer x =
       lengthChecks editSizes editLengths (onceAccepted (listAnswer (w .n) held) (newAnswer (length (w .border)) x))
 
-  -- the new n and m, list and tables, each from its buffer's start; "entries past both the old and the new length stay untouched"
+  -- the new n and m, list and tables; 0 past them "but not in B2e" (point 8)
   unfoldable pub written : Edited → Lent
   written (becomes n L) =
       record {
         n = n;
         m = elements L;
-        list = onto L (w .list);
-        vertices = onto (v2e n L) (w .vertices);
-        opposites = onto (e2e L) (w .opposites);
+        list = overOld (4 * w .m) L (w .list);
+        vertices = overOld (w .n) (v2e n L) (w .vertices);
+        opposites = overOld (columns held * w .m) (e2e L) (w .opposites);
         border = onto (b2e L) (w .border);
         work = w .work;
       }
@@ -78,14 +96,4 @@ module _ (w : Lent) where
 
   -- what an edit leaves: "refused, list and tables unchanged"; and the work buffer of document 01
   unfoldable pub editLeaves : Edited → Lent
-  editLeaves x =
-      let left = after (editAnswer x) (written x) w in
-      record {
-        n = left .n;
-        m = left .m;
-        list = left .list;
-        vertices = left .vertices;
-        opposites = left .opposites;
-        border = left .border;
-        work = workAfter editSizes editLengths (w .work);
-      }
+  editLeaves x = withWork (after (editAnswer x) (written x) w) (workAfter editSizes editLengths (w .work))

@@ -43,9 +43,9 @@ swap n L s =
     elim (isThere L s)
     [ true ↦ elim (isSwappable L s) [ true ↦ becomes n (swapped L s) | false ↦ refuses 15 ] | false ↦ refuses 11 ]
 
-unfoldable pub swapAnswer : Lent → ℕ → Answer
+abbrev pub swapAnswer : Lent → ℕ → Answer
 swapAnswer w s = editAnswer w (swap (w .n) (held w) s)
 
 -- what the call leaves of what it is lent
-unfoldable pub swapLeaves : Lent → ℕ → Lent
+abbrev pub swapLeaves : Lent → ℕ → Lent
 swapLeaves w s = editLeaves w (swap (w .n) (held w) s)

@@ -130,7 +130,7 @@ new-fits room (becomes n L) f g = room-fits room (listAnswer n L) (list-fits n L
 new-fits room (refuses r) f g = omega (arith, g r refl)
 
 pub swap-fits : (w : Lent) (s : ℕ) → Fits (swapAnswer w s)
-unfolding swapAnswer editAnswer
+unfolding editAnswer
 swap-fits w s =
     lengths-fit (editSizes w) (editLengths w) _
     (λ sizes lengths.

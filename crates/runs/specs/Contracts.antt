@@ -26,7 +26,6 @@ use Rattle.holes.specs.Marks.{lentHoles}
 use Rattle.holes.proofs.holes.Kinds as holes-kinds
 use Rattle.holes.proofs.holes.Reads as holes-reads
 use Rattle.edits.specs.Holding.{lentEdit}
-use Rattle.rules.specs.Swap.{swapAnswer, swapLeaves}
 use Rattle.swap.proofs.swap.Kinds as swap-kinds
 use Rattle.swap.proofs.swap.Reads as swap-reads
 use Rattle.sibling_map.specs.Mapping.{lentMaps}
@@ -93,7 +92,6 @@ module _ (κs : Lfts 5) (a : Dens κs swap-kinds.ps) (r : resT swap-kinds.r κs 
       (lentEdit (a .0) (a .1 .0) (a .1 .1 .0 .now) (a .1 .1 .1 .0 .now) (a .1 .1 .1 .1 .0 .now) (a .1 .1 .1 .1 .1 .0 .now) (a .1 .1 .1 .1 .1 .1 .0 .now))
       (a .1 .1 .1 .1 .1 .1 .1 .0) (numbers r)
       (lentEdit (a .0) (a .1 .0) (s .1 .1 .0 .now) (s .1 .1 .1 .0 .now) (s .1 .1 .1 .1 .0 .now) (s .1 .1 .1 .1 .1 .0 .now) (s .1 .1 .1 .1 .1 .1 .0 .now))
-  unfolding swapAnswer swapLeaves
   swap-run p = record { answer = p .0; leaves = p .1 }
 
 -- columns(n, list)

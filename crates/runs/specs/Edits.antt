@@ -7,10 +7,10 @@ use mathlib.Core.List.{List}
 use Prim.Native.Nat.{ℕ, _+_, _*_, _≤_}
 use native.Mathlib.Omega.{arith}
 use lib.Dec.{T}
-use lib.ListN.{length, take, drop, length-append, length-drop, length-replicate}
-use lib.Seq.{take-append-seam, length-take-le}
+use lib.ListN.{length, take, length-replicate}
+use lib.Seq.{length-take-le}
 use Rattle.lists.specs.Tests.{both}
-use Rattle.lists.specs.TestLaws.{Test, pass, fail, test, true-of, means-both, means-le}
+use Rattle.lists.specs.TestLaws.{pass, fail, test, true-of, means-both, means-le}
 use Rattle.lists.specs.SearchLaws.{le-or-lt}
 use Rattle.rules.specs.Elements.{maxVertex, maxElement, elements}
 use Rattle.rules.specs.Pairing.{Accepted, sizesFit}
@@ -19,22 +19,18 @@ use Rattle.rules.specs.Recovery.{HasTables}
 use Rattle.rules.specs.Refusals.{Answer, gives, refused, Buffers, buildLengths, listAnswer, lengthChecks, roomCheck, after, onto, workAfter, buildAnswer}
 use Rattle.rules.specs.Refusals.{recoverAnswer, recoverList, recoverWork}
 use Rattle.rules.specs.Queries.{Mesh}
-use Rattle.rules.specs.Edits.{Edited, becomes, refuses, Lent, held, onceAccepted, newAnswer, editSizes, editLengths, editAnswer, written, editLeaves}
+use Rattle.rules.specs.Edits.{Edited, becomes, refuses, Lent, withWork, overOld, held, onceAccepted, newAnswer, editSizes, editLengths, editAnswer, written, editLeaves}
 use Rattle.theory.specs.FitRows.{means-sizes}
 use Rattle.theory.specs.Entries.{length-b2e, length-v2e}
 use Rattle.theory.specs.Columns.{length-e2e}
 use Rattle.theory.specs.Orders.{good}
 use Rattle.theory.specs.Answers.{past-lengths, room-enough, room-short, accepted-answer}
-use Rattle.theory.specs.Edits.{past-old, past-new}
+use Rattle.theory.specs.Edits.{past-old, past-new, onto-front, onto-length, over-front, over-length}
 use Rattle.theory.specs.Built.{built}
-use Rattle.edits.specs.Holding.{lentEdit, means-holds}
+use Rattle.edits.specs.Holding.{means-holds}
 use Rattle.runs.specs.Runs.{BuildRun, RecoverRun, EditRun, LeftBy}
 use Rattle.runs.specs.RoundTrip.{tables-come-back}
 use Rattle.runs.specs.OnBuilt.{built-left}
-
--- what is lent, with another work buffer
-abbrev pub withWork : Lent → List ℕ → Lent
-withWork w work = lentEdit (w .n) (w .m) (w .list) (w .vertices) (w .opposites) (w .border) work
 
 -- what is held: the list, its tables with its own columns, and k entries of B2e
 abbrev pub meshIn : Lent → ℕ → Mesh
@@ -47,15 +43,6 @@ meshIn w k =
       opposites = take (columns (held w) * w .m) (w .opposites);
       border = take k (w .border);
     }
-
--- what was written to the front of a buffer stands there, and the buffer is as long as it was
-front : (xs buffer : List ℕ) (k : ℕ) → length xs ≡ k → take k (onto xs buffer) ≡ xs
-unfolding onto
-front xs buffer k e = ap (λ (j : ℕ). take j (onto xs buffer)) (sym e) ∙ take-append-seam xs (drop (length xs) buffer)
-
-onto-length : (xs buffer : List ℕ) → length xs ≤ length buffer → length (onto xs buffer) ≡ length buffer
-unfolding onto
-onto-length xs buffer h = simp (length-append, length-drop) (omega arith)
 
 -- what a run of build says of a list with fit sizes, in buffers of fit lengths
 build-tried : (n : ℕ) (L : List ℕ) (u : Buffers) (b : Answer) (u′ : Buffers) → BuildRun n L u b u′ → T (sizesFit n L) → T (buildLengths n L u)
@@ -188,16 +175,17 @@ module _ (x : Edited) (w : Lent) (a : Answer) (w′ : Lent) (run : EditRun x w a
     mesh-left : meshIn (withWork (written w (becomes n′ L′)) work′) k ≡ built n′ L′
     unfolding written
     mesh-left =
-        let list = front L′ (w .list) (4 * elements L′) fours in
-        let opposites = (λ i. take (columns (list i) * elements L′) (onto (e2e L′) (w .opposites))) ∙ front (e2e L′) (w .opposites) (columns L′ * elements L′) (length-e2e L′) in
+        let list = over-front (4 * w .m) L′ (w .list) fours in
+        let opposites = (λ i. take (columns (list i) * elements L′) (overOld (columns L * w .m) (e2e L′) (w .opposites)))
+        ∙ over-front (columns L * w .m) (e2e L′) (w .opposites) (length-e2e L′) in
         λ i.
         record {
           n = n′;
           columns = columns (list i);
           list = list i;
-          vertices = front (v2e n′ L′) (w .vertices) n′ (length-v2e L′ n′) i;
+          vertices = over-front (w .n) (v2e n′ L′) (w .vertices) (length-v2e L′ n′) i;
           opposites = opposites i;
-          border = front (b2e L′) (w .border) k (length-b2e L′ ∙ sym number) i;
+          border = onto-front (b2e L′) (w .border) (length-b2e L′ ∙ sym number) i;
         }
 
     pub tables-left : meshIn w′ k ≡ built n′ L′
@@ -237,16 +225,17 @@ module _ (x : Edited) (w : Lent) (a : Answer) (w′ : Lent) (run : EditRun x w a
         let (f, g) = tables-come-back n′ L′ V2e E2e tables list work (omega (arith, fours, same-m)) (omega (arith, same-n, same-m)) b list′ work″ told in
         (f, g ∙ sym (ap (λ (M : Mesh). M .list) tables-left))
 
-    -- where the buffers have room for the new list, the next edit finds what it needs in them
-    pub fit-still : length L′ ≤ length (w .list) → n′ ≤ length (w .vertices) → columns L′ * elements L′ ≤ length (w .opposites) → k ≤ length (w .border)
+    -- where the buffers have room for the old list and for the new one, the next edit finds what it needs in them
+    pub fit-still : T (editSizes w) → T (editLengths w) → length L′ ≤ length (w .list) → n′ ≤ length (w .vertices) → columns L′ * elements L′ ≤ length (w .opposites) → k ≤ length (w .border)
         → n′ + 16 * elements L′ ≤ length (w .work) → T (editSizes w′) × T (editLengths w′) × (length (w′ .border) ≡ length (w .border))
     unfolding editSizes editLengths written
-    fit-still list vertices opposites border work =
+    fit-still sizes lengths list vertices opposites border work =
         let fit = good n′ L′ new .fit in
+        let (l, v, e, r) = enough w sizes lengths in
         let same : held w′ ≡ L′ = ap (λ (M : Mesh). M .list) tables-left in
-        let list-long = ap (λ (u : Lent). length (u .list)) left ∙ onto-length L′ (w .list) list in
-        let vertices-long = ap (λ (u : Lent). length (u .vertices)) left ∙ onto-length (v2e n′ L′) (w .vertices) (omega (arith, length-v2e L′ n′)) in
-        let opposites-long = ap (λ (u : Lent). length (u .opposites)) left ∙ onto-length (e2e L′) (w .opposites) (omega (arith, length-e2e L′)) in
+        let list-long = ap (λ (u : Lent). length (u .list)) left ∙ over-length (4 * w .m) L′ (w .list) l list in
+        let vertices-long = ap (λ (u : Lent). length (u .vertices)) left ∙ over-length (w .n) (v2e n′ L′) (w .vertices) v (omega (arith, length-v2e L′ n′)) in
+        let opposites-long = ap (λ (u : Lent). length (u .opposites)) left ∙ over-length (columns L * w .m) (e2e L′) (w .opposites) e (omega (arith, length-e2e L′)) in
         let border-long = ap (λ (u : Lent). length (u .border)) left ∙ onto-length (b2e L′) (w .border) (omega (arith, length-b2e L′, number)) in
         let work-long = ap (λ (u : Lent). length (u .work)) left ∙ work-length in
         let columned : columns (held w′) * w′ .m ≡ columns L′ * elements L′ = λ i. columns (same i) * same-m i in (

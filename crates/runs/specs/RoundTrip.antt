@@ -93,6 +93,19 @@ triangles-in-four n L w w′ a k e built counts three some list work b list′ w
     ten n m (w′ .vertices) (widened m (w′ .opposites)) list work b list′ work′ run sizes lengths .1
     (λ (X, h). not-in-four n L (t .accepted) three some (X, (rw (← t .vertices, four) at h)))
 
+-- n entries of B2e are always enough, with spare vertices too, since border sides end at different vertices
+pub room-for-all : (n : ℕ) (L : List ℕ) (room : ℕ) → T (sizesFit n L) → n ≤ room → (p q : ℕ) → roomCheck room (listAnswer n L) ≡ refused 9 p q → ⊥
+unfolding roomCheck
+room-for-all n L room s long p q g = past (listAnswer n L) refl g
+  where
+    past : (x : Answer) → listAnswer n L ≡ x → roomCheck room x ≡ refused 9 p q → ⊥
+    past (refused r i j) e f = list-never n L 9 (λ r from to d e. e) p q (e ∙ f)
+    past (gives k j) e f =
+        let (x, b) = list-counted n L s k j e in
+        let h : k ≤ room = omega (arith, b .0, borders-few n L (good n L x)) in
+        let f′ = sym (room-enough room k j h) ∙ f in
+        let z : _≡_ {A = ℕ} 0 1 = cc in omega arith
+
 module _ (n : ℕ) (L : List ℕ) (w w′ : Buffers) (a : Answer) (run : BuildRun n L w a w′) where
   -- k is at most n
   pub few-borders : (k e : ℕ) → a ≡ gives k e → k ≤ n
@@ -100,21 +113,12 @@ module _ (n : ℕ) (L : List ℕ) (w w′ : Buffers) (a : Answer) (run : BuildRu
       let c = counted n L w k e (sym (run .answer) ∙ g) in
       omega (arith, c .borders-are, borders-few n L (good n L (c .accepted)))
 
-  -- so n entries of B2e are always enough, with spare vertices too, since border sides end at different vertices: with them no list whatever
-  -- is refused by 9
+  -- so with n entries of B2e no list whatever is refused by 9
   pub never-nine : n ≤ length (w .border) → (p q : ℕ) → a ≡ refused 9 p q → ⊥
-  unfolding buildAnswer lengthChecks roomCheck
+  unfolding buildAnswer lengthChecks
   never-nine long p q g = go (sizesFit n L) (buildLengths n L w) refl (sym (run .answer) ∙ g)
     where
-      past : T (sizesFit n L) → (x : Answer) → listAnswer n L ≡ x → roomCheck (length (w .border)) x ≡ refused 9 p q → ⊥
-      past s (refused r i j) e f = list-never n L 9 (λ r from to d e. e) p q (e ∙ f)
-      past s (gives k j) e f =
-          let (x, b) = list-counted n L s k j e in
-          let h : k ≤ length (w .border) = omega (arith, b .0, borders-few n L (good n L x)) in
-          let f′ = sym (room-enough (length (w .border)) k j h) ∙ f in
-          let z : _≡_ {A = ℕ} 0 1 = cc in omega arith
-
       go : (sizes lengths : Bool) → sizesFit n L ≡ sizes → lengthChecks sizes lengths (roomCheck (length (w .border)) (listAnswer n L)) ≡ refused 9 p q → ⊥
-      go true true s f = past (rw s tt) (listAnswer n L) refl f
+      go true true s f = room-for-all n L (length (w .border)) (rw s tt) long p q f
       go true false s f = let z : _≡_ {A = ℕ} 2 9 = cc in omega arith
       go false l s f = let z : _≡_ {A = ℕ} 1 9 = cc in omega arith

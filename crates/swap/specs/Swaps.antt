@@ -8,30 +8,31 @@ use Prim.Native.Nat.{ℕ, _+_, _*_, _-_, _/_, _%_, _≤_, _<_}
 use native.Mathlib.Omega.{arith}
 use lib.Dec.{eqb, not-T}
 use lib.ListN.{length, take, drop, length-take, length-drop}
-use lib.Seq.{drop-drop}
+use lib.Seq.{drop-drop, take-all}
 use Rattle.lists.specs.Tests.{both}
 use Rattle.lists.specs.TestLaws.{Test, pass, fail, test, true-of, false-of, means-not, zero-or}
 use Rattle.lists.specs.Search.{at}
 use Rattle.lists.specs.Parts.{part, at-part}
-use Rattle.rules.specs.Elements.{maxVertex, maxElement, elements, row, corner, sides, isSide, Side, slot, origin, previousNumber, previous}
+use Rattle.rules.specs.Elements.{maxVertex, maxElement, elements, row, sides, isSide, Side, slot, origin, previousNumber, previous}
 use Rattle.rules.specs.Tables.{partner, isBorder, borders, columns, wide, v2e, e2e}
 use Rattle.rules.specs.Refusals.{Answer, gives, refused, listAnswer, roomCheck, after, onto}
-use Rattle.rules.specs.Edits.{Edited, becomes, refuses, Lent, onceAccepted, newAnswer, written, isThere}
+use Rattle.rules.specs.Edits.{becomes, refuses, Lent, overOld, written, isThere}
 use Rattle.rules.specs.Swap.{third, flipped, withRow, swapped, isSwappable, swap}
 use Rattle.theory.specs.Sides.{side-facts, slot-below}
 use Rattle.theory.specs.Steps.{previous-numbered}
 use Rattle.theory.specs.FitRows.{Fit, means-sizes}
-use Rattle.theory.specs.Answers.{fit-passed}
 use Rattle.theory.specs.Pairings.{partner-opposed}
 use Rattle.theory.specs.Entries.{length-v2e, means-border, wide-paired, wide-border}
 use Rattle.theory.specs.Columns.{length-e2e}
+use Rattle.theory.specs.Edits.{over-same}
 use Rattle.theory.specs.Rows.{row-itself, rows-alike}
 use Rattle.theory.specs.Replacing.{Replaced, same-columns, same-size}
-use Rattle.theory.specs.Swapping.{Diagonal, means-swappable, across, mine, other, swapped-replaced}
+use Rattle.theory.specs.Swapping.{Diagonal, means-swappable, across, swapped-replaced}
 use Rattle.halfedge.specs.Rows.{rowOf, cornerOf, previousSide, row-at, row-corner, row-turned}
 use Rattle.buffers.specs.Whole.{onto-full}
 use Rattle.build.specs.Building.{Built, Checked, Scratched, counts-are}
 use Rattle.edits.specs.Holding.{lentEdit}
+use Rattle.edits.specs.Leaving.{tight, Left, accepted-fit}
 
 -- a row of four
 pub four-is : (r : List ℕ) → length r ≡ 4 → rowOf r ≡ r
@@ -134,14 +135,9 @@ module _ {L : List ℕ} {s t : ℕ} (x : Flips L s t) where
       ∙ ap (withRow (t / 8) g-row) (row-itself (s / 8) f-row L refl (y .mine) (row-at L (s / 8)))
       ∙ row-itself (t / 8) g-row L refl (y .other) (row-at L (t / 8))
 
--- buffers that are as long as what they hold, but for B2e; the work apart
-abbrev pub tight : ℕ → List ℕ → List ℕ → List ℕ → List ℕ → Lent
-tight n L V2e E2e B2e = lentEdit n (elements L) L V2e E2e B2e []
-
--- the answer a by what was stated, and what it left of w where the edit is x
-pub record Left (stated a : Answer) (w : Lent) (x : Edited) (w′ : Lent) : Type 0 where
-  pub answer : a ≡ stated
-  pub leaves : w′ ≡ after a (written w x) w
+-- a buffer that holds as many entries as before, to its end
+pub over-full : (old : ℕ) (xs buffer : List ℕ) → length xs ≡ old → length xs ≡ length buffer → overOld old xs buffer ≡ xs
+over-full old xs buffer e f = over-same old xs buffer e ∙ onto-full xs buffer f
 
 -- by a known answer
 old-by : {a : Answer} {r p q : ℕ} (new old : List ℕ) {X : List ℕ} → a ≡ refused r p q → X ≡ after a new old → X ≡ old
@@ -151,11 +147,6 @@ old-by new old e h = h ∙ ap (λ (y : Answer). after y new old) e
 new-by : {a : Answer} {k e : ℕ} (new old : List ℕ) {X : List ℕ} → a ≡ gives k e → X ≡ after a new old → X ≡ new
 unfolding after
 new-by new old g h = h ∙ ap (λ (y : Answer). after y new old) g
-
--- a refusal leaves all as it was
-pub refused-left : {stated a : Answer} {r p q : ℕ} {w : Lent} {x : Edited} → a ≡ refused r p q → a ≡ stated → Left stated a w x w
-unfolding after
-refused-left {w = w} {x = x} e f = record { answer = f; leaves = sym (ap (λ (y : Answer). after y (written w x) w) e) }
 
 -- the lists and lengths of a swap
 pub record ToSwap (n : ℕ) (L V2e E2e work : List ℕ) (s t : ℕ) : Type 0 where
@@ -209,9 +200,12 @@ module _ {n : ℕ} {L V2e E2e work : List ℕ} {s t : ℕ} (x : ToSwap n L V2e E
     unfolding after written
     done g =
         let c = checked-new in
-        let l = is ∙ sym (onto-full L′ L (same .long)) in
-        let v = new-by _ _ g (b .vertices) ∙ sym (onto-full (v2e n L′) V2e (length-v2e L′ n ∙ sym (c .v2e-long))) in
-        let o = new-by _ _ g (b .opposites) ∙ sym (onto-full (e2e L′) E2e (length-e2e L′ ∙ sym (c .e2e-long))) in
+        let all : take (4 * elements L) L ≡ L = take-all (4 * elements L) L (omega (arith, x .checked .fours)) in
+        let wide : length (e2e L′) ≡ columns (take (4 * elements L) L) * elements L =
+        length-e2e L′ ∙ sym (c .e2e-long) ∙ x .checked .e2e-long ∙ ap (λ (X : List ℕ). columns X * elements L) (sym all) in
+        let l = is ∙ sym (over-full (4 * elements L) L′ L (omega (arith, same .long, x .checked .fours)) (same .long)) in
+        let v = new-by _ _ g (b .vertices) ∙ sym (over-full n (v2e n L′) V2e (length-v2e L′ n) (length-v2e L′ n ∙ sym (c .v2e-long))) in
+        let o = new-by _ _ g (b .opposites) ∙ sym (over-full (columns (take (4 * elements L) L) * elements L) (e2e L′) E2e wide (length-e2e L′ ∙ sym (c .e2e-long))) in
         let d = new-by _ _ g (b .border) in
         let m = ap elements is in
         record {
@@ -301,10 +295,6 @@ module _ {n : ℕ} {L V2e E2e work : List ℕ} (x : Checked n L V2e E2e work) {t
   pub number : k ≡ borders L
   number = counts-are n L k e (sym (y .stated) ∙ g)
 
-  fit-rows : Fit n L
-  unfolding listAnswer
-  fit-rows = fit-passed n L _ (x .sizes) (sym (y .stated) ∙ g)
-
   pub tabled : {a : ℕ} → a ≡ n → Tabled a L W
   tabled i =
       rw i
@@ -331,34 +321,5 @@ module _ {n : ℕ} {L V2e E2e work : List ℕ} (x : Checked n L V2e E2e work) {t
               e2e-long = x .e2e-long;
               room = omega (arith, x .room, y .long);
             };
-        flips = record { n = n; fit = fit-rows; diagonal = d; partnered = h ∙ wide-paired L s (d .side) (d .paired) };
+        flips = record { n = n; fit = accepted-fit n L (x .sizes) (sym (y .stated) ∙ g); diagonal = d; partnered = h ∙ wide-paired L s (d .side) (d .paired) };
       }
-
--- what is stated of the old list and of the edit
-module _ {n : ℕ} {L work : List ℕ} {t : Answer} {W : List ℕ} (y : Scratched n L t work W) (s : ℕ) (B2e : List ℕ) where
-  abbrev stated : Answer
-  stated = onceAccepted (listAnswer n L) (newAnswer (length B2e) (swap n L s))
-
-  by-old : {a : Answer} → t ≡ a → stated ≡ onceAccepted a (newAnswer (length B2e) (swap n L s))
-  by-old e = ap (λ (a : Answer). onceAccepted a (newAnswer (length B2e) (swap n L s))) (sym (y .stated) ∙ e)
-
-  module _ {w : Lent} where
-    -- the old list is refused
-    pub old-refused : {r p q : ℕ} → t ≡ refused r p q → Left stated t w (swap n L s) w
-    unfolding onceAccepted
-    old-refused e = refused-left e (e ∙ sym (by-old e))
-
-    -- it is accepted, and the edit refused: 11, or 15
-    pub new-refused : {k e r : ℕ} {a : Answer} → t ≡ gives k e → swap n L s ≡ refuses r → a ≡ refused r 0 0 → Left stated a w (swap n L s) w
-    unfolding onceAccepted newAnswer
-    new-refused g f d = refused-left d (d ∙ sym (by-old g ∙ ap (newAnswer (length B2e)) f))
-
-    -- or the new list is tried
-    pub new-tried : {k e : ℕ} {a : Answer} {w′ : Lent} → t ≡ gives k e → swap n L s ≡ becomes n (swapped L s)
-        → Left (roomCheck (length B2e) (listAnswer n (swapped L s))) a w (becomes n (swapped L s)) w′ → Left stated a w (swap n L s) w′
-    unfolding onceAccepted newAnswer
-    new-tried {a = a} g f l =
-        record {
-          answer = l .answer ∙ sym (by-old g ∙ ap (newAnswer (length B2e)) f);
-          leaves = l .leaves ∙ ap (λ (z : Edited). after a (written w z) w) (sym f);
-        }

@@ -14,10 +14,10 @@ ghost use Rattle.rules.specs.Swap.{withRow, swapped, isSwappable, swapAnswer, s
 ghost use Rattle.rules.specs.Swap.{swap as swapOf};
 ghost use Rattle.halfedge.specs.Rows.{rowOf, cornerOf, previousSide};
 ghost use Rattle.answer.specs.Numbers.{numbers};
-ghost use Rattle.tabulate.specs.Results.{Holds};
 ghost use Rattle.build.specs.Building.{Checked};
 ghost use Rattle.edits.specs.Holding.{lentEdit};
-ghost use Rattle.swap.specs.Swaps.{tight, Left, Flips, ToSwap, Tabled};
+ghost use Rattle.edits.specs.Leaving.{tight, Left};
+ghost use Rattle.swap.specs.Swaps.{Flips, ToSwap, Tabled};
 use answer::Answer;
 use answer::refuse;
 use buffers::clear;

@@ -14,7 +14,7 @@ use Rattle.theory.specs.Steps.{next-numbered, previous-numbered}
 use Rattle.theory.specs.FitRows.{Fit, ends-differ}
 use Rattle.theory.specs.Meeting.{element-of, means-begins, not-three, three-shared}
 use Rattle.theory.specs.Triangles.{Runs, TriangleSide, itself, after, before, around, next-runs, previous-runs}
-use Rattle.theory.specs.Counts.{Diamond}
+use Rattle.theory.specs.Counterparts.{Diamond}
 
 -- element e, where f and g count as one
 unfoldable pub whole : ℕ → ℕ → ℕ → ℕ

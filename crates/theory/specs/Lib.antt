@@ -17,6 +17,7 @@ pub mod Turned
 pub mod Swapping
 pub mod Turns
 pub mod Orders
+pub mod Counterparts
 pub mod Counts
 pub mod Diamonds
 pub mod SwapBack

@@ -10,8 +10,8 @@ use lib.Dec.{eqb}
 use lib.ListN.{length}
 use Rattle.lists.specs.Tests.{both, within}
 use Rattle.lists.specs.TestLaws.{decide, means-eq}
-use Rattle.lists.specs.Search.{at, least}
-use Rattle.rules.specs.Elements.{elements, element, number, corner, sides, sidesBy, isSide, Side, slot, origin, nextNumber, previousNumber, next, previous, destination, firstSide}
+use Rattle.lists.specs.Search.{at}
+use Rattle.rules.specs.Elements.{elements, element, number, corner, sides, sidesBy, isSide, Side, slot, origin, nextNumber, next, destination, firstSide}
 use Rattle.rules.specs.Pairing.{Element}
 use Rattle.rules.specs.Tables.{columns}
 use Rattle.theory.specs.Sides.{side-facts}
@@ -60,10 +60,6 @@ module _ {L L′ : List ℕ} {f g : ℕ} (x : Replaced L L′ f g) where
   pub same-next : (s : ℕ) → next L′ s ≡ next L s
   unfolding next
   same-next s = ap (λ (k : ℕ). 8 * element s + nextNumber k (number s)) (same-sides (element s))
-
-  pub same-previous : (s : ℕ) → previous L′ s ≡ previous L s
-  unfolding previous
-  same-previous s = ap (λ (k : ℕ). 8 * element s + previousNumber k (number s)) (same-sides (element s))
 
   -- a side of another element runs as it did
   module _ (s : ℕ) (a : Side L s) (d : s / 8 ≡ f → ⊥) (e : s / 8 ≡ g → ⊥) where

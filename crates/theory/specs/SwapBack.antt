@@ -16,7 +16,7 @@ use Rattle.theory.specs.Rows.{rows-alike, rows-either-way}
 use Rattle.theory.specs.Replacing.{Replaced}
 use Rattle.theory.specs.Turned.{Turned, turned-accepted}
 use Rattle.theory.specs.Orders.{Good}
-use Rattle.theory.specs.Counts.{Crossed, paired-across, crossed-swapped}
+use Rattle.theory.specs.Counterparts.{Crossed, paired-across, crossed-swapped}
 use Rattle.theory.specs.Swapping.{Diagonal, across, starts, ends, apart, mine, other, put-twice, origin-mine, origin-other, swapped-replaced}
 
 -- the other side of a diagonal is one

@@ -25,7 +25,7 @@ use Rattle.theory.specs.Rims.{border-leads}
 use Rattle.theory.specs.Spreading.{order-reached, Leads, Stepped, Carried, carried}
 use Rattle.theory.specs.Covering.{reached-covered, covered-order}
 use Rattle.theory.specs.Swapping.{Diagonal}
-use Rattle.theory.specs.Counts.{Counterpart, Swapped, Crossed, exchanged, swapped-back, across, paired-across, counterpart, border-there, crossed-swapped}
+use Rattle.theory.specs.Counterparts.{Counterpart, Swapped, Crossed, exchanged, reversed, across, paired-across, counterpart, border-there, crossed-swapped}
 use Rattle.theory.specs.Diamonds.{whole, one-whole, one-corner, Across, one, other, runs-differ, thirds-differ, beside}
 use Rattle.theory.specs.SwapBack.{crossed}
 use Rattle.theory.specs.Deciding.{means-ordered}
@@ -54,7 +54,7 @@ module _ {L L′ : List ℕ} {s t s′ t′ a b c d : ℕ} (x : Swapped L s t L�
             let same = previous-numbered L s (x .old .one .runs .side) .same in
             (previous L s, (z .side, z .from ∙ sym (ap (origin L′) e ∙ x .new .other .runs .from)), rw (same, e, x .kept h one-home .0) one-home)
         | inr j ↦
-            let u = counterpart (swapped-back x) q y i j in
+            let u = counterpart (reversed x) q y i j in
             (u .code, (u .runs .side, u .runs .from), sym (u .home h old-home))
       ]
     ]
@@ -133,7 +133,7 @@ module _ {n : ℕ} {L L′ : List ℕ} {s t s′ t′ a b c d : ℕ} (old : Good
         elim i [ inl k ↦ free (u .code) (inr (like (rw k (x .new .one .runs)))) | inr k ↦ free (u .code) (inl (like (rw k (x .new .other .runs)))) ]
       where
         u : Counterpart L′ q L t s
-        u = counterpart (swapped-back x) q w (λ k. j (inl k)) (λ k. j (inr k))
+        u = counterpart (reversed x) q w (λ k. j (inl k)) (λ k. j (inr k))
 
         like : {a b : ℕ} → Runs L′ r a b → Runs L (u .code) a b
         like k =
@@ -160,8 +160,8 @@ module _ {n : ℕ} {L L′ : List ℕ} {s t s′ t′ a b c d : ℕ} (old : Good
         go (inl i) (inr j) = absurd (none-alike r q w z i j)
         go (inr i) (inl j) = absurd (none-alike q r y (means-alike L′ q r .shows (sym (ends .0), sym (ends .1))) j i)
         go (inr i) (inr j) =
-            let u = counterpart (swapped-back x) r y (λ k. i (inl k)) (λ k. i (inr k)) in
-            let v = counterpart (swapped-back x) q w (λ k. j (inl k)) (λ k. j (inr k)) in
+            let u = counterpart (reversed x) r y (λ k. i (inl k)) (λ k. i (inr k)) in
+            let v = counterpart (reversed x) q w (λ k. j (inl k)) (λ k. j (inr k)) in
             let k = u .runs in
             let l = v .runs in
             let same = lone n L old (u .code) (v .code) (k .side) (l .side) (k .from ∙ ends .0 ∙ sym (l .from)) (k .to ∙ ends .1 ∙ sym (l .to)) in
@@ -233,7 +233,7 @@ module _ {n : ℕ} {L L′ : List ℕ} {s t s′ t′ a b c d : ℕ} (old : Good
       -- a border side that begins at v did in the old list, where one ended there, and still does
       leads : (o : List ℕ) → TurnOrder L (partner L) v o → Leads L′ v
       leads o y q (w, e) z =
-          let (u, k, i) = border-there (swapped-back x) (old .pairing) q w z in
+          let (u, k, i) = border-there (reversed x) (old .pairing) q w z in
           let (r, (f, g, h)) = border-leads L (old .pairing) v o y u (k .side, k .from ∙ e) i in
           let (m, l, j) = border-there x p r f g in (m, (l .side, j, rw h at (l .to)))
 
@@ -248,7 +248,7 @@ module _ {n : ℕ} {L L′ : List ℕ} {s t s′ t′ a b c d : ℕ} (old : Good
 
   uncrowded : (crowdedSide L′ ≡ 0) ↔ Unjoined L c d
   uncrowded = (
-    (λ none r k. elim k [ inl y ↦ third-joins (swapped-back (swapped-back x)) (old .fit) none r y | inr y ↦ third-joins x (old .fit) none r y ]),
+    (λ none r k. elim k [ inl y ↦ third-joins (reversed (reversed x)) (old .fit) none r y | inr y ↦ third-joins x (old .fit) none r y ]),
     (λ free. pairing-exists n L′ fit .0 (partner L′, new-pairing free) .0),
   )
 

@@ -2,18 +2,20 @@
 -- Assumes nothing.
 use mathlib.Core.Path.{_≡_, refl, ap, sym, _∙_}
 use mathlib.Core.List.{List}
-use Prim.Native.Nat.{ℕ, _+_, _*_, _-_, _/_, _%_, _≤_, _<_}
+use Prim.Native.Nat.{ℕ, _+_, _*_, _-_, _/_, _≤_, _<_}
 use native.Mathlib.Omega.{arith}
 use lib.Dec.{T}
 use lib.ListN.{length}
 use Rattle.lists.specs.TestLaws.{Means, means-itself, means-both, means-not, means-eq}
 use Rattle.lists.specs.Search.{at}
-use Rattle.rules.specs.Elements.{element, corner, sides, isSide, Side, slot, origin, destination, next}
+use Rattle.rules.specs.Elements.{corner, sides, isSide, Side, slot, origin, destination, next, previous}
 use Rattle.rules.specs.Pairing.{opposed, Element}
 use Rattle.rules.specs.Tables.{partner}
 use Rattle.rules.specs.Swap.{flipped, withRow, swapped, isSwappable}
-use Rattle.theory.specs.Sides.{three, four, SidesBy, sides-by, side-facts}
-use Rattle.theory.specs.Steps.{NextNumber, wraps, grows, next-number, next-numbered}
+use Rattle.theory.specs.Sides.{three, four, SidesBy, sides-by}
+use Rattle.theory.specs.Steps.{next-numbered, next-previous, next-differs}
+use Rattle.theory.specs.Triangles.{next-next}
+use Rattle.theory.specs.Meeting.{element-of}
 use Rattle.theory.specs.FitRows.{Fit}
 use Rattle.theory.specs.Pairings.{means-opposed, partner-opposed}
 use Rattle.theory.specs.Entries.{means-border}
@@ -38,32 +40,13 @@ means-swappable L s =
       shows = λ x. parts .shows (x .side, (x .paired, (x .mine-three, x .other-three)));
     }
 
--- a side that has three sides in its element has 0 for a fourth corner
+-- an element with three sides has 0 for a fourth corner
 three-corners : (L : List ℕ) (f : ℕ) → sides L f ≡ 3 → corner L f 4 ≡ 0
 three-corners L f e = go (sides-by (corner L f 4)) e
   where
     go : {k : ℕ} → SidesBy (corner L f 4) k → k ≡ 3 → corner L f 4 ≡ 0
     go (three z h) i = z
     go (four z h) i = omega arith
-
--- two steps in an element don't come back
-two-steps : (L : List ℕ) (s : ℕ) → Side L s → next L (next L s) ≡ s → ⊥
-two-steps L s a e =
-    let b = next-numbered L s a in
-    let c = next-numbered L (next L s) (b .side) in
-    go (sides-by (corner L (s / 8) 4)) (sides-by (corner L (next L s / 8) 4)) (ap (sides L) (b .same)) (next-number _ _) (next-number _ _) (b .index) (c .index)
-    (ap (λ (x : ℕ). x % 8) e) (side-facts L s a .number-to)
-  where
-    go : {k l i r j q : ℕ} → SidesBy (corner L (s / 8) 4) k → SidesBy (corner L (next L s / 8) 4) l → l ≡ k → NextNumber k i r → NextNumber l j q → j ≡ r →
-        next L (next L s) % 8 ≡ q → next L (next L s) % 8 ≡ i → i ≤ k → ⊥
-    go (three z h) y m (wraps u v) (wraps o p) f g d w = omega arith
-    go (three z h) y m (wraps u v) (grows o p) f g d w = omega arith
-    go (three z h) y m (grows u v) (wraps o p) f g d w = omega arith
-    go (three z h) y m (grows u v) (grows o p) f g d w = omega arith
-    go (four z h) y m (wraps u v) (wraps o p) f g d w = omega arith
-    go (four z h) y m (wraps u v) (grows o p) f g d w = omega arith
-    go (four z h) y m (grows u v) (wraps o p) f g d w = omega arith
-    go (four z h) y m (grows u v) (grows o p) f g d w = omega arith
 
 module _ (n : ℕ) (L : List ℕ) (fit : Fit n L) (s : ℕ) (x : Diagonal L s) where
   abbrev t : ℕ
@@ -85,20 +68,21 @@ module _ (n : ℕ) (L : List ℕ) (fit : Fit n L) (s : ℕ) (x : Diagonal L s) w
   pub ends : destination L s ≡ origin L t
   ends = means-opposed L s t .says (across .1) .1
 
-  -- the partner is in another element: in one triangle, each would follow the other
+  -- the partner is in another element: in one triangle each would follow the other, and the side before s would be s
   pub apart : f ≡ g → ⊥
   apart e =
       let i = next-numbered L s (x .side) in
       let j = next-numbered L t (across .0) in
       let on = fit .differ (next L s) t (i .side) (across .0) (i .same ∙ e) ends in
       let back = fit .differ (next L t) s (j .side) (x .side) (j .same ∙ sym e) (sym starts) in
-      two-steps L s (x .side) (ap (next L) on ∙ back)
+      let same : previous L s ≡ s = sym (next-next L s (x .side) (x .mine-three)) ∙ ap (next L) on ∙ back in
+      next-differs L s (x .side) (sym (ap (next L) same) ∙ next-previous L s (x .side))
 
   pub mine : Element L f
-  mine = let i = side-facts L s (x .side) in (i .element-from, i .element-to)
+  mine = element-of L s (x .side)
 
   pub other : Element L g
-  other = let i = side-facts L t (across .0) in (i .element-from, i .element-to)
+  other = element-of L t (across .0)
 
   -- with any two rows of four in their places, f's first
   module _ (row row′ : List ℕ) (long : length row ≡ 4) (long′ : length row′ ≡ 4) where

@@ -32,7 +32,7 @@ pub data Around (L : List ℕ) (s r : ℕ) : Type 0 where
 
 module _ (L : List ℕ) (s : ℕ) (a : Side L s) (triangle : sides L (s / 8) ≡ 3) where
   -- next counts on from 1 to 3, and previous back
-  next-of-three : next L s ≡ 8 * (s / 8) + (s % 8 % 3 + 1)
+  pub next-of-three : next L s ≡ 8 * (s / 8) + (s % 8 % 3 + 1)
   unfolding next
   next-of-three = go (next-number (sides L (s / 8)) (s % 8))
     where
@@ -40,7 +40,7 @@ module _ (L : List ℕ) (s : ℕ) (a : Side L s) (triangle : sides L (s / 8) ≡
       go (wraps e f) = omega (arith, triangle, side-facts L s a)
       go (grows e f) = omega (arith, triangle, side-facts L s a)
 
-  previous-of-three : previous L s ≡ 8 * (s / 8) + ((s % 8 + 1) % 3 + 1)
+  pub previous-of-three : previous L s ≡ 8 * (s / 8) + ((s % 8 + 1) % 3 + 1)
   unfolding previous
   previous-of-three = go (previous-number (sides L (s / 8)) (s % 8))
     where

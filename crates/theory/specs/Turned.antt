@@ -15,7 +15,8 @@ use Rattle.lists.specs.SearchLaws.{length-tab, at-tab}
 use Rattle.rules.specs.Elements.{sidesBy, sides, Side, nextNumber, origin, next, previous, destination}
 use Rattle.rules.specs.Pairing.{alike, opposed, joins, isCorner, shareSide, meetWell, Element, Conformal, Pairing, Turn, TurnOrder, Accepted}
 use Rattle.theory.specs.Sides.{side-facts, side-positive}
-use Rattle.theory.specs.Steps.{NextNumber, wraps, grows, falls, next-number, previous-number, next-numbered, previous-numbered, next-side}
+use Rattle.theory.specs.Steps.{NextNumber, wraps, grows, next-number, next-numbered, next-side}
+use Rattle.theory.specs.Triangles.{next-of-three, previous-of-three}
 use Rattle.theory.specs.FitRows.{Fit, means-fit}
 use Rattle.theory.specs.Links.{at-corner}
 use Rattle.theory.specs.Meeting.{few, element-of, means-begins, means-share, meet-carried}
@@ -317,16 +318,10 @@ module _ {L : List ℕ} {f g : ℕ} (p : Triangles L f g) where
 -- a row that begins with the side after t, and then has the one before it and t, has the sides of t's triangle turned by t's number
 module _ (L L′ : List ℕ) (e t : ℕ) (b : Side L t) (three : sides L (t / 8) ≡ 3) where
   after : next L t ≡ 8 * (t / 8) + turn (t % 8) 1
-  after =
-      let x = side-facts L t b in
-      let n = next-numbered L t b in
-      elim (next-number (sides L (t / 8)) (t % 8)) [ wraps c d ↦ omega arith | grows c d ↦ omega arith ]
+  after = omega (arith, side-facts L t b, next-of-three L t b three)
 
   before : previous L t ≡ 8 * (t / 8) + turn (t % 8) 2
-  before =
-      let x = side-facts L t b in
-      let n = previous-numbered L t b in
-      elim (previous-number (sides L (t / 8)) (t % 8)) [ wraps c d ↦ omega arith | falls c d ↦ omega arith ]
+  before = omega (arith, side-facts L t b, previous-of-three L t b three)
 
   itself : t ≡ 8 * (t / 8) + turn (t % 8) 3
   itself = let x = side-facts L t b in omega arith

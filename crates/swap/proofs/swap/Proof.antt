@@ -4,14 +4,16 @@ use mathlib.Core.Path.{_≡_, sym, _∙_}
 use mathlib.Core.Bool.{Bool, true}
 use Prim.Native.Nat.{_*_, _-_, _≤_}
 use native.Mathlib.Omega.{arith}
-use lib.ListN.{length}
+use lib.ListN.{length, take}
 use borrow.Author.Tests.{not-true, not-false}
 use Rattle.lists.specs.TestLaws.{means-both, means-le}
 use Rattle.rules.specs.Elements.{maxVertex, maxElement}
-use Rattle.rules.specs.Edits.{Lent, editSizes, editLengths}
+use Rattle.rules.specs.Edits.{Edited, Lent, editSizes, editLengths}
+use Rattle.rules.specs.Swap.{swap}
 use Rattle.theory.specs.Columns.{three-or-four, few-entries}
 use Rattle.edits.specs.Holding.{lentEdit, holds, Held, found-short, found-long}
-use Rattle.swap.specs.Calling.{unsized, unlengthened, checked-at, whole}
+use Rattle.edits.specs.Leaving.{unsized, unlengthened}
+use Rattle.swap.specs.Calling.{checked-at, whole}
 use borrow.Author.Needs.{needs}
 use Rattle.swap.proofs.swap.Statement.{statement}
 use Rattle.swap.proofs.swap.Tie as tie
@@ -21,6 +23,9 @@ begun c = c .before .before .before .before .before .before
 
 abbrev lent : tie.Start → Lent
 lent s = let a = s .args in lentEdit (a .n) (a .m) (a .list .now) (a .v2e .now) (a .e2e .now) (a .b2e .now) (a .work .now)
+
+abbrev edit : tie.Start → Edited
+edit s = swap (s .args .n) (take (4 * s .args .m) (s .args .list .now)) (s .args .code)
 
 -- check 1
 sizes : (c : tie.After-counts-fit) → editSizes (lent (begun c)) ≡ c .counts-fit .result
@@ -75,9 +80,7 @@ refuse-requires c κs = search needs
 returns : tie.Need-returns
 returns c =
     let asked = c .before .before in
-    let a = begun asked .args in
-    unsized (a .n) (a .m) (a .list .now) (a .v2e .now) (a .e2e .now) (a .b2e .now) (a .work .now) (a .code)
-    (sizes asked ∙ not-true _ (c .before .if1 .taken)) (c .refuse .ensures)
+    unsized (lent (begun asked)) (edit (begun asked)) (sizes asked ∙ not-true _ (c .before .if1 .taken)) (c .refuse .ensures)
 
 columns-held-requires : tie.Need-columns-held-requires
 columns-held-requires c κs = within (c .before)
@@ -94,7 +97,8 @@ returns-2 c =
     let one = past found in
     let a = begun (one .before) .args in
     let short = found-short (a .n) (a .m) (a .list .now) _ _ _ (sym (found .columns-held .ensures) ∙ c .before .if2 .taken) in
-    unlengthened (a .n) (a .m) (a .list .now) (a .v2e .now) (a .e2e .now) (a .b2e .now) (a .work .now) (a .code) (sized one) (lengths (lent (begun (one .before))) short) (c .refuse2 .ensures)
+    let start = begun (one .before) in
+    unlengthened (lent start) (edit start) (sized one) (lengths (lent start) short) (c .refuse2 .ensures)
 
 wide-requires : tie.Need-wide-requires
 wide-requires c κs = search needs

@@ -3,17 +3,18 @@
 use mathlib.Core.Path.{_≡_, ap, sym, _∙_}
 use mathlib.Core.Bool.{true}
 use mathlib.Core.List.{_++_}
-use Prim.Native.Nat.{_+_, _*_, _-_}
-use lib.ListN.{drop}
+use Prim.Native.Nat.{ℕ, _+_, _*_, _-_}
+use lib.ListN.{length, drop}
 use borrow.Author.Tests.{not-true, not-false}
 use Rattle.rules.specs.Elements.{elements}
 use Rattle.rules.specs.Refusals.{gives}
-use Rattle.rules.specs.Edits.{isThere}
-use Rattle.rules.specs.Swap.{isSwappable}
+use Rattle.rules.specs.Edits.{Edited, isThere}
+use Rattle.rules.specs.Swap.{isSwappable, swap}
 use Rattle.theory.specs.Swapping.{means-swappable}
 use Rattle.answer.specs.Numbers.{numbers}
 use Rattle.build.specs.Building.{Checked, front-fits, sized, Scratched, scratched}
-use Rattle.swap.specs.Swaps.{gone, unfit, swaps, old-refused, number, tabled, new-refused, to-swap, new-tried, Tabled}
+use Rattle.edits.specs.Leaving.{old-refused, new-refused, new-tried}
+use Rattle.swap.specs.Swaps.{gone, unfit, swaps, number, tabled, to-swap, Tabled}
 use borrow.Author.Needs.{needs}
 use Rattle.swap.proofs.swap_fit.Statement.{statement}
 use Rattle.swap.proofs.swap_fit.Tie as tie
@@ -26,6 +27,13 @@ tabled-at c = c .before .before
 
 abbrev start : tie.After-tabulate → tie.Start
 start c = begun (c .before .before .before)
+
+-- what the edit makes of the list, and the room for B2e
+abbrev edit : tie.Start → Edited
+edit c = let a = c .args in swap (a .n) (a .list .now) (a .code)
+
+abbrev room : tie.Start → ℕ
+room c = length (c .args .b2e .now)
 
 known : (c : tie.Start) → let a = c .args in Checked (a .n) (a .list .now) (a .v2e .now) (a .e2e .now) (a .work .now)
 known c = c .pre .0
@@ -112,7 +120,8 @@ same-length-2 c = search needs
 returns : tie.Need-returns
 returns c =
     let done = tabled-at (c .before .before) in
-    (old-refused (scratch done) (start done .args .code) (start done .args .b2e .now) (ap numbers (c .enum-told .given .1)), scratch done .long)
+    let a = start done .args in
+    (old-refused (a .n) (a .list .now) (edit (start done)) (room (start done)) (scratch done .stated) (ap numbers (c .enum-told .given .1)), scratch done .long)
 
 is-there-requires : tie.Need-is-there-requires
 is-there-requires c κs = let (x, y, g) = old (c .before) in number x y g
@@ -131,7 +140,7 @@ returns-2 c =
     let asked = c .before .before in
     let (x, y, g) = old (counted asked) in
     let a = begin asked .args in
-    (new-refused y (a .code) (a .b2e .now) g (gone (a .n) (a .list .now) (a .code) (sym (asked .is-there .ensures) ∙ not-true _ (c .before .if1 .taken))) (c .refuse .ensures), y .long)
+    (new-refused (a .n) (a .list .now) (edit (begin asked)) (room (begin asked)) (y .stated) g (gone (a .n) (a .list .now) (a .code) (sym (asked .is-there .ensures) ∙ not-true _ (c .before .if1 .taken))) (c .refuse .ensures), y .long)
 
 is-swappable-requires : tie.Need-is-swappable-requires
 is-swappable-requires c κs = tables (c .before .before)
@@ -152,7 +161,7 @@ returns-3 c =
     let (x, y, g) = old (counted (one .before)) in
     let a = begin (one .before) .args in
     let f = unfit (a .n) (a .list .now) (a .code) (there one) (sym (asked .is-swappable .ensures) ∙ not-true _ (c .before .if2 .taken)) in
-    (new-refused y (a .code) (a .b2e .now) g f (c .refuse2 .ensures), y .long)
+    (new-refused (a .n) (a .list .now) (edit (begin (one .before))) (room (begin (one .before))) (y .stated) g f (c .refuse2 .ensures), y .long)
 
 entry-of-requires : tie.Need-entry-of-requires
 entry-of-requires c κs =
@@ -192,7 +201,8 @@ returns-4 c =
     let (x, y, g) = old (counted (one .before)) in
     let a = begin (one .before) .args in
     let (left, long) = done .swap-rows .ensures in
-    (new-tried y (a .code) (a .b2e .now) g (swaps (a .n) (a .list .now) (a .code) (there one) (fit two)) left, long ∙ y .long)
+    let b = begin (one .before) in
+    (new-tried (a .n) (a .list .now) (edit b) (room b) (y .stated) g (swaps (a .n) (a .list .now) (a .code) (there one) (fit two)) left, long ∙ y .long)
 
 pub swap-fit-spec : {M : Type 1} → statement M
 swap-fit-spec =

@@ -7,8 +7,8 @@ use crate::{Counts, HalfEdge, Mesh, Refusal, Tables};
 /// lent by [`OwnedMesh::mesh`] and [`OwnedMesh::tables`] has to be given back before the next edit, so none of it can be
 /// out of date.
 ///
-/// An edit judges the whole list, before and after, so its time is linear in n + m, as that of building is. It takes no
-/// memory.
+/// An edit judges the whole list, before and after, so its time is linear in n + m, as that of building is. It allocates
+/// nothing.
 ///
 /// ```
 /// use borzhanu::{HalfEdge, OwnedMesh};
