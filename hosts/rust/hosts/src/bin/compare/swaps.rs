@@ -320,7 +320,9 @@ impl Run {
         assert_eq!(self.owned.mesh().elements(), self.edited.list(), "owned, code {code}");
         let Left { elements, v2e, e2e, b2e, .. } = &want.left;
         let written = [elements, v2e, e2e, b2e];
-        for (((owned, before), lent), written) in buffers(&self.owned).into_iter().zip(buffers(&before)).zip(&self.lent).zip(written) {
+        for (((owned, before), lent), written) in
+            buffers(&self.owned).into_iter().zip(buffers(&before)).zip(&self.lent).zip(written)
+        {
             assert_eq!(owned, written.as_deref().unwrap_or(before), "owned, code {code}");
             assert_eq!(*lent, [owned, &PAST].concat(), "lent and owned, code {code}");
         }
