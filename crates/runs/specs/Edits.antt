@@ -16,7 +16,7 @@ use Rattle.rules.specs.Elements.{maxVertex, maxElement, elements}
 use Rattle.rules.specs.Pairing.{Accepted, sizesFit}
 use Rattle.rules.specs.Tables.{borders, b2e, columns, e2e, v2e, edges}
 use Rattle.rules.specs.Recovery.{HasTables}
-use Rattle.rules.specs.Refusals.{Answer, gives, refused, Buffers, buildLengths, listAnswer, lengthChecks, roomCheck, after, onto, workAfter, buildAnswer}
+use Rattle.rules.specs.Refusals.{Answer, gives, refused, Buffers, buildLengths, listAnswer, lengthChecks, roomCheck, after, workAfter, buildAnswer}
 use Rattle.rules.specs.Refusals.{recoverAnswer, recoverList, recoverWork}
 use Rattle.rules.specs.Queries.{Mesh}
 use Rattle.rules.specs.Edits.{Edited, becomes, refuses, Lent, withWork, overOld, held, onceAccepted, newAnswer, editSizes, editLengths, editAnswer, written, editLeaves}
@@ -51,6 +51,7 @@ unfolding buildAnswer lengthChecks
 build-tried n L u b u′ run sizes lengths =
     run .answer ∙ rw (true-of (sizesFit n L) sizes, true-of (buildLengths n L u) lengths, lengthChecks) refl
 
+-- a refusal other than 9 is that of the list
 pub not-by-room : (room : ℕ) (a : Answer) {r p q : ℕ} → roomCheck room a ≡ refused r p q → (r ≡ 9 → ⊥) → a ≡ refused r p q
 unfolding roomCheck
 not-by-room room (refused r p q) e d = e

@@ -1,15 +1,13 @@
 -- The whole call, in buffers that may be longer than what they hold.
 -- Assumes nothing.
 use mathlib.Core.Path.{_≡_, refl, ap, sym, _∙_}
-use mathlib.Core.Bool.{true, false}
+use mathlib.Core.Bool.{true}
 use mathlib.Core.List.{List, _++_}
 use Prim.Native.Nat.{ℕ, _+_, _*_, _≤_}
 use native.Mathlib.Omega.{arith}
-use lib.Dec.{T}
 use lib.ListN.{length, take, drop, replicate, take-append-drop}
 use lib.Seq.{length-take-le, take-all}
 use Rattle.rules.specs.Elements.{maxVertex, maxElement, elements}
-use Rattle.rules.specs.Pairing.{sizesFit}
 use Rattle.rules.specs.Tables.{columns, v2e, e2e, b2e}
 use Rattle.rules.specs.Refusals.{Answer, gives, refused, listAnswer, after, onto}
 use Rattle.rules.specs.Edits.{Edited, becomes, refuses, Lent, overOld, onceAccepted, newAnswer, editSizes, editLengths, editAnswer, written, editLeaves}

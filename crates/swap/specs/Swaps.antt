@@ -16,7 +16,7 @@ use Rattle.lists.specs.Parts.{part, at-part}
 use Rattle.rules.specs.Elements.{maxVertex, maxElement, elements, row, sides, isSide, Side, slot, origin, previousNumber, previous}
 use Rattle.rules.specs.Tables.{partner, isBorder, borders, columns, wide, v2e, e2e}
 use Rattle.rules.specs.Refusals.{Answer, gives, refused, listAnswer, roomCheck, after, onto}
-use Rattle.rules.specs.Edits.{becomes, refuses, Lent, overOld, written, isThere}
+use Rattle.rules.specs.Edits.{becomes, refuses, overOld, written, isThere}
 use Rattle.rules.specs.Swap.{third, flipped, withRow, swapped, isSwappable, swap}
 use Rattle.theory.specs.Sides.{side-facts, slot-below}
 use Rattle.theory.specs.Steps.{previous-numbered}
