@@ -7,7 +7,7 @@ use mathlib.Core.List.{List, [], _∷_, _++_}
 use Prim.Native.Nat.{ℕ, zero, suc, _+_, _≤_, _<_}
 use native.Mathlib.Omega.{arith}
 use lib.Dec.{T, ltb, eqb, T-not, nltb→le}
-use lib.ListN.{length, set, replicate, length-append, length-set, List·getD-append}
+use lib.ListN.{length, set, replicate, length-append, length-set, length-replicate, List·getD-append}
 use lib.Seq.{getD-at, getD-set-same, getD-set-other, ext-getD}
 use Rattle.lists.specs.TestLaws.{Test, pass, fail, test, true-of, false-of, Means, means-lt, means-eq, means-not, means-either, decide}
 use Rattle.lists.specs.Tests.{has}
@@ -166,6 +166,34 @@ count-gap p a b h f =
     f i (le-not-lt a i (λ m. omega (arith, count-lt p i a m t))) k t) in
     omega arith
 
+-- all places pass
+count-all : (p : ℕ → Bool) (n : ℕ) → ((i : ℕ) → i < n → T (p i)) → count p n ≡ n
+count-all p zero f = omega (arith, count-bound p zero)
+count-all p (suc n) f = count-pass p n (f n (omega arith)) ∙ ap suc (count-all p n (λ i h. f i (omega arith)))
+
+-- where every place passes one of two tests, and they count no more than the places, none passes both
+module _ (p q : ℕ → Bool) where
+  count-cover : (n : ℕ) → ((i : ℕ) → i < n → T (p i) ⊎ T (q i)) → n ≤ count p n + count q n
+  count-cover zero f = omega arith
+  count-cover (suc n) f = go (f n (omega arith)) (count-cover n (λ i h. f i (omega arith)))
+    where
+      go : T (p n) ⊎ T (q n) → n ≤ count p n + count q n → suc n ≤ count p (suc n) + count q (suc n)
+      go (inl t) r = omega (arith, r, count-pass p n t, count-le q n (suc n) (omega arith))
+      go (inr t) r = omega (arith, r, count-pass q n t, count-le p n (suc n) (omega arith))
+
+  pub count-apart : (n : ℕ) → ((i : ℕ) → i < n → T (p i) ⊎ T (q i)) → count p n + count q n ≤ n → (i : ℕ) → i < n → T (p i) → T (q i) → ⊥
+  count-apart (suc n) f e i h t u =
+      go (lt-or-eq i n h) (count-cover n below) (λ l k. count-apart n below l i k t u) (f n (omega arith))
+    where
+      below : (i : ℕ) → i < n → T (p i) ⊎ T (q i)
+      below i h = f i (omega arith)
+
+      go : (i < n) ⊎ (i ≡ n) → n ≤ count p n + count q n → (count p n + count q n ≤ n → i < n → ⊥) → T (p n) ⊎ T (q n) → ⊥
+      go (inr z) r rest s = omega (arith, count-pass p n (rw z at t), count-pass q n (rw z at u))
+      go (inl k) r rest (inl s) = rest (omega (arith, count-pass p n s, count-le q n (suc n) (omega arith))) k
+      go (inl k) r rest (inr s) = rest (omega (arith, count-pass q n s, count-le p n (suc n) (omega arith))) k
+  count-apart zero f e i h t u = omega arith
+
 -- tests that agree below n count alike and list alike
 pub count-same : (p q : ℕ → Bool) (n : ℕ) → ((i : ℕ) → i < n → p i ≡ q i) → count p n ≡ count q n
 unfolding count
@@ -281,3 +309,9 @@ pub at-blank : (n i : ℕ) → at (replicate n 0) i ≡ 0
 at-blank zero i = refl
 at-blank (suc n) zero = refl
 at-blank (suc n) (suc i) = at-blank n i
+
+pub zeros-blank : (k : ℕ) → zeros (replicate k 0) ≡ k
+unfolding zeros
+zeros-blank k =
+    rw (length-replicate {A = ℕ} k 0)
+    (count-all (λ i. eqb (at (replicate k 0) i) 0) k (λ i h. means-eq (at (replicate k 0) i) 0 .shows (at-blank k i)))

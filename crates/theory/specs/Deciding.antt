@@ -60,7 +60,7 @@ module _ (n : ℕ) (L : List ℕ) where
       go (inr d) = absurd (T-not (missed L W v) t (means-missed W v .shows (λ f. d (f s (a, o)))))
 
   -- check 8 finds nothing exactly when the walk writes every side
-  means-covered : Means (eqb (unorderedVertex n L) 0) ((v : ℕ) → 1 ≤ v → v ≤ n → Covered L (walk (v2e n L) (wide L)) v)
+  pub means-covered : Means (eqb (unorderedVertex n L) 0) ((v : ℕ) → 1 ≤ v → v ≤ n → Covered L (walk (v2e n L) (wide L)) v)
   unfolding unorderedVertex
   means-covered =
       let W = walk (v2e n L) (wide L) in

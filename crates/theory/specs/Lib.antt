@@ -26,6 +26,7 @@ pub mod Walking
 pub mod Spreading
 pub mod Covering
 pub mod Deciding
+pub mod Counting
 pub mod Described
 pub mod Answers
 pub mod SwapRefusals

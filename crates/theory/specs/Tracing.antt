@@ -2,7 +2,7 @@
 -- Assumes nothing.
 use mathlib.Core.Path.{_≡_, refl, ap, sym, _∙_}
 use mathlib.Core.List.{List, [], _∷_}
-use Prim.Native.Nat.{ℕ, zero, suc, _-_, _<_}
+use Prim.Native.Nat.{ℕ, zero, suc, _+_, _-_, _<_}
 use native.Mathlib.Omega.{arith}
 use lib.Dec.{eqb, T-not}
 use lib.ListN.{length, set, length-set, length-replicate}
@@ -28,6 +28,7 @@ pub record Path (E : List ℕ) (v s : ℕ) (W o W′ : List ℕ) (f : ℕ) : Typ
   pub stopped : Side E f → at W′ (slot f) ≡ 0 → ⊥
   pub written : (i : ℕ) → i < length o → at W′ (slot (at o i)) ≡ v
   pub kept : (q : ℕ) → ((i : ℕ) → i < length o → slot (at o i) ≡ q → ⊥) → at W′ q ≡ at W q
+  pub filled : length o + zeros W′ ≡ zeros W
 
 module _ (E : List ℕ) (v : ℕ) (positive : v ≡ 0 → ⊥) where
   none : (s : ℕ) (W : List ℕ) → (Side E s → at W (slot s) ≡ 0 → ⊥) → Path E v s W [] W s
@@ -44,6 +45,7 @@ module _ (E : List ℕ) (v : ℕ) (positive : v ≡ 0 → ⊥) where
         stopped = h;
         written = λ i l. absurd (omega arith);
         kept = λ q g. refl;
+        filled = omega arith;
       }
 
   module _ (s : ℕ) (W : List ℕ) (a : Side E s) (l : slot s < length W) (z : at W (slot s) ≡ 0) (o W′ : List ℕ) (f : ℕ) (x : Path E v (turnBy E s) (set W (slot s) v) o W′ f) where
@@ -91,6 +93,7 @@ module _ (E : List ℕ) (v : ℕ) (positive : v ≡ 0 → ⊥) where
           kept = λ q g.
               x .kept q (λ i h. g (suc i) (omega arith))
               ∙ getD-set-other W (slot s) q v 0 (λ e. g 0 (omega arith) (sym e));
+          filled = omega (arith, x .filled, zeros-set W (slot s) v l z positive);
         }
 
   -- the empty places are enough for the trace to stop by itself

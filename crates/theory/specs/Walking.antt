@@ -3,7 +3,7 @@
 use mathlib.Core.Path.{_≡_, refl, ap, sym, _∙_}
 use mathlib.Core.Logic.{_⊎_, inl, inr}
 use mathlib.Core.List.{List}
-use Prim.Native.Nat.{ℕ, zero, suc, _-_, _≤_, _<_}
+use Prim.Native.Nat.{ℕ, zero, suc, _+_, _-_, _≤_, _<_}
 use native.Mathlib.Omega.{arith}
 use lib.ListN.{length, length-replicate}
 use Rattle.lists.specs.TestLaws.{zero-or}
@@ -168,6 +168,9 @@ module _ (n : ℕ) (L : List ℕ) (p : Pairing L (partner L)) where
             )
         go u a (inr h) = rw h (o, rw e at fan, x .written, met-or-empty)
 
+  start-after : (v : ℕ) → v < n → Start L (suc v) (walkStart (wide L) (at (v2e n L) v))
+  start-after v h = let e : suc v - 1 ≡ v = omega arith in rw e at (start-at n L (suc v) (omega arith) h)
+
   walked : (v : ℕ) → v ≤ n → Walked n L v (walkTo (v2e n L) (wide L) v)
   unfolding walkTo
   walked zero h =
@@ -181,10 +184,20 @@ module _ (n : ℕ) (L : List ℕ) (p : Pairing L (partner L)) where
       let W = walkTo (v2e n L) (wide L) v in
       let k = walked v (omega arith) in
       let c = walkStart (wide L) (at (v2e n L) v) in
-      let e : suc v - 1 ≡ v = omega arith in
-      let start : Start L (suc v) c = rw e at (start-at n L (suc v) (omega arith) h) in
       let (o, f, x) = traced (wide L) (suc v) (λ z. omega arith) (zeros W) c W refl (k .long) in
-      walked-more v W k c start o (trace (zeros W) (wide L) (suc v) c W) f x (ap (λ (i : ℕ). walkStart (wide L) (at (v2e n L) i)) (sym e))
+      let e : v ≡ suc v - 1 = omega arith in
+      walked-more v W k c (start-after v h) o (trace (zeros W) (wide L) (suc v) c W) f x (ap (λ (i : ℕ). walkStart (wide L) (at (v2e n L) i)) e)
+
+  -- the walk about the vertex after v meets a fan, and fills as many places
+  pub fan-after : (v : ℕ) → v < n
+      → (o : List ℕ)
+      × Fan L (suc v) (walkStart (wide L) (at (v2e n L) v)) o
+      × (length o + zeros (walkTo (v2e n L) (wide L) (suc v)) ≡ zeros (walkTo (v2e n L) (wide L) v))
+  unfolding walkTo
+  fan-after v h =
+      let k = walked v (omega arith) in
+      let (o, f, x) = traced (wide L) (suc v) (λ z. omega arith) _ (walkStart (wide L) (at (v2e n L) v)) _ refl (k .long) in
+      (o, fan v _ k _ (start-after v h) o _ f x, x .filled)
 
   -- after the whole walk
   pub walk-walked : Walked n L n (walk (v2e n L) (wide L))

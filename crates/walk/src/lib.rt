@@ -34,7 +34,7 @@ fn turn(e2e: &[u32], s: u32) -> Step
 }
 
 // The side where the walk about v begins; 0 where there is none.
-fn start(n: usize, m: usize, work: &[u32], v: usize) -> u32
+pub fn start(n: usize, m: usize, work: &[u32], v: usize) -> u32
     requires { ⌜ Sizes n m (now work) × Linked n m (now work) × (1 ≤ v) × (v ≤ n) ⌝ }
     ensures { λ r. ⌜ r ≡ walkStart (e2eIn n m (now (work .entry))) (at (now (work .entry)) (v - 1)) ⌝ }
 {

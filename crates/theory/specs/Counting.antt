@@ -1,0 +1,106 @@
+-- Check 8 by counting: about each vertex the walk over a list's own tables meets different sides, so where it meets as many as there are, it
+-- meets them all, and every vertex has a turn order.
+-- Assumes nothing.
+use mathlib.Core.Path.{_≡_, refl, ap, sym, subst, _∙_}
+use mathlib.Core.Bool.{Bool, true}
+use mathlib.Core.Logic.{_⊎_, inl, inr}
+use mathlib.Core.List.{List}
+use Prim.Native.Nat.{ℕ, suc, _+_, _*_, _-_, _≤_, _<_}
+use native.Mathlib.Omega.{arith}
+use lib.Dec.{T, eqb, T-not}
+use lib.ListN.{length}
+use Rattle.lists.specs.TestLaws.{Test, pass, fail, test, zero-or, both-pass, means-eq}
+use Rattle.lists.specs.Search.{at, count, zeros}
+use Rattle.lists.specs.SearchLaws.{count-apart, lt-or-eq}
+use Rattle.rules.specs.Elements.{elements, isSide, Side, slot, origin, next, sideAt, sideWith, countSides}
+use Rattle.rules.specs.Pairing.{Pairing, Turn, SideAt}
+use Rattle.rules.specs.Tables.{partner, wide, v2e}
+use Rattle.rules.specs.Recovery.{turnBy, walkTo, walk}
+use Rattle.rules.specs.Refusals.{unorderedVertex}
+use Rattle.theory.specs.Sides.{side-positive, sideAt-slot, slot-below}
+use Rattle.theory.specs.Entries.{length-wide, length-v2e}
+use Rattle.theory.specs.Turns.{turn-paired, turn-border}
+use Rattle.theory.specs.Walking.{Fan, Walked, walk-walked}
+use Rattle.theory.specs.Spreading.{last-turn}
+use Rattle.theory.specs.Covering.{Covered}
+use Rattle.theory.specs.Deciding.{means-covered}
+
+module _ (n : ℕ) (L : List ℕ) (p : Pairing L (partner L)) where
+  -- at side i of a fan: it is the last where it has no turn or its turn is the start; else its turn is the next one
+  module _ {v c : ℕ} {o : List ℕ} (f : Fan L v c o) (i : ℕ) (h : i < length o) where
+    is-side : Side L (at o i)
+    is-side = f .sides i h .0
+
+    pub ends-over : turnBy (wide L) (at o i) ≡ 0 → suc i ≡ length o
+    ends-over e = go (lt-or-eq (suc i) (length o) (omega arith))
+      where
+        go : (suc i < length o) ⊎ (suc i ≡ length o) → suc i ≡ length o
+        go (inr q) = q
+        go (inl l) =
+            let (z, t) = f .turns i l in
+            absurd (side-positive L (at o (suc i)) (f .sides (suc i) l .0) (sym t ∙ sym (turn-paired L (at o i) is-side z) ∙ e))
+
+    module _ (turns : turnBy (wide L) (at o i) ≡ 0 → ⊥) where
+      paired : partner L (at o i) ≡ 0 → ⊥
+      paired z = turns (turn-border L (at o i) is-side z)
+
+      its-turn : Turn L (partner L) (at o i) (turnBy (wide L) (at o i))
+      its-turn = (paired, sym (turn-paired L (at o i) is-side paired))
+
+      pub ends-back : turnBy (wide L) (at o i) ≡ c → suc i ≡ length o
+      ends-back e = go (lt-or-eq (suc i) (length o) (omega arith))
+        where
+          go : (suc i < length o) ⊎ (suc i ≡ length o) → suc i ≡ length o
+          go (inr q) = q
+          go (inl l) =
+              let same : at o (suc i) ≡ at o 0 = sym (f .turns i l .1) ∙ its-turn .1 ∙ e ∙ sym (f .first (omega arith)) in
+              absurd (omega (arith, f .once (suc i) 0 l (omega arith) same))
+
+      pub goes-on : (turnBy (wide L) (at o i) ≡ c → ⊥) → (suc i < length o) × (turnBy (wide L) (at o i) ≡ at o (suc i))
+      goes-on d = go (lt-or-eq (suc i) (length o) (omega arith))
+        where
+          last : suc i ≡ length o → ⊥
+          last q =
+              let e : length o - 1 ≡ i = omega arith in
+              elim (f .last (omega arith))
+              [ inl z ↦ paired (ap (λ (k : ℕ). partner L (at o k)) (sym e) ∙ z)
+              | inr (j, k, t) ↦
+                  let (x, y) = subst (λ (k : ℕ). Turn L (partner L) (at o k) (at o 0)) e (last-turn L p v c o f j k t) in
+                  d (sym (its-turn .1) ∙ y ∙ f .first (omega arith))
+              ]
+
+          go : (suc i < length o) ⊎ (suc i ≡ length o) → (suc i < length o) × (turnBy (wide L) (at o i) ≡ at o (suc i))
+          go (inl l) = (l, sym (its-turn .1) ∙ f .turns i l .1)
+          go (inr q) = absurd (last q)
+
+  -- as many places are written as there are sides: all of them
+  module _ (fours : length L ≡ 4 * elements L) (all : countSides L (λ s. true) + zeros (walk (v2e n L) (wide L)) ≡ 4 * elements L) where
+    abbrev W : List ℕ
+    W = walk (v2e n L) (wide L)
+
+    abbrev known : Walked n L n W
+    known = walk-walked n L p
+
+    written : (s : ℕ) → Side L s → at W (slot s) ≡ 0 → ⊥
+    unfolding countSides zeros
+    written s a z =
+        let no-more : count (sideWith L (λ s. true)) (length L) + count (λ i. eqb (at W i) 0) (length L) ≤ length L =
+        omega (arith, fours, all, ap (count (λ i. eqb (at W i) 0)) (known .long ∙ length-wide L ∙ sym fours)) in
+        count-apart (sideWith L (λ s. true)) (λ i. eqb (at W i) 0) (length L) either no-more (slot s) (slot-below L s a)
+        (both-pass (isSide L (sideAt (slot s))) true (rw (sideAt-slot L s a) a) tt) (means-eq (at W (slot s)) 0 .shows z)
+      where
+        either : (i : ℕ) → i < length L → T (sideWith L (λ s. true) i) ⊎ T (eqb (at W i) 0)
+        either i h = go (test (isSide L (sideAt i)))
+          where
+            go : Test (isSide L (sideAt i)) → T (sideWith L (λ s. true) i) ⊎ T (eqb (at W i) 0)
+            go (pass t e) = inl (both-pass (isSide L (sideAt i)) true t tt)
+            go (fail t e) = inr (means-eq (at W i) 0 .shows (known .outside i (λ s a q. absurd (T-not (isSide L (sideAt i)) t (rw (ap sideAt (sym q) ∙ sideAt-slot L s a) a)))))
+
+    covered : (v : ℕ) → 1 ≤ v → v ≤ n → Covered L W v
+    covered v a b s (x, e) =
+        let (o, f, sets, reached) = known .fans v a b in
+        elim (reached s (x, e))
+        [ inl z ↦ absurd (written s x z) | inr (i, h, q) ↦ subst (λ (t : ℕ). at W (slot t) ≡ v) q (sets i h) ]
+
+    pub counted-ordered : unorderedVertex n L ≡ 0
+    counted-ordered = means-eq (unorderedVertex n L) 0 .says (means-covered n L .shows covered)
