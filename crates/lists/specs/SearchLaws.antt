@@ -171,7 +171,7 @@ count-all : (p : ℕ → Bool) (n : ℕ) → ((i : ℕ) → i < n → T (p i)) �
 count-all p zero f = omega (arith, count-bound p zero)
 count-all p (suc n) f = count-pass p n (f n (omega arith)) ∙ ap suc (count-all p n (λ i h. f i (omega arith)))
 
--- where every place passes one of two tests, and they count no more than the places, none passes both
+-- where every place passes one of two tests, they count no more than the places exactly where none passes both
 module _ (p q : ℕ → Bool) where
   count-cover : (n : ℕ) → ((i : ℕ) → i < n → T (p i) ⊎ T (q i)) → n ≤ count p n + count q n
   count-cover zero f = omega arith
@@ -193,6 +193,18 @@ module _ (p q : ℕ → Bool) where
       go (inl k) r rest (inl s) = rest (omega (arith, count-pass p n s, count-le q n (suc n) (omega arith))) k
       go (inl k) r rest (inr s) = rest (omega (arith, count-pass q n s, count-le p n (suc n) (omega arith))) k
   count-apart zero f e i h t u = omega arith
+
+  pub count-parts : (n : ℕ) → ((i : ℕ) → i < n → T (p i) ⊎ T (q i)) → ((i : ℕ) → i < n → T (p i) → T (q i) → ⊥) → count p n + count q n ≡ n
+  unfolding count
+  count-parts zero f g = refl
+  count-parts (suc n) f g = go (test (p n)) (test (q n)) (f n (omega arith)) (count-parts n (λ i h. f i (omega arith)) (λ i h. g i (omega arith)))
+    where
+      go : Test (p n) → Test (q n) → T (p n) ⊎ T (q n) → count p n + count q n ≡ n → count p (suc n) + count q (suc n) ≡ suc n
+      go (pass t a) (pass u b) r h = absurd (g n (omega arith) t u)
+      go (pass t a) (fail u b) r h = omega (arith, count-pass p n t, count-fail q n u, h)
+      go (fail t a) (pass u b) r h = omega (arith, count-fail p n t, count-pass q n u, h)
+      go (fail t a) (fail u b) (inl x) h = absurd (T-not (p n) t x)
+      go (fail t a) (fail u b) (inr x) h = absurd (T-not (q n) u x)
 
 -- tests that agree below n count alike and list alike
 pub count-same : (p q : ℕ → Bool) (n : ℕ) → ((i : ℕ) → i < n → p i ≡ q i) → count p n ≡ count q n

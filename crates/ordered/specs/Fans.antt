@@ -9,7 +9,7 @@ use native.Mathlib.Omega.{arith}
 use lib.Dec.{eqb, not-T}
 use lib.ListN.{length}
 use lib.Seq.{getD-take}
-use Rattle.lists.specs.TestLaws.{true-of, false-of, zero-or}
+use Rattle.lists.specs.TestLaws.{true-of, false-of, zero-or, Means, means-eq}
 use Rattle.lists.specs.Search.{at, zeros}
 use Rattle.lists.specs.SearchLaws.{zeros-blank}
 use Rattle.lists.specs.Parts.{part}
@@ -24,7 +24,7 @@ use Rattle.theory.specs.Pairings.{partner-opposed}
 use Rattle.theory.specs.Entries.{wide-paired, wide-border, length-wide, length-v2e}
 use Rattle.theory.specs.Turns.{wide-side}
 use Rattle.theory.specs.Walking.{Start, after, side, nowhere, start-at, Fan, fan-after}
-use Rattle.theory.specs.Counting.{ends-over, ends-back, goes-on, counted-ordered}
+use Rattle.theory.specs.Counting.{ends-over, ends-back, goes-on, counted-ordered, ordered-counted}
 use Rattle.halfedge.specs.Codes.{of-border, of-side}
 use Rattle.walk.specs.Layout.{e2eIn}
 use Rattle.walk.specs.Sides.{lent, turn-none, turn-next}
@@ -167,8 +167,13 @@ pub none-met : (n : ℕ) (L : List ℕ) → MetBy n L 0 0
 unfolding walkTo
 none-met n L = record { all = omega (arith, zeros-blank (length (wide L)), length-wide L) }
 
--- as many as there are: every vertex has a turn order
-pub all-met : {n : ℕ} {L w : List ℕ} {met : ℕ} → Standing n L w → MetBy n L n met → met ≡ countSides L (λ s. true) → unorderedVertex n L ≡ 0
+-- as many as there are exactly where every vertex has a turn order
+pub means-all-met : {n : ℕ} {L w : List ℕ} {met sides : ℕ} → Standing n L w → sides ≡ countSides L (λ s. true) → MetBy n L n met → Means (eqb met sides) (unorderedVertex n L ≡ 0)
 unfolding walk
-all-met {n} {L} k x e =
-    counted-ordered n L (k .pairing) (k .fit .fours) (rw (length-v2e L n) (omega (arith, x .all, e)))
+means-all-met {n} {L} {met = met} {sides} k q x =
+    let p = k .pairing in
+    let walked = ap (λ (v : ℕ). zeros (walkTo (v2e n L) (wide L) v)) (length-v2e L n) in
+    record {
+      says = λ t. counted-ordered n L p (k .fit) (omega (arith, means-eq met sides .says t, x .all, q, walked));
+      shows = λ z. means-eq met sides .shows (omega (arith, ordered-counted n L p (k .fit) z, x .all, q, walked));
+    }

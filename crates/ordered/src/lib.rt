@@ -1,8 +1,9 @@
-// Check 8, decided: the walk over a list's own tables meets as many sides as there are exactly where every vertex has a turn order. It needs
-// to be told only how many. Where it doesn't meet them all, the crates walk and unordered find the least vertex that is to blame.
+// Check 8, decided: the walk over a list's own tables meets as many sides as there are exactly where every vertex has a turn order. So it is
+// enough to count, and nothing is written. Where there are fewer, the crates walk and unordered find the least vertex that has none.
 ghost use mathlib.Core.Bool.{true};
 ghost use mathlib.Core.Path.{_≡_};
 ghost use Prim.Native.Nat.{_-_, _≤_};
+ghost use Rattle.lists.specs.TestLaws.{Means};
 ghost use Rattle.rules.specs.Elements.{countSides};
 ghost use Rattle.rules.specs.Recovery.{turnBy};
 ghost use Rattle.rules.specs.Refusals.{unorderedVertex};
@@ -52,7 +53,7 @@ fn count_about(n: usize, list: &[u32], work: &[u32], v: usize, met: u32) -> u32
 // Whether the walk meets all the sides, told how many there are.
 pub fn is_ordered(n: usize, list: &[u32], work: &[u32], sides: u32) -> bool
     requires { ⌜ Standing n (now list) (now work) × (sides ≡ countSides (now list) (λ s. true)) ⌝ }
-    ensures { λ r. ⌜ (r ≡ true → unorderedVertex n (now (list .entry)) ≡ 0) ⌝ }
+    ensures { λ r. ⌜ Means r (unorderedVertex n (now (list .entry)) ≡ 0) ⌝ }
 {
     let mut met = 0;
     let mut v = 0;

@@ -70,6 +70,17 @@ refused-here x i j k r p q rest g = elim (zero-or x) [
   | inr d ↦ let h = check-refuses x (refused i j k) rest d in let e : r ≡ i = cc in inl e
 ]
 
+pub gives-refused : {k e r p q : ℕ} → gives k e ≡ refused r p q → ⊥
+gives-refused f = let z : _≡_ {A = ℕ} 0 1 = cc in omega arith
+
+-- what a check refuses before one rest it refuses before another
+pub still-refused : (x : ℕ) (refusal a b : Answer) {r p q : ℕ} → checkFound x refusal a ≡ refused r p q → (a ≡ refused r p q → b ≡ refused r p q)
+    → checkFound x refusal b ≡ refused r p q
+still-refused x refusal a b g f = elim (zero-or x) [
+  | inl z ↦ check-clear x refusal b z ∙ f (sym (check-clear x refusal a z) ∙ g)
+  | inr d ↦ check-refuses x refusal b d ∙ sym (check-refuses x refusal a d) ∙ g
+]
+
 -- checks 3 and 4: what they say by themselves they say before any later check
 module _ (n : ℕ) (L : List ℕ) where
   pub rows-clear : (rest : Answer) → unfitCorner n L ≡ 0 → repeatedCorner L ≡ 0 → rowChecks n L rest ≡ rest
@@ -90,13 +101,7 @@ module _ (n : ℕ) (L : List ℕ) where
       (both-pass (eqb (unfitCorner n L) 0) (eqb (repeatedCorner L) 0) (means-eq _ 0 .shows x) (means-eq _ 0 .shows y)))
 
   pub rows-refused : {r p q : ℕ} (rest : Answer) → rowChecks n L (gives 0 0) ≡ refused r p q → rowChecks n L rest ≡ refused r p q
-  rows-refused {r} {p} {q} rest g = go (zero-or (unfitCorner n L)) (zero-or (repeatedCorner L))
-    where
-      go : (unfitCorner n L ≡ 0) ⊎ (unfitCorner n L ≡ 0 → ⊥) → (repeatedCorner L ≡ 0) ⊎ (repeatedCorner L ≡ 0 → ⊥) → rowChecks n L rest ≡ refused r p q
-      go (inr d) y = check-refuses _ _ _ d ∙ sym (check-refuses _ _ _ d) ∙ g
-      go (inl x) (inr d) = check-clear _ _ _ x ∙ check-refuses _ _ _ d ∙ sym (check-clear _ _ _ x ∙ check-refuses _ _ _ d) ∙ g
-      go (inl x) (inl y) =
-          let f = sym (rows-clear (gives 0 0) x y) ∙ g in let z : _≡_ {A = ℕ} 0 1 = cc in absurd (omega arith)
+  rows-refused rest g = still-refused _ _ _ _ g (λ h. still-refused _ _ _ _ h (λ i. absurd (gives-refused i)))
 
 -- one of the refusals 6 to 8 and 18
 abbrev pub LateNumber : ℕ → Type 0

@@ -1,5 +1,5 @@
--- Check 8 by counting: about each vertex the walk over a list's own tables meets different sides, so where it meets as many as there are, it
--- meets them all, and every vertex has a turn order.
+-- Check 8 by counting: about each vertex the walk over a list's own tables meets different sides, so it meets as many as there are exactly
+-- where every vertex has a turn order.
 -- Assumes nothing.
 use mathlib.Core.Path.{_≡_, refl, ap, sym, subst, _∙_}
 use mathlib.Core.Bool.{Bool, true}
@@ -9,15 +9,16 @@ use Prim.Native.Nat.{ℕ, suc, _+_, _*_, _-_, _≤_, _<_}
 use native.Mathlib.Omega.{arith}
 use lib.Dec.{T, eqb, T-not}
 use lib.ListN.{length}
-use Rattle.lists.specs.TestLaws.{Test, pass, fail, test, zero-or, both-pass, means-eq}
+use Rattle.lists.specs.TestLaws.{Test, pass, fail, test, zero-or, passes, both-pass, means-eq}
 use Rattle.lists.specs.Search.{at, count, zeros}
-use Rattle.lists.specs.SearchLaws.{count-apart, lt-or-eq}
+use Rattle.lists.specs.SearchLaws.{count-apart, count-parts, lt-or-eq}
 use Rattle.rules.specs.Elements.{elements, isSide, Side, slot, origin, next, sideAt, sideWith, countSides}
 use Rattle.rules.specs.Pairing.{Pairing, Turn, SideAt}
 use Rattle.rules.specs.Tables.{partner, wide, v2e}
 use Rattle.rules.specs.Recovery.{turnBy, walkTo, walk}
 use Rattle.rules.specs.Refusals.{unorderedVertex}
-use Rattle.theory.specs.Sides.{side-positive, sideAt-slot, slot-below}
+use Rattle.theory.specs.Sides.{side-positive, sideAt-slot, slot-sideAt, slot-below}
+use Rattle.theory.specs.FitRows.{Fit}
 use Rattle.theory.specs.Entries.{length-wide, length-v2e}
 use Rattle.theory.specs.Turns.{turn-paired, turn-border}
 use Rattle.theory.specs.Walking.{Fan, Walked, walk-walked}
@@ -73,34 +74,59 @@ module _ (n : ℕ) (L : List ℕ) (p : Pairing L (partner L)) where
           go (inl l) = (l, sym (its-turn .1) ∙ f .turns i l .1)
           go (inr q) = absurd (last q)
 
-  -- as many places are written as there are sides: all of them
-  module _ (fours : length L ≡ 4 * elements L) (all : countSides L (λ s. true) + zeros (walk (v2e n L) (wide L)) ≡ 4 * elements L) where
+  -- as many places are written as there are sides exactly where all of these are
+  module _ (fit : Fit n L) where
     abbrev W : List ℕ
     W = walk (v2e n L) (wide L)
 
     abbrev known : Walked n L n W
     known = walk-walked n L p
 
-    written : (s : ℕ) → Side L s → at W (slot s) ≡ 0 → ⊥
-    unfolding countSides zeros
-    written s a z =
-        let no-more : count (sideWith L (λ s. true)) (length L) + count (λ i. eqb (at W i) 0) (length L) ≤ length L =
-        omega (arith, fours, all, ap (count (λ i. eqb (at W i) 0)) (known .long ∙ length-wide L ∙ sym fours)) in
-        count-apart (sideWith L (λ s. true)) (λ i. eqb (at W i) 0) (length L) either no-more (slot s) (slot-below L s a)
-        (both-pass (isSide L (sideAt (slot s))) true (rw (sideAt-slot L s a) a) tt) (means-eq (at W (slot s)) 0 .shows z)
+    abbrev isSome : ℕ → Bool
+    isSome = sideWith L (λ s. true)
+
+    abbrev isEmpty : ℕ → Bool
+    isEmpty i = eqb (at W i) 0
+
+    either : (i : ℕ) → i < length L → T (isSome i) ⊎ T (isEmpty i)
+    either i h = go (test (isSide L (sideAt i)))
       where
-        either : (i : ℕ) → i < length L → T (sideWith L (λ s. true) i) ⊎ T (eqb (at W i) 0)
-        either i h = go (test (isSide L (sideAt i)))
-          where
-            go : Test (isSide L (sideAt i)) → T (sideWith L (λ s. true) i) ⊎ T (eqb (at W i) 0)
-            go (pass t e) = inl (both-pass (isSide L (sideAt i)) true t tt)
-            go (fail t e) = inr (means-eq (at W i) 0 .shows (known .outside i (λ s a q. absurd (T-not (isSide L (sideAt i)) t (rw (ap sideAt (sym q) ∙ sideAt-slot L s a) a)))))
+        go : Test (isSide L (sideAt i)) → T (isSome i) ⊎ T (isEmpty i)
+        go (pass t e) = inl (both-pass (isSide L (sideAt i)) true t tt)
+        go (fail t e) =
+            inr (means-eq (at W i) 0 .shows (known .outside i (λ s a q. T-not (isSide L (sideAt i)) t (rw (ap sideAt (sym q) ∙ sideAt-slot L s a) a))))
 
-    covered : (v : ℕ) → 1 ≤ v → v ≤ n → Covered L W v
-    covered v a b s (x, e) =
-        let (o, f, sets, reached) = known .fans v a b in
-        elim (reached s (x, e))
-        [ inl z ↦ absurd (written s x z) | inr (i, h, q) ↦ subst (λ (t : ℕ). at W (slot t) ≡ v) q (sets i h) ]
+    -- the two counts, up to the length of the list
+    same : zeros W ≡ count isEmpty (length L)
+    unfolding zeros
+    same = ap (count isEmpty) (known .long ∙ length-wide L ∙ sym (fit .fours))
 
-    pub counted-ordered : unorderedVertex n L ≡ 0
-    counted-ordered = means-eq (unorderedVertex n L) 0 .says (means-covered n L .shows covered)
+    abbrev pub Counted : Type 0
+    Counted = countSides L (λ s. true) + zeros W ≡ 4 * elements L
+
+    module _ (all : Counted) where
+      written : (s : ℕ) → Side L s → at W (slot s) ≡ 0 → ⊥
+      unfolding countSides
+      written s a z =
+          count-apart isSome isEmpty (length L) either (omega (arith, all, same, fit .fours)) (slot s) (slot-below L s a)
+          (both-pass (isSide L (sideAt (slot s))) true (rw (sideAt-slot L s a) a) tt) (means-eq (at W (slot s)) 0 .shows z)
+
+      covered : (v : ℕ) → 1 ≤ v → v ≤ n → Covered L W v
+      covered v a b s (x, e) =
+          let (o, f, sets, reached) = known .fans v a b in
+          elim (reached s (x, e))
+          [ inl z ↦ absurd (written s x z) | inr (i, h, q) ↦ subst (λ (t : ℕ). at W (slot t) ≡ v) q (sets i h) ]
+
+      pub counted-ordered : unorderedVertex n L ≡ 0
+      counted-ordered = means-eq (unorderedVertex n L) 0 .says (means-covered n L .shows covered)
+
+    pub ordered-counted : unorderedVertex n L ≡ 0 → Counted
+    unfolding countSides
+    ordered-counted z = omega (arith, count-parts isSome isEmpty (length L) either apart, same, fit .fours)
+      where
+        apart : (i : ℕ) → i < length L → T (isSome i) → T (isEmpty i) → ⊥
+        apart i h t u =
+            let (a, y) = passes (isSide L (sideAt i)) true t in
+            let s = sideAt i in
+            let all = means-covered n L .says (means-eq (unorderedVertex n L) 0 .shows z) (origin L s) (fit .from s a) (fit .to s a) in
+            omega (arith, fit .from s a, all s (a, refl), ap (at W) (slot-sideAt i), means-eq (at W i) 0 .says u)

@@ -1,14 +1,11 @@
 -- `ordered::is_ordered` meets its contract: the sides met about the vertices 1 to v are counted.
 -- Assumes nothing.
-use mathlib.Core.Path.{_≡_, sym, subst, _∙_}
-use mathlib.Core.Bool.{true}
-use Prim.Native.Nat.{ℕ, _+_, _-_, _≤_}
+use mathlib.Core.Path.{_≡_}
+use Prim.Native.Nat.{_+_, _-_, _≤_}
 use native.Mathlib.Omega.{arith}
 use borrow.Author.Needs.{needs}
-use lib.Dec.{T}
-use Rattle.lists.specs.TestLaws.{means-eq}
 use Rattle.ordered.specs.Standing.{MetBy}
-use Rattle.ordered.specs.Fans.{none-met, all-met}
+use Rattle.ordered.specs.Fans.{none-met, means-all-met}
 use Rattle.ordered.proofs.is_ordered.Statement.{statement}
 use Rattle.ordered.proofs.is_ordered.Tie as tie
 
@@ -37,12 +34,11 @@ loop-again : tie.Need-loop-again Inv-loop μ-loop
 loop-again c = (omega arith, c .count-about .ensures)
 
 returns : tie.Need-returns Inv-loop μ-loop
-returns c r =
+returns c =
     let here = c .before in
     let p = here .before .before .before .pre in
     let e : here .loop .v ≡ here .before .before .before .args .n = omega (arith, here .loop .inv .0) in
-    let met : here .loop .met ≡ here .before .before .before .args .sides = means-eq (here .loop .met) _ .says (subst T (sym r) tt) in
-    all-met (p .0) (rw e at (here .loop .inv .1)) (met ∙ p .1)
+    means-all-met (p .0) (p .1) (rw e at (here .loop .inv .1))
 
 pub is-ordered-spec : {M : Type 1} → statement M
 is-ordered-spec =

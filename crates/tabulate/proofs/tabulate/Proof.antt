@@ -2,51 +2,52 @@
 -- Assumes nothing.
 use mathlib.Core.Path.{ap}
 use borrow.Author.Needs.{needs}
-use Rattle.theory.specs.FitRows.{means-sizes}
 use Rattle.answer.specs.Numbers.{numbers}
-use Rattle.tabulate.specs.Results.{rows-refuse, rows-fit, list-on}
+use Rattle.tabulate.specs.Results.{pairs-refuse, pairs-found, list-on}
 use Rattle.tabulate.proofs.tabulate.Statement.{statement}
 use Rattle.tabulate.proofs.tabulate.Tie as tie
 
--- where the rows were checked, before they were found fit
-abbrev asked : tie.After-enum-told → tie.After-check-rows
-asked c = c .before .before
+pair-requires : tie.Need-pair-requires
+pair-requires c κs = search needs
 
-check-rows-requires : tie.Need-check-rows-requires
-check-rows-requires c κs = let (a, (b, d)) = means-sizes _ _ .says (c .before .before .pre .sizes) in (d, b)
+enum-known-paired : tie.Need-enum-known-paired
+enum-known-paired c = search needs
 
 enum-told : tie.Need-enum-told
 enum-told c = search needs
 
-enum-told-2 : tie.Need-enum-told-2
-enum-told-2 c = search needs
-
-returns : tie.Need-returns
-returns c = rows-refuse (c .before .before .check-rows .ensures) (ap numbers (c .enum-told2 .given .1))
-
-tabulate-fit-requires : tie.Need-tabulate-fit-requires
-tabulate-fit-requires c κs =
-    let told = c .before in
-    let rows = asked told in
-    rows-fit (rows .check-rows .ensures) (ap numbers (told .enum-told .given .1)) (rows .before .before .before .pre)
-
 same-length : tie.Need-same-length
 same-length c = search needs
+
+returns : tie.Need-returns
+returns c = pairs-refuse (c .before .before .before .before .pair .ensures) (ap numbers (c .enum-told .given .1))
+
+-- past checks 3 to 7
+abbrev asked : tie.After-known-told → tie.After-pair
+asked c = c .before .before .before .before .before
+
+tabulate-paired-requires : tie.Need-tabulate-paired-requires
+tabulate-paired-requires c κs =
+    let told = c .before in pairs-found (asked told .pair .ensures) (ap numbers (told .before .paired .given .1))
+
+same-length-2 : tie.Need-same-length-2
+same-length-2 c = search needs
 
 returns-2 : tie.Need-returns-2
 returns-2 c =
     let done = c .before .before in
     let told = done .before .before in
-    list-on (asked told .check-rows .ensures) (ap numbers (told .enum-told .given .1)) (done .tabulate-fit .ensures)
+    list-on (asked told .pair .ensures) (ap numbers (told .before .paired .given .1)) (done .tabulate-paired .ensures)
 
 pub tabulate-spec : {M : Type 1} → statement M
 tabulate-spec =
     tie.close
     (tie.spec
-    check-rows-requires
+    pair-requires
+    enum-known-paired
     enum-told
-    enum-told-2
-    returns
-    tabulate-fit-requires
     same-length
+    returns
+    tabulate-paired-requires
+    same-length-2
     returns-2)

@@ -1,30 +1,27 @@
 -- `tabulate::tabulate_paired` meets its contract. The laws of its steps are in Results.
 -- Assumes nothing.
-use Prim.Native.Nat.{_+_, _*_}
 use native.Mathlib.Omega.{arith}
 use borrow.Author.Needs.{needs}
-use Rattle.rules.specs.Elements.{elements}
-use Rattle.tabulate.specs.Results.{Tabled, tabled, few, clashes, refuses-8, refuses-18, gives-tables}
+use borrow.Author.Tests.{not-true, not-false}
+use Rattle.tabulate.specs.Results.{Tabled, standing, to-decide, not-ordered, ordered, few, clashes, refuses-8, refuses-18, gives-tables}
 use Rattle.tabulate.proofs.tabulate_paired.Statement.{statement}
 use Rattle.tabulate.proofs.tabulate_paired.Tie as tie
 
 abbrev begun : tie.After-number-borders-arg → tie.Start
 begun c = c .before .before .before .before
 
-abbrev numbered : tie.After-walk → tie.After-number-borders
-numbered c = c .before .before .before .before
+-- the tables stand
+abbrev start : tie.After-number-borders → tie.Start
+start c = begun (c .before)
 
-abbrev walked : tie.After-unordered-vertex-arg → tie.After-walk
-walked c = c .before .before .before
-
-tables : (c : tie.After-walk) →
-    let counted = numbered c in
-    let k = counted .number-borders .result in
-    let a = begun (counted .before) .args in
-    Tabled (a .n) (a .list .now) (counted .before .before .wide .result + 8 * elements (a .list .now)) (k .borders) (k .sides) (a .work .now) (c .walk .last .1 .1 .0)
+tables : (c : tie.After-number-borders) →
+    let k = c .number-borders .result in
+    let a = start c .args in Tabled (a .n) (c .before .before .wide .result) (k .borders) (k .sides) (a .list .now) (a .work .now) (c .number-borders .last .1 .1 .0)
 tables c =
-    let counted = numbered c in
-    tabled (begun (counted .before) .pre .0) (counted .before .before .wide .ensures) (counted .number-borders .ensures) (c .walk .ensures)
+    record { ready = start c .pre .0; index = c .before .before .wide .ensures; numbered = c .number-borders .ensures }
+
+abbrev tabled : tie.After-is-ordered → tie.After-number-borders
+tabled c = c .before .before .before .before
 
 wide-requires : tie.Need-wide-requires
 wide-requires c κs = search needs
@@ -32,17 +29,11 @@ wide-requires c κs = search needs
 number-borders-requires : tie.Need-number-borders-requires
 number-borders-requires c κs = rw (c .before .wide .ensures) (begun c .pre .0)
 
-walk-requires : tie.Need-walk-requires
-walk-requires c κs = search needs
+is-ordered-requires : tie.Need-is-ordered-requires
+is-ordered-requires c κs = to-decide (tables (c .before .before .before))
 
-mul-unordered-vertex : tie.Need-mul-unordered-vertex
-mul-unordered-vertex c = search needs
-
-add-unordered-vertex : tie.Need-add-unordered-vertex
-add-unordered-vertex c = search needs
-
-unordered-vertex-requires : tie.Need-unordered-vertex-requires
-unordered-vertex-requires c κs = let t = tables (walked c) in (t .walked, t .fit)
+unordered-requires : tie.Need-unordered-requires
+unordered-requires c κs = standing (tables (tabled (c .before .before)))
 
 refuse-at-requires : tie.Need-refuse-at-requires
 refuse-at-requires c κs = search needs
@@ -52,16 +43,15 @@ same-length c = search needs
 
 returns : tie.Need-returns
 returns c =
-    let found = c .before .before in
-    refuses-8 (tables (walked (found .before))) (found .unordered-vertex .ensures) (c .before .if1 .taken) (c .refuse-at .ensures)
-
--- the element that check 18 finds, or 0
-abbrev start : tie.After-unordered-vertex → tie.Start
-start c = begun (numbered (walked (c .before)) .before)
+    let found = c .before .before .before in
+    let one = found .before .before in
+    let t = tabled (one .before) in
+    refuses-8 (tables t) (not-ordered (tables t) (one .before .is-ordered .ensures) (not-true _ (one .if1 .taken))) (found .unordered .ensures .0)
+    (found .unordered .ensures .1) (c .refuse-at .ensures)
 
 clash-of-requires : tie.Need-clash-of-requires
 clash-of-requires c κs =
-    let p = start (c .before .before) in
+    let p = start (tabled (c .before .before)) in
     (clashes (p .args .list .now) (p .args .f) (p .pre .1) (c .if2 .taken), p .pre .0 .mapped .fit .size)
 
 refuse-at-requires-2 : tie.Need-refuse-at-requires-2
@@ -73,13 +63,14 @@ same-length-2 c = search needs
 returns-2 : tie.Need-returns-2
 returns-2 c =
     let asked = c .before in
-    let one = asked .before .before in
-    let found = one .before in
-    refuses-18 (tables (walked (found .before))) (found .unordered-vertex .ensures) (one .if1 .left) (start found .pre .1) (asked .before .if2 .taken)
-    (asked .clash-of .ensures) (c .refuse-at2 .ensures)
+    let two = asked .before in
+    let one = two .before in
+    let t = tabled (one .before) in
+    refuses-18 (tables t) (ordered (tables t) (one .before .is-ordered .ensures) (not-false _ (one .if1 .left))) (start t .pre .1) (two .if2 .taken) (asked .clash-of .ensures)
+    (c .refuse-at2 .ensures)
 
 add-give-two : tie.Need-add-give-two
-add-give-two c = omega (arith, few (tables (walked (c .before .before .before))))
+add-give-two c = omega (arith, few (tables (tabled (c .before .before))))
 
 give-two-requires : tie.Need-give-two-requires
 give-two-requires c κs = search needs
@@ -91,8 +82,8 @@ returns-3 : tie.Need-returns-3
 returns-3 c =
     let two = c .before in
     let one = two .before in
-    let found = one .before in
-    gives-tables (tables (walked (found .before))) (found .unordered-vertex .ensures) (one .if1 .left) (start found .pre .1) (two .if2 .left) (c .give-two .ensures)
+    let t = tabled (one .before) in
+    gives-tables (tables t) (ordered (tables t) (one .before .is-ordered .ensures) (not-false _ (one .if1 .left))) (start t .pre .1) (two .if2 .left) (c .give-two .ensures)
 
 pub tabulate-paired-spec : {M : Type 1} → statement M
 tabulate-paired-spec =
@@ -100,10 +91,8 @@ tabulate-paired-spec =
     (tie.spec
     wide-requires
     number-borders-requires
-    walk-requires
-    mul-unordered-vertex
-    add-unordered-vertex
-    unordered-vertex-requires
+    is-ordered-requires
+    unordered-requires
     refuse-at-requires
     same-length
     returns
