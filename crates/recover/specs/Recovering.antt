@@ -6,30 +6,28 @@ use mathlib.Core.Logic.{_⊎_}
 use mathlib.Core.List.{List, _++_}
 use Prim.Native.Nat.{ℕ, _+_, _*_, _-_, _≤_}
 use native.Mathlib.Omega.{arith}
-use lib.Dec.{T, eqb, not-T}
+use lib.Dec.{T}
 use lib.ListN.{length, take, drop, replicate, length-take, length-drop, length-append}
-use Rattle.lists.specs.Tests.{both, same}
-use Rattle.lists.specs.TestLaws.{true-of, false-of, both-pass, means-both, means-either, means-eq}
+use Rattle.lists.specs.TestLaws.{means-both, means-either, means-eq}
 use lib.Seq.{take-at, drop-at, take-all}
 use Rattle.lists.specs.Parts.{part, part-take, put-take, put-drop, put-length}
 use Rattle.rules.specs.Elements.{elements}
-use Rattle.rules.specs.Pairing.{callSizes, sizesFit, unfitCorner, repeatedCorner, rowsFit}
-use Rattle.rules.specs.Tables.{borders, columns, e2e, v2e}
+use Rattle.rules.specs.Pairing.{callSizes}
+use Rattle.rules.specs.Tables.{columns, v2e, e2e}
 use Rattle.rules.specs.Recovery.{widened, walkTo, walk}
-use Rattle.rules.specs.Refusals.{Answer, gives, refused, crowdedSide, alikeSide, unorderedVertex, clashing, listAnswer, accepts}
+use Rattle.rules.specs.Refusals.{Answer, gives, refused}
 use Rattle.rules.specs.Refusals.{recovers, recoverLengths, after, onto, recoverAnswer, recoverList, recoverWork}
-use Rattle.theory.specs.Answers.{past-check, accepted-answer}
 use Rattle.theory.specs.Calls.{lengths-known}
 use Rattle.theory.specs.Calls as calls
 use Rattle.theory.specs.FitRows.{means-call-sizes, means-sizes}
-use Rattle.theory.specs.Deciding.{means-accepted}
 use Rattle.theory.specs.Columns.{three-or-four, length-widened, narrowed, narrow-wide}
 use Rattle.theory.specs.Built.{borders-bound}
 use Rattle.walk.specs.Layout.{Sizes, Walking}
 use Rattle.links.specs.Links.{LinkedBy}
-use Rattle.tabulate.specs.Results.{Sized, Tabulated}
+use Rattle.tabulate.specs.Results.{Sized}
 use Rattle.buffers.specs.Whole.{onto-full}
 use Rattle.build.specs.Building.{holds-front}
+use Rattle.recover.specs.Sound.{agree, Tabled, unsound, agreement}
 
 -- E2e has three columns or four
 abbrev pub EitherLong : ℕ → List ℕ → Type 0
@@ -40,55 +38,6 @@ pub record Filled (n m : ℕ) (V2e E2e w w′ : List ℕ) : Type 0 where
   pub vertices : take n w′ ≡ V2e
   pub opposites : part n (4 * m) w′ ≡ widened m E2e
   pub long : length w′ ≡ length w
-
--- after counts, and with the same tables
-abbrev pub agrees : Answer → List ℕ → List ℕ → List ℕ → List ℕ → Bool
-agrees (gives k e) V2e′ E2e′ V2e E2e = both (same V2e′ V2e) (same E2e′ E2e)
-agrees (refused r a b) V2e′ E2e′ V2e E2e = false
-
-module _ (n : ℕ) (L : List ℕ) where
-  -- counts come exactly for an accepted list
-  pub counts-accepted : T (sizesFit n L) → (k e : ℕ) → listAnswer n L ≡ gives k e → T (accepts n L)
-  unfolding listAnswer accepts rowsFit
-  counts-accepted t k e g =
-      let (a, g₁) = past-check (unfitCorner n L) k e _ _ _ _ g in
-      let (b, g₂) = past-check (repeatedCorner L) k e _ _ _ _ g₁ in
-      let (d, g₃) = past-check (crowdedSide L) k e _ _ _ _ g₂ in
-      let (f, g₄) = past-check (alikeSide L) k e _ _ _ _ g₃ in
-      let (h, g₅) = past-check (unorderedVertex n L) k e _ _ _ _ g₄ in
-      let (i, g₆) = past-check (clashing L) k e _ _ _ _ g₅ in
-      both-pass (both (sizesFit n L) (both (eqb (unfitCorner n L) 0) (eqb (repeatedCorner L) 0))) _
-      (both-pass (sizesFit n L) _ t (both-pass (eqb (unfitCorner n L) 0) (eqb (repeatedCorner L) 0) (means-eq _ 0 .shows a) (means-eq _ 0 .shows b)))
-      (both-pass (eqb (crowdedSide L) 0) _ (means-eq _ 0 .shows d)
-      (both-pass (eqb (alikeSide L) 0) _ (means-eq _ 0 .shows f)
-      (both-pass (eqb (unorderedVertex n L) 0) (eqb (clashing L) 0) (means-eq _ 0 .shows h) (means-eq _ 0 .shows i))))
-
-  pub refusal-unaccepted : (r a b : ℕ) → listAnswer n L ≡ refused r a b → accepts n L ≡ false
-  refusal-unaccepted r a b g =
-      false-of (accepts n L)
-      (not-T (accepts n L)
-      (λ t.
-      let x = means-accepted n L .says t in
-      let h = accepted-answer n L (x .rows) x in
-      let z : _≡_ {A = ℕ} 0 1 = cc in omega arith))
-
-  -- so the comparison decides recovery
-  pub agreement : (m : ℕ) (V2e E2e V2e′ E2e′ : List ℕ) → T (sizesFit n L) → walk V2e (widened m E2e) ≡ L
-      → ((k e : ℕ) → listAnswer n L ≡ gives k e → (V2e′ ≡ v2e n L) × (E2e′ ≡ e2e L))
-      → agrees (listAnswer n L) V2e′ E2e′ V2e E2e ≡ recovers n m V2e E2e
-  unfolding recovers
-  agreement m V2e E2e V2e′ E2e′ t w h = go (listAnswer n L) refl
-    where
-      whole : recovers n m V2e E2e ≡ both (accepts n L) (both (same (v2e n L) V2e) (same (e2e L) E2e))
-      whole = ap (λ (X : List ℕ). both (accepts n X) (both (same (v2e n X) V2e) (same (e2e X) E2e))) w
-
-      go : (a : Answer) → listAnswer n L ≡ a → agrees a V2e′ E2e′ V2e E2e ≡ recovers n m V2e E2e
-      go (gives k e) g =
-          let (p, q) = h k e g in
-          let y : accepts n L ≡ true = true-of (accepts n L) (counts-accepted t k e g) in
-          ap (λ (X : List ℕ). both (same X V2e) (same E2e′ E2e)) p ∙ ap (λ (X : List ℕ). both (same (v2e n L) V2e) (same X E2e)) q
-          ∙ sym (whole ∙ ap (λ (b : Bool). both b (both (same (v2e n L) V2e) (same (e2e L) E2e))) y)
-      go (refused r a b) g = sym (whole ∙ ap (λ (c : Bool). both c (both (same (v2e n L) V2e) (same (e2e L) E2e))) (refusal-unaccepted r a b g))
 
 -- the two tables put in, one after the other
 module _ (n m : ℕ) (V2e E2e w w₁ : List ℕ) (l : length V2e ≡ n) (h : n + 4 * m ≤ length w) (e : w₁ ≡ onto V2e w) where
@@ -111,14 +60,6 @@ module _ (n m : ℕ) (V2e E2e w w₁ : List ℕ) (l : length V2e ≡ n) (h : n +
         long = simp (length-append, length-take, length-append, length-drop, length-drop) (omega (arith, long-first));
       }
 
--- the comparison after counts
-module _ {a : Answer} {k e : ℕ} (is : a ≡ gives k e) (V2e′ E2e′ V2e E2e : List ℕ) where
-  pub differs-v : {r : Bool} → r ≡ same V2e′ V2e → r ≡ false → false ≡ agrees a V2e′ E2e′ V2e E2e
-  differs-v d f = sym (ap (λ (x : Answer). agrees x V2e′ E2e′ V2e E2e) is ∙ ap (λ (b : Bool). both b (same E2e′ E2e)) (sym d ∙ f))
-
-  pub compares : {r : Bool} → r ≡ same V2e′ V2e → r ≡ true → {q : Bool} → q ≡ same E2e′ E2e → q ≡ agrees a V2e′ E2e′ V2e E2e
-  compares d f g = g ∙ sym (ap (λ (x : Answer). agrees x V2e′ E2e′ V2e E2e) is ∙ ap (λ (b : Bool). both b (same E2e′ E2e)) (sym d ∙ f))
-
 -- the list that was proposed was tried; what is kept behind the scratch buffer is still there
 pub record Tried (n m : ℕ) (V2e E2e : List ℕ) (r : Bool) (w w′ : List ℕ) : Type 0 where
   pub answer : r ≡ recovers n m V2e E2e
@@ -131,8 +72,8 @@ pub record ToTry (n : ℕ) (V2e E2e L w : List ℕ) : Type 0 where
   pub given : walk V2e (widened (elements L) E2e) ≡ L
 
 -- the scratch buffer s that the list's tables are tried in, and what is kept behind it; k is n as an index
-module _ {n k : ℕ} {V2e E2e L w : List ℕ} (p : ToTry n V2e E2e L w) (index : k ≡ n) {a : Answer} {s : List ℕ}
-    (x : Tabulated n L (listAnswer n L) a (take (k + 12 * elements L - 0) w) s) where
+module _ {n k : ℕ} {V2e E2e L w : List ℕ} (p : ToTry n V2e E2e L w) (index : k ≡ n) {b : Bool} {s : List ℕ}
+    (x : Tabled n L b (take (k + 12 * elements L - 0) w) s) where
   abbrev kept : List ℕ
   kept = drop (k + 12 * elements L - 0) w
 
@@ -145,28 +86,28 @@ module _ {n k : ℕ} {V2e E2e L w : List ℕ} (p : ToTry n V2e E2e L w) (index :
   tried-long : length w′ ≡ length w
   tried-long = simp (length-append, length-drop) (omega (arith, scratch-long, p .inside))
 
+  by : {r : Bool} → r ≡ recovers n (elements L) V2e E2e → Tried n (elements L) V2e E2e r w w′
+  by e =
+      let z : k + 12 * elements L - 0 ≡ n + 12 * elements L = omega arith in
+      record { answer = e; rest = drop-at s kept (n + 12 * elements L) scratch-long ∙ ap (λ (i : ℕ). drop i w) z; long = tried-long }
+
+  pub not-tabled : b ≡ false → Tried n (elements L) V2e E2e false w w′
+  not-tabled f = by (unsound n L V2e E2e (p .given) (λ s. subst T f (x .says .shows s)))
+
   -- c is the number of the list's columns
   module _ {j c : ℕ} (again : j ≡ n) (columned : c ≡ columns L) where
     pub to-compare : (j + 4 * elements L ≤ length w′) × ((c ≡ 3) ⊎ (c ≡ 4))
     to-compare = (omega (arith, tried-long, p .inside), subst (λ (i : ℕ). (i ≡ 3) ⊎ (i ≡ 4)) (sym columned) (three-or-four L))
 
-    pub tried : {r : Bool} → r ≡ agrees a (take j w′) (narrowed c (part j (4 * elements L) w′)) V2e E2e → Tried n (elements L) V2e E2e r w w′
-    tried e =
-        let z : k + 12 * elements L - 0 ≡ n + 12 * elements L = omega arith in
+    pub tried : b ≡ true → {r : Bool} → r ≡ agree (take j w′) (narrowed c (part j (4 * elements L) w′)) V2e E2e → Tried n (elements L) V2e E2e r w w′
+    tried t e =
         let (most, (few, fours)) = means-sizes n L .says (p .sized .sizes) in
-        let bound : borders L ≤ 4 * elements L = omega (arith, borders-bound L) in
-        let own = narrowed (columns L) (part n (4 * elements L) w′) in
-        record {
-          answer =
-              rw (again, columned) at e
-              ∙ ap (λ (y : Answer). agrees y (take n w′) own V2e E2e) (x .answer)
-              ∙ agreement n L (elements L) V2e E2e (take n w′) own (p .sized .sizes) (p .given)
-              (λ k c g.
-              let h = holds-front n L s kept scratch-long bound (x .holds k c (x .answer ∙ g)) in
-              (h .vertices, ap (narrowed (columns L)) (h .opposites) ∙ narrow-wide L));
-          rest = drop-at s kept (n + 12 * elements L) scratch-long ∙ ap (λ (i : ℕ). drop i w) z;
-          long = tried-long;
-        }
+        let h = holds-front n L s kept scratch-long (omega (arith, borders-bound L)) (x .holds t) in
+        by
+        (rw (again, columned) at e
+        ∙ ap (λ (X : List ℕ). agree X (narrowed (columns L) (part n (4 * elements L) w′)) V2e E2e) (h .vertices)
+        ∙ ap (λ (X : List ℕ). agree (v2e n L) X V2e E2e) (ap (narrowed (columns L)) (h .opposites) ∙ narrow-wide L)
+        ∙ agreement n L V2e E2e (p .given) (p .sized .sizes) (x .says .says (rw t tt)))
 
 -- the list that the walk over the tables gives stands at the end
 pub record Walked (n m : ℕ) (V2e E2e w w′ : List ℕ) : Type 0 where

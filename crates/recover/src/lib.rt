@@ -10,8 +10,10 @@ ghost use Rattle.rules.specs.Elements.{elements, maxElement};
 ghost use Rattle.theory.specs.Columns.{narrowed};
 ghost use Rattle.answer.specs.Numbers.{numbers};
 ghost use Rattle.rules.specs.Refusals.{recoverAnswer, recoverList, recoverWork};
+ghost use Rattle.tabulate.specs.Results.{Sized};
 ghost use Rattle.walk.specs.Layout.{Sizes};
-ghost use Rattle.recover.specs.Recovering.{EitherLong, Filled, Walked, agrees, Roomy, Proposed, ToTry, Tried, Passed, Recovered};
+ghost use Rattle.recover.specs.Sound.{agree, Tabled};
+ghost use Rattle.recover.specs.Recovering.{EitherLong, Filled, Walked, Roomy, Proposed, ToTry, Tried, Passed, Recovered};
 use answer::Answer;
 use halfedge::wide;
 
@@ -35,26 +37,11 @@ fn walk_tables(n: usize, m: usize, v2e: &[u32], e2e: &[u32], work: &mut [u32])
     walk::walk(n, m, work);
 }
 
-// The tables of the list in the scratch buffer, whose answer is t and whose E2e has this many columns, are those given.
-fn is_theirs(
-    n: usize,
-    m: usize,
-    columns: u32,
-    t: Answer,
-    v2e: &[u32],
-    e2e: &[u32],
-    work: &[u32],
-) -> bool
+// The tables in the scratch buffer, E2e in this many columns, are those given.
+fn is_theirs(n: usize, m: usize, columns: u32, v2e: &[u32], e2e: &[u32], work: &[u32]) -> bool
     requires { ⌜ (n + 4 * m ≤ length (now work)) × ((columns ≡ 3) ⊎ (columns ≡ 4)) ⌝ }
-    ensures { λ r. ⌜ r ≡ agrees (numbers t) (take n (now (work .entry))) (narrowed columns (part n (4 * m) (now (work .entry)))) (now (v2e .entry)) (now (e2e .entry)) ⌝ }
+    ensures { λ r. ⌜ r ≡ agree (take n (now (work .entry))) (narrowed columns (part n (4 * m) (now (work .entry)))) (now (v2e .entry)) (now (e2e .entry)) ⌝ }
 {
-    let Answer::Gives {
-        first: _,
-        second: _,
-    } = t
-    else {
-        return false;
-    };
     let end = n + 4 * m;
     if !buffers::is_same(&work[0..n], v2e) {
         return false;
@@ -74,16 +61,35 @@ fn propose(n: usize, m: usize, v2e: &[u32], e2e: &[u32], list: &mut [u32], work:
     buffers::copy(&work[o..end], list);
 }
 
-// The list that was proposed is accepted and has the given tables.
+// Checks 3 to 7 and 18 find nothing in the list; its tables are put into the scratch buffer.
+fn has_own_tables(n: u32, list: &[u32], work: &mut [u32]) -> bool
+    requires { ⌜ Sized n (now list) (now work) ⌝ }
+    ensures { λ r. ⌜ Tabled n (now (list .entry)) r (now (work .entry)) (now (work .exit)) ⌝ }
+{
+    let paired = tabulate::pair(n, list, work);
+    let Answer::Gives { first, second: _ } = paired else {
+        return false;
+    };
+    if first != 0 {
+        return false;
+    }
+    borders::number_borders(wide(n), list, work);
+    true
+}
+
+// The list that was proposed is accepted and has the given tables. Check 8 needs no look: the walk over the given tables wrote this very
+// list, so where they are its own, no side of a vertex is left out.
 fn has_tables(n: u32, v2e: &[u32], e2e: &[u32], list: &[u32], work: &mut [u32]) -> bool
     requires { ⌜ ToTry n (now v2e) (now e2e) (now list) (now work) ⌝ }
     ensures { λ r. ⌜ Tried n (elements (now (list .entry))) (now (v2e .entry)) (now (e2e .entry)) r (now (work .entry)) (now (work .exit)) ⌝ }
 {
     let m = list.len() / 4;
     let end = wide(n) + 12 * m;
-    let t = tabulate::tabulate(n, list, &mut work[0..end]);
+    if !has_own_tables(n, list, &mut work[0..end]) {
+        return false;
+    }
     let columns = columns::columns_of(list);
-    is_theirs(wide(n), m, columns, t, v2e, e2e, work)
+    is_theirs(wide(n), m, columns, v2e, e2e, work)
 }
 
 // Check 10, where the lengths are fit. The work buffer isn't cleared yet.

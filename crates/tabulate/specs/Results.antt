@@ -276,7 +276,7 @@ module _ {n : ℕ} {L w w₁ : List ℕ} {b : Answer} (x : Paired n L (listPairs
       (x .long)
 
   module _ {f e : ℕ} (g : b ≡ gives f e) where
-    passed : (unfitCorner n L ≡ 0) × (repeatedCorner L ≡ 0) × (crowdedSide L ≡ 0) × (alikeSide L ≡ 0) × (gives (clashing L) 0 ≡ gives f e)
+    pub passed : (unfitCorner n L ≡ 0) × (repeatedCorner L ≡ 0) × (crowdedSide L ≡ 0) × (alikeSide L ≡ 0) × (gives (clashing L) 0 ≡ gives f e)
     passed =
         let (p, q, h) = rows-passed n L _ (sym (x .answer) ∙ g) in
         let (r, i) = past-check (crowdedSide L) _ _ _ _ _ _ h in

@@ -1,40 +1,26 @@
 -- `recover::is_theirs` meets its contract.
 -- Assumes nothing.
-use mathlib.Core.Path.{_≡_, ap, _∙_}
+use mathlib.Core.Path.{_≡_, ap, sym, _∙_}
+use mathlib.Core.Bool.{Bool}
 use Prim.Native.Nat.{ℕ, _+_, _*_, _-_}
 use native.Mathlib.Omega.{arith}
 use borrow.Author.Tests.{not-true, not-false}
 use lib.ListN.{length, take, drop, length-take, length-drop}
-use Rattle.lists.specs.Tests.{same}
+use Rattle.lists.specs.Tests.{both, same}
 use Rattle.lists.specs.Parts.{part}
 use Rattle.theory.specs.Columns.{narrowed}
-use Rattle.answer.specs.Numbers.{numbers}
-use Rattle.recover.specs.Recovering.{differs-v, compares}
 use borrow.Author.Needs.{needs}
 use Rattle.recover.proofs.is_theirs.Statement.{statement}
 use Rattle.recover.proofs.is_theirs.Tie as tie
 
--- t is an answer
-abbrev told : tie.After-is-same → tie.After-enum-told
-told c = c .before .before
-
 abbrev begun : tie.After-is-same → tie.Start
-begun c = told c .before .before .before .before .before
+begun c = c .before .before .before .before .before
 
 vertices : (c : tie.After-is-same) → c .is-same .result ≡ same (take (begun c .args .n) (begun c .args .work .now)) (begun c .args .v2e .now)
 vertices c =
     let s = begun c .args in
     let z : s .n - 0 ≡ s .n = omega arith in
     c .is-same .ensures ∙ ap (λ (k : ℕ). same (take k (s .work .now)) (s .v2e .now)) z
-
-enum-told : tie.Need-enum-told
-enum-told c = search needs
-
-enum-told-2 : tie.Need-enum-told-2
-enum-told-2 c = search needs
-
-returns : tie.Need-returns
-returns c = search needs
 
 mul-end : tie.Need-mul-end
 mul-end c = search needs
@@ -54,8 +40,10 @@ part-is-same-end c = search needs
 is-same-requires : tie.Need-is-same-requires
 is-same-requires c κs = search needs
 
-returns-2 : tie.Need-returns-2
-returns-2 c = differs-v (ap numbers (told (c .before) .enum-told .given .1)) _ _ _ _ (vertices (c .before)) (not-true _ (c .if1 .taken))
+returns : tie.Need-returns
+returns c =
+    let s = begun (c .before) .args in
+    sym (ap (λ (b : Bool). both b (same (narrowed (s .columns) (part (s .n) (4 * s .m) (s .work .now))) (s .e2e .now))) (sym (vertices (c .before)) ∙ not-true _ (c .if1 .taken)))
 
 mul-is-put : tie.Need-mul-is-put
 mul-is-put c = search needs
@@ -76,31 +64,30 @@ is-put-requires c κs =
     simp (length-take, length-drop) (omega (arith, s .pre .0)) in
     (s .pre .1, omega arith)
 
-returns-3 : tie.Need-returns-3
-returns-3 c =
+returns-2 : tie.Need-returns-2
+returns-2 c =
     let first = c .before .before in
     let s = begun (first .before) .args in
     let z : s .n + 4 * s .m - s .n ≡ 4 * s .m = omega arith in
-    compares (ap numbers (told (first .before) .enum-told .given .1)) _ _ _ _ (vertices (first .before)) (not-false _ (first .if1 .left))
-    (c .is-put .ensures ∙ ap (λ (k : ℕ). same (narrowed (s .columns) (part (s .n) k (s .work .now))) (s .e2e .now)) z)
+    let theirs = same (narrowed (s .columns) (part (s .n) (4 * s .m) (s .work .now))) (s .e2e .now) in
+    c .is-put .ensures
+    ∙ ap (λ (k : ℕ). same (narrowed (s .columns) (part (s .n) k (s .work .now))) (s .e2e .now)) z
+    ∙ sym (ap (λ (b : Bool). both b theirs) (sym (vertices (first .before)) ∙ not-false _ (first .if1 .left)))
 
 pub is-theirs-spec : {M : Type 1} → statement M
 is-theirs-spec =
     tie.close
     (tie.spec
-    enum-told
-    enum-told-2
-    returns
     mul-end
     add-end
     sub-is-same
     part-is-same-start
     part-is-same-end
     is-same-requires
-    returns-2
+    returns
     mul-is-put
     sub-is-put
     part-is-put-start
     part-is-put-end
     is-put-requires
-    returns-3)
+    returns-2)
