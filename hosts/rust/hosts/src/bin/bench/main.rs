@@ -5,14 +5,18 @@
 //! Runs are interleaved and medians reported, so that a slow moment of the machine meets every candidate.
 //! All buffers are allocated and touched before the first run and used again in every run.
 
+mod hash_maps;
+
 use borzhanu::{build, columns, recover, siblings, work_length, HalfEdge, Mesh, OwnedMesh, Refusal};
-use hosts::meshes::{book, corners_of, fan, sheet, Dice, Kinds, List};
+use hash_maps::{ends, hash_map_build, hash_map_holes, hash_map_siblings, FastHasher};
+use hosts::meshes::{book, fan, sheet, Dice, Kinds, List};
 use hosts::raw::taken_apart;
 use hosts::reference::View;
 use hosts::told;
-use std::collections::{HashMap, HashSet};
+use std::collections::hash_map::RandomState;
 use std::env;
 use std::fs;
+use std::hash::BuildHasher;
 use std::hint::black_box;
 use std::io;
 use std::path::Path;
@@ -21,113 +25,14 @@ const SEED: u64 = 1;
 const ROUNDS: usize = 21;
 const LARGE_ROUNDS: usize = 7;
 
-/// The three tables by a hash map keyed by the vertices of each half-edge, after section 3.2 of T. J. Alumbaugh and
-/// X. Jiao, "Compact Array-Based Mesh Data Structures", with no check of the list, E2e in so many columns. Gives k and
-/// the number of edges.
-fn hash_map_build(columns: usize, elements: &[u32], v2e: &mut [u32], e2e: &mut [u32], b2e: &mut [u32]) -> (u32, u32) {
-    let place = |slot: usize| columns * (slot / 4) + slot % 4;
-    v2e.fill(0);
-    e2e.fill(0);
-    let mut unmatched: HashMap<(u32, u32), usize> = HashMap::with_capacity(elements.len() / 2);
-    let mut sides = 0;
-    for (f, row) in elements.chunks_exact(4).enumerate() {
-        let corners = corners_of(row);
-        sides += corners as u32;
-        for i in 0..corners {
-            let (origin, destination) = (row[i], row[(i + 1) % corners]);
-            let slot = 4 * f + i;
-            match unmatched.remove(&(destination, origin)) {
-                Some(twin) => {
-                    e2e[place(slot)] = code(twin);
-                    e2e[place(twin)] = code(slot);
-                }
-                None => _ = unmatched.insert((origin, destination), slot),
-            }
-            let entry = &mut v2e[origin as usize - 1];
-            if *entry == 0 {
-                *entry = code(slot);
-            }
-        }
-    }
-    let mut k = 0;
-    for (f, row) in elements.chunks_exact(4).enumerate() {
-        let corners = corners_of(row);
-        for i in 0..corners {
-            let slot = 4 * f + i;
-            if e2e[place(slot)] == 0 {
-                b2e[k as usize] = code(slot);
-                k += 1;
-                e2e[place(slot)] = 8 * k;
-                v2e[row[(i + 1) % corners] as usize - 1] = 8 * k;
-            }
-        }
-    }
-    (k, (sides + k) / 2)
+/// The buffers of a hash-map build.
+struct Tables {
+    v2e: Vec<u32>,
+    e2e: Vec<u32>,
+    b2e: Vec<u32>,
 }
 
-/// The siblings by a hash map from the two vertices of an edge to its first and its last side so far, with no check of
-/// the list; in the end the last side of each edge gets the first.
-fn hash_map_siblings(elements: &[u32], v2e: &mut [u32], siblings: &mut [u32]) {
-    v2e.fill(0);
-    let mut edges: HashMap<(u32, u32), (usize, usize)> = HashMap::with_capacity(elements.len() / 2);
-    for (f, row) in elements.chunks_exact(4).enumerate() {
-        let corners = corners_of(row);
-        for i in 0..corners {
-            let (origin, destination) = (row[i], row[(i + 1) % corners]);
-            let slot = 4 * f + i;
-            let (_, last) = edges.entry((origin.min(destination), origin.max(destination))).or_insert((slot, slot));
-            siblings[*last] = code(slot);
-            *last = slot;
-            let entry = &mut v2e[origin as usize - 1];
-            if *entry == 0 {
-                *entry = code(slot);
-            }
-        }
-        if corners == 3 {
-            siblings[4 * f + 3] = 0;
-        }
-    }
-    for (first, last) in edges.into_values() {
-        siblings[last] = code(first);
-    }
-}
-
-/// The holes by a hash map from the vertex where each border half-edge begins to its number, and a set of those that
-/// were walked, with no check of the tables. Gives the number of holes.
-fn hash_map_holes(elements: &[u32], b2e: &[u32], hole: &mut [u32], lengths: &mut [u32]) -> usize {
-    let leaving: HashMap<u32, u32> = (1..).zip(b2e).map(|(b, &side)| (ends(elements, side).1, b)).collect();
-    let mut walked = HashSet::with_capacity(b2e.len());
-    let mut count = 0;
-    for start in 1..=b2e.len() as u32 {
-        if walked.contains(&start) {
-            continue;
-        }
-        lengths[count] = 0;
-        let mut b = start;
-        while walked.insert(b) {
-            hole[b as usize - 1] = count as u32 + 1;
-            lengths[count] += 1;
-            b = leaving[&ends(elements, b2e[b as usize - 1]).0];
-        }
-        count += 1;
-    }
-    count
-}
-
-/// Origin and destination of a side.
-fn ends(elements: &[u32], side: u32) -> (u32, u32) {
-    let (f, i) = ((side / 8) as usize, (side % 8) as usize);
-    let row = &elements[4 * (f - 1)..4 * f];
-    let corners = corners_of(row);
-    (row[i - 1], row[i % corners])
-}
-
-/// The code of the side whose corner is this entry of the element list.
-fn code(slot: usize) -> u32 {
-    (8 * (slot / 4 + 1) + slot % 4 + 1) as u32
-}
-
-/// A list and the buffers of the calls on it.
+/// A list and the buffers of the calls on it, and of the builds beside them.
 struct Bench<'a> {
     list: &'a List,
     columns: usize,
@@ -135,7 +40,8 @@ struct Bench<'a> {
     e2e: Vec<u32>,
     b2e: Vec<u32>,
     work: Vec<u32>,
-    other: (Vec<u32>, Vec<u32>, Vec<u32>),
+    standard: Tables,
+    fast: Tables,
     recovered: Vec<u32>,
     ring: Vec<u32>,
 }
@@ -144,7 +50,8 @@ struct Bench<'a> {
 #[derive(Default)]
 struct Times {
     build: Vec<f64>,
-    hash_map: Vec<f64>,
+    standard: Vec<f64>,
+    fast: Vec<f64>,
     recovery: Vec<f64>,
     rings: Vec<f64>,
 }
@@ -170,6 +77,28 @@ fn milliseconds() -> f64 {
     time.seconds as f64 * 1e3 + time.nanoseconds as f64 * 1e-6
 }
 
+/// Medians, in a unit of so many milliseconds.
+struct Medians {
+    build: f64,
+    standard: f64,
+    fast: f64,
+    recovery: f64,
+    rings: f64,
+}
+
+impl Times {
+    fn medians(&self, unit: f64) -> Medians {
+        let median = |times: &[f64]| median(times) / unit;
+        Medians {
+            build: median(&self.build),
+            standard: median(&self.standard),
+            fast: median(&self.fast),
+            recovery: median(&self.recovery),
+            rings: median(&self.rings),
+        }
+    }
+}
+
 fn timed<T>(times: &mut Vec<f64>, run: impl FnOnce() -> T) -> T {
     let start = milliseconds();
     let result = black_box(run());
@@ -181,6 +110,16 @@ fn median(times: &[f64]) -> f64 {
     let mut sorted = times.to_vec();
     sorted.sort_by(f64::total_cmp);
     sorted[sorted.len() / 2]
+}
+
+impl Tables {
+    fn new(n: usize, e2e: usize, borders: usize) -> Tables {
+        Tables { v2e: vec![1; n], e2e: vec![1; e2e], b2e: vec![1; borders] }
+    }
+
+    fn build<S: BuildHasher + Default>(&mut self, columns: usize, list: &List) -> (u32, u32) {
+        hash_map_build::<S>(columns, list.entries(), &mut self.v2e, &mut self.e2e, &mut self.b2e)
+    }
 }
 
 impl<'a> Bench<'a> {
@@ -195,7 +134,8 @@ impl<'a> Bench<'a> {
             e2e: vec![1; columns * m],
             b2e: vec![1; borders],
             work: vec![1; work_length(list.n, m)],
-            other: (vec![1; n], vec![1; columns * m], vec![1; borders]),
+            standard: Tables::new(n, columns * m, borders),
+            fast: Tables::new(n, columns * m, borders),
             recovered: vec![1; 4 * m],
             ring: vec![1; m],
         }
@@ -207,9 +147,12 @@ impl<'a> Bench<'a> {
             .map(|counts| (counts.borders, counts.edges))
     }
 
-    fn hash_map(&mut self) -> (u32, u32) {
-        let (v2e, e2e, b2e) = &mut self.other;
-        hash_map_build(self.columns, self.list.entries(), v2e, e2e, b2e)
+    fn standard_hash_map(&mut self) -> (u32, u32) {
+        self.standard.build::<RandomState>(self.columns, self.list)
+    }
+
+    fn fast_hash_map(&mut self) -> (u32, u32) {
+        self.fast.build::<FastHasher>(self.columns, self.list)
     }
 
     fn recover(&mut self) {
@@ -233,10 +176,12 @@ impl<'a> Bench<'a> {
         (1..=view.n).map(|v| ring(v) as usize).sum()
     }
 
-    /// Both builds write the same tables, and recovery gives the list back.
+    /// All builds write the same tables, and recovery gives the list back.
     fn check(&self, k: u32) {
-        let (v2e, e2e, b2e) = &self.other;
-        assert!(&self.v2e == v2e && &self.e2e == e2e && self.b2e[..k as usize] == b2e[..k as usize]);
+        let k = k as usize;
+        for Tables { v2e, e2e, b2e } in [&self.standard, &self.fast] {
+            assert!(&self.v2e == v2e && &self.e2e == e2e && self.b2e[..k] == b2e[..k]);
+        }
         assert!(self.recovered == self.list.entries());
     }
 
@@ -244,7 +189,8 @@ impl<'a> Bench<'a> {
         let mut times = Times::default();
         for _ in 0..rounds {
             let built = timed(&mut times.build, || self.build()).expect("the list is accepted");
-            assert_eq!(built, timed(&mut times.hash_map, || self.hash_map()));
+            assert_eq!(built, timed(&mut times.standard, || self.standard_hash_map()));
+            assert_eq!(built, timed(&mut times.fast, || self.fast_hash_map()));
             timed(&mut times.recovery, || self.recover());
             timed(&mut times.rings, || self.rings(built.0));
             self.check(built.0);
@@ -288,18 +234,24 @@ fn print_hundred_thousand(lists: &[(&str, List)]) {
     println!("## 100,000 elements\n");
     println!("Triangles, closed and with rims, and an open grid of quadrilaterals, 400 by 250.\n");
     println!("Milliseconds of processor time, medians of {ROUNDS} interleaved runs on buffers that hold what the run");
-    println!("before left. The hash map needs V2e and E2e cleared first, and its time includes that. The kernel needs");
-    println!("nothing cleared; its time includes clearing its work buffer at the end, and all its checks.\n");
-    println!("| list | build | hash-map build | ratio | recovery | ring of every vertex |");
-    println!("|---|---|---|---|---|---|");
+    println!("before left. A ratio after a hash map is of build to that map; recovery is beside its ratio to build.");
+    println!("The kernel needs nothing cleared, in building and in recovery; its time includes clearing its work");
+    println!(
+        "buffer at the end, and all its checks. A hash map needs V2e and E2e cleared first, and its time includes"
+    );
+    println!("that. The map itself is made anew in every run, with room reserved, and nothing is checked. Standard is");
+    println!("the hasher of Rust's library; fast is one of a multiplication and a fold for each vertex of the key.\n");
+    println!(
+        "| list | build | standard hash map | ratio | fast hash map | ratio | recovery | to build | ring of every vertex |"
+    );
+    println!("|---|---|---|---|---|---|---|---|---|");
     for (name, list) in lists {
-        let times = Bench::new(list).run(ROUNDS);
-        let (build, hash_map) = (median(&times.build), median(&times.hash_map));
+        let Medians { build, standard, fast, recovery, rings } = Bench::new(list).run(ROUNDS).medians(1.0);
         println!(
-            "| {name} | {build:.2} | {hash_map:.2} | {:.2} | {:.2} | {:.2} |",
-            build / hash_map,
-            median(&times.recovery),
-            median(&times.rings)
+            "| {name} | {build:.2} | {standard:.2} | {:.2} | {fast:.2} | {:.2} | {recovery:.2} | {:.2} | {rings:.2} |",
+            build / standard,
+            build / fast,
+            recovery / build
         );
     }
     println!();
@@ -307,23 +259,21 @@ fn print_hundred_thousand(lists: &[(&str, List)]) {
 
 fn print_growth(dice: &mut Dice) {
     println!("## Growth\n");
+    println!("Open sheets of triangles, shuffled. Nanoseconds of processor time per element, medians of");
+    println!("{LARGE_ROUNDS} interleaved runs, with buffers, clearing and ratios as in the first table.\n");
     println!(
-        "Open sheets of triangles, shuffled. Nanoseconds per element, medians of {LARGE_ROUNDS} interleaved runs.\n"
+        "| elements | vertices | build | standard hash map | ratio | fast hash map | ratio | recovery | ring of every vertex |"
     );
-    println!("| elements | vertices | build | hash-map build | recovery | ring of every vertex |");
-    println!("|---|---|---|---|---|---|");
+    println!("|---|---|---|---|---|---|---|---|---|");
     for (width, height) in [(100, 50), (150, 100), (250, 200), (500, 300), (1000, 500)] {
         let list = shuffled(open_sheet(width, height, dice), dice);
+        let (n, m) = (list.n, list.rows.len());
         let times = Bench::new(&list).run(LARGE_ROUNDS);
-        let per_element = |times: &[f64]| median(times) * 1e6 / list.rows.len() as f64;
+        let Medians { build, standard, fast, recovery, rings } = times.medians(1e-6 * m as f64);
         println!(
-            "| {} | {} | {:.0} | {:.0} | {:.0} | {:.0} |",
-            list.rows.len(),
-            list.n,
-            per_element(&times.build),
-            per_element(&times.hash_map),
-            per_element(&times.recovery),
-            per_element(&times.rings)
+            "| {m} | {n} | {build:.0} | {standard:.0} | {:.2} | {fast:.0} | {:.2} | {recovery:.0} | {rings:.0} |",
+            build / standard,
+            build / fast
         );
     }
     println!();
@@ -781,21 +731,21 @@ fn lists_with_unused(dice: &mut Dice) -> Vec<List> {
 fn print_unused(dice: &mut Dice) {
     println!("## Vertices that no element uses\n");
     println!("Nanoseconds per vertex and element together, medians of {ROUNDS} interleaved runs, with buffers and");
-    println!("clearing as in the first table. With no element or one the hash map does little but clear V2e. The one");
+    println!("clearing as in the first table. With no element or one a hash map does little but clear V2e. The one");
     println!("is a triangle of the first, the middle and the last vertex; the 100,000 are those with rims, in order,");
     println!("and use the first 50,250 vertices.\n");
-    println!("| vertices | elements | build | hash-map build | ratio | recovery | ring of every vertex |");
-    println!("|---|---|---|---|---|---|---|");
+    println!(
+        "| vertices | elements | build | standard hash map | ratio | fast hash map | ratio | recovery | ring of every vertex |"
+    );
+    println!("|---|---|---|---|---|---|---|---|---|");
     for list in lists_with_unused(dice) {
-        let times = Bench::new(&list).run(ROUNDS);
         let (n, m) = (list.n, list.rows.len());
-        let per_each = |times: &[f64]| median(times) * 1e6 / (n as usize + m) as f64;
-        let (build, hash_map) = (per_each(&times.build), per_each(&times.hash_map));
+        let times = Bench::new(&list).run(ROUNDS);
+        let Medians { build, standard, fast, recovery, rings } = times.medians(1e-6 * (n as usize + m) as f64);
         println!(
-            "| {n} | {m} | {build:.2} | {hash_map:.2} | {:.2} | {:.2} | {:.2} |",
-            build / hash_map,
-            per_each(&times.recovery),
-            per_each(&times.rings)
+            "| {n} | {m} | {build:.2} | {standard:.2} | {:.2} | {fast:.2} | {:.2} | {recovery:.2} | {rings:.2} |",
+            build / standard,
+            build / fast
         );
     }
     println!();
