@@ -1,11 +1,14 @@
 //! Times building, recovery, rings, siblings, holes and swaps, and other means beside them, and prints tables in Markdown.
 //!
-//!     bench [FOLDER]    with a folder, also writes lists of triangles to FOLDER/build and FOLDER/holes, for bench_cpp
+//!     bench [FOLDER]               with a folder, also writes lists of triangles to FOLDER/build and FOLDER/holes, for
+//!                                  bench_cpp
+//!     bench --building [FOLDER]    only what is about building, and FOLDER/build
 //!
 //! Runs are interleaved and medians reported, so that a slow moment of the machine meets every candidate.
 //! All buffers are allocated and touched before the first run and used again in every run.
 
 mod hash_maps;
+mod late;
 
 use borzhanu::{build, columns, recover, siblings, work_length, HalfEdge, Mesh, OwnedMesh, Refusal};
 use hash_maps::{ends, hash_map_build, hash_map_holes, hash_map_siblings, FastHasher};
@@ -13,6 +16,7 @@ use hosts::meshes::{book, fan, sheet, Dice, Kinds, List};
 use hosts::raw::taken_apart;
 use hosts::reference::View;
 use hosts::told;
+use late::print_late_refusals;
 use std::collections::hash_map::RandomState;
 use std::env;
 use std::fs;
@@ -24,6 +28,7 @@ use std::path::Path;
 const SEED: u64 = 1;
 const ROUNDS: usize = 21;
 const LARGE_ROUNDS: usize = 7;
+const GROWTH_ROUNDS: usize = 5;
 
 /// The buffers of a hash-map build.
 struct Tables {
@@ -208,9 +213,17 @@ fn open_sheet(width: u32, height: u32, dice: &mut Dice) -> List {
     sheet(width, height, (false, false), Kinds::Triangles, dice)
 }
 
+fn rims_100_000(dice: &mut Dice) -> List {
+    sheet(250, 200, (true, false), Kinds::Triangles, dice)
+}
+
+fn grid_100_000(dice: &mut Dice) -> List {
+    sheet(400, 250, (false, false), Kinds::Quadrilaterals, dice)
+}
+
 fn triangles_100_000(dice: &mut Dice) -> Vec<(&'static str, List)> {
     let closed = sheet(250, 200, (true, true), Kinds::Triangles, dice);
-    let rims = sheet(250, 200, (true, false), Kinds::Triangles, dice);
+    let rims = rims_100_000(dice);
     vec![
         ("closed, in order", closed.clone()),
         ("closed, shuffled", shuffled(closed, dice)),
@@ -220,7 +233,7 @@ fn triangles_100_000(dice: &mut Dice) -> Vec<(&'static str, List)> {
 }
 
 fn quadrilaterals_100_000(dice: &mut Dice) -> Vec<(&'static str, List)> {
-    let grid = sheet(400, 250, (false, false), Kinds::Quadrilaterals, dice);
+    let grid = grid_100_000(dice);
     vec![("grid of quadrilaterals, in order", grid.clone()), ("grid of quadrilaterals, shuffled", shuffled(grid, dice))]
 }
 
@@ -260,7 +273,7 @@ fn print_hundred_thousand(lists: &[(&str, List)]) {
 fn print_growth(dice: &mut Dice) {
     println!("## Growth\n");
     println!("Open sheets of triangles, shuffled. Nanoseconds of processor time per element, medians of");
-    println!("{LARGE_ROUNDS} interleaved runs, with buffers, clearing and ratios as in the first table.\n");
+    println!("{GROWTH_ROUNDS} interleaved runs, with buffers, clearing and ratios as in the first table.\n");
     println!(
         "| elements | vertices | build | standard hash map | ratio | fast hash map | ratio | recovery | ring of every vertex |"
     );
@@ -268,7 +281,7 @@ fn print_growth(dice: &mut Dice) {
     for (width, height) in [(100, 50), (150, 100), (250, 200), (500, 300), (1000, 500)] {
         let list = shuffled(open_sheet(width, height, dice), dice);
         let (n, m) = (list.n, list.rows.len());
-        let times = Bench::new(&list).run(LARGE_ROUNDS);
+        let times = Bench::new(&list).run(GROWTH_ROUNDS);
         let Medians { build, standard, fast, recovery, rings } = times.medians(1e-6 * m as f64);
         println!(
             "| {m} | {n} | {build:.0} | {standard:.0} | {:.2} | {fast:.0} | {:.2} | {recovery:.0} | {rings:.0} |",
@@ -307,9 +320,10 @@ fn print_extremes(dice: &mut Dice) {
     let times = build_times(&lists);
     println!("## Many elements at one place\n");
     println!(
-        "Building, nanoseconds per element, medians of {LARGE_ROUNDS} interleaved runs. A fan about one vertex has"
+        "Building, nanoseconds of processor time per element, medians of {LARGE_ROUNDS} interleaved runs, each list"
     );
-    println!("at most 999,999 triangles, since 1,000,000 vertices are the most.\n");
+    println!("with buffers of its own, which hold what the run before left; nothing is cleared first. A fan about one");
+    println!("vertex has at most 999,999 triangles, since 1,000,000 vertices are the most.\n");
     println!("| list | elements | outcome | time per element | relative to the sheet |");
     println!("|---|---|---|---|---|");
     for ((name, list), time) in lists.iter().zip(&times) {
@@ -385,7 +399,7 @@ fn sibling_times(list: &List, rounds: usize) -> (f64, f64) {
 }
 
 fn lists_for_siblings(dice: &mut Dice) -> Vec<(&'static str, List)> {
-    let triangles = sheet(250, 200, (true, false), Kinds::Triangles, dice);
+    let triangles = rims_100_000(dice);
     let mut lists = quadrilaterals_100_000(dice);
     lists.extend([
         ("triangles with rims, in order", triangles.clone()),
@@ -431,7 +445,7 @@ fn lists_with_rims(dice: &mut Dice) -> Vec<(String, List)> {
         ("triangles apart", apart(333)),
         ("strip of quadrilaterals", strip(499_999, quadrilaterals, dice)),
         ("triangles apart", apart(333_333)),
-        ("grid of quadrilaterals", sheet(400, 250, (false, false), quadrilaterals, dice)),
+        ("grid of quadrilaterals", grid_100_000(dice)),
     ];
     let in_either_order = |(name, list): (&str, List)| {
         [(format!("{name}, in order"), list.clone()), (format!("{name}, shuffled"), shuffled(list, dice))]
@@ -722,7 +736,7 @@ fn hardly_used(n: u32) -> [List; 2] {
 
 fn lists_with_unused(dice: &mut Dice) -> Vec<List> {
     let mut lists: Vec<List> = [100_000, 1_000_000].into_iter().flat_map(hardly_used).collect();
-    let rims = sheet(250, 200, (true, false), Kinds::Triangles, dice);
+    let rims = rims_100_000(dice);
     let used = rims.n;
     lists.push(rims.with_unused(used, 1_000_000 - used));
     lists
@@ -751,40 +765,56 @@ fn print_unused(dice: &mut Dice) {
     println!();
 }
 
-/// Lists of triangles. For holes: those with rims, and a million border half-edges in one rim and in rims of three.
-fn write_lists(folder: &Path, triangles: &[(&'static str, List)], dice: &mut Dice) -> io::Result<()> {
+/// Those with rims, and a million border half-edges in one rim and in rims of three.
+fn lists_for_holes(triangles: &[(&'static str, List)], dice: &mut Dice) -> Vec<(&'static str, List)> {
     let (strip, apart) = (strip(499_999, Kinds::Triangles, dice), apart(333_333));
-    let mut for_holes: Vec<(&str, List)> =
+    let mut lists: Vec<(&str, List)> =
         triangles.iter().filter(|(name, _)| name.starts_with("with rims")).cloned().collect();
-    for_holes.extend([
+    lists.extend([
         ("strip, in order", strip.clone()),
         ("strip, shuffled", shuffled(strip, dice)),
         ("triangles apart, in order", apart.clone()),
         ("triangles apart, shuffled", shuffled(apart, dice)),
     ]);
-    for (call, lists) in [("build", triangles), ("holes", &for_holes)] {
-        fs::create_dir_all(folder.join(call))?;
-        for (name, list) in lists {
-            write_list(list, &folder.join(call).join(format!("{name}.list")))?;
-        }
-    }
-    Ok(())
+    lists
+}
+
+fn write_lists(folder: &Path, lists: &[(&str, List)]) -> io::Result<()> {
+    fs::create_dir_all(folder)?;
+    lists.iter().try_for_each(|(name, list)| write_list(list, &folder.join(format!("{name}.list"))))
+}
+
+fn print_building(triangles: &[(&'static str, List)], dice: &mut Dice) {
+    print_hundred_thousand(&[triangles, &quadrilaterals_100_000(dice)].concat());
+    print_growth(dice);
+    print_extremes(dice);
+    print_late_refusals(dice);
+}
+
+fn print_others(triangles: &[(&'static str, List)], dice: &mut Dice) {
+    print_told(dice);
+    print_unused(dice);
+    print_siblings(dice);
+    print_holes(dice);
+    print_refused_holes(dice);
+    print_swaps(triangles, dice);
 }
 
 fn main() -> io::Result<()> {
+    let mut arguments = env::args().skip(1).peekable();
+    let only_building = arguments.next_if_eq("--building").is_some();
     let mut dice = Dice::new(SEED);
     let triangles = triangles_100_000(&mut dice);
-    if let Some(folder) = env::args().nth(1) {
-        write_lists(Path::new(&folder), &triangles, &mut Dice::new(SEED))?;
+    if let Some(folder) = arguments.next() {
+        let folder = Path::new(&folder);
+        write_lists(&folder.join("build"), &triangles)?;
+        if !only_building {
+            write_lists(&folder.join("holes"), &lists_for_holes(&triangles, &mut Dice::new(SEED)))?;
+        }
     }
-    print_hundred_thousand(&[triangles.clone(), quadrilaterals_100_000(&mut dice)].concat());
-    print_growth(&mut dice);
-    print_extremes(&mut dice);
-    print_told(&mut dice);
-    print_unused(&mut dice);
-    print_siblings(&mut dice);
-    print_holes(&mut dice);
-    print_refused_holes(&mut dice);
-    print_swaps(&triangles, &mut dice);
+    print_building(&triangles, &mut dice);
+    if !only_building {
+        print_others(&triangles, &mut dice);
+    }
     Ok(())
 }
