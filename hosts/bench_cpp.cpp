@@ -4,8 +4,8 @@
 //     bench_cpp build LIST..
 //     bench_cpp holes LIST..
 //
-// Runs are interleaved. In building, each library fills a new mesh in each run, with room reserved; the kernel writes
-// to the buffers of the run before. Holes are those of meshes that were built before the first run.
+// Runs are interleaved. In building, each library fills a new mesh in each run, with room reserved, and frees it; the
+// kernel writes to the buffers of the run before. Holes are those of meshes that were built before the first run.
 #include "borzhanu.h"
 
 #include <algorithm>
@@ -291,8 +291,13 @@ void print_holes_row(const List &list) {
 
 void print_builds(char **paths, int count) {
     std::printf("## Other libraries\n\n");
-    std::printf("Milliseconds of processor time, medians of %d interleaved runs on the lists of 100,000 triangles.\n\n",
-                rounds);
+    std::printf(
+        "Milliseconds of processor time, medians of %d interleaved runs on the lists of 100,000 triangles. The\n"
+        "kernel writes to buffers that hold what the run before left; nothing is cleared first, and its time\n"
+        "includes clearing its work buffer at the end, and all its checks. A library fills a mesh that is made\n"
+        "anew in every run, with room reserved; its time includes making the mesh and freeing it. A ratio is of\n"
+        "build to the library before it.\n\n",
+        rounds);
     std::printf("| list | build | CGAL Surface_mesh | ratio | OpenMesh TriMesh | ratio |\n|---|---|---|---|---|---|\n");
     for (int i = 0; i < count; i++)
         print_build_row(read_list(paths[i]));
