@@ -2,8 +2,8 @@
 //!
 //!     spread RUN..    the files that the runs were written to
 //!
-//! What is the same in all runs stays. Where a cell of a table is a number in all, it becomes the median, with the least
-//! and the greatest in brackets. Anything else that differs is an error.
+//! What is the same in all runs stays. A cell of a table that is a number in all becomes the median, with the least and
+//! the greatest in brackets. Anything else that differs is an error.
 
 use std::env;
 use std::fs;

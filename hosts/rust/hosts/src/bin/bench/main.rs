@@ -30,6 +30,9 @@ const ROUNDS: usize = 21;
 const LARGE_ROUNDS: usize = 7;
 const GROWTH_ROUNDS: usize = 5;
 
+/// The heads of the columns about hash-map builds.
+const MAPS: &str = "standard hash map | ratio | fast hash map | ratio";
+
 /// The buffers of a hash-map build.
 struct Tables {
     v2e: Vec<u32>,
@@ -190,7 +193,7 @@ impl<'a> Bench<'a> {
         assert!(self.recovered == self.list.entries());
     }
 
-    /// Each map comes after a call of the kernel: right after the other map it would find that one's memory in the caches.
+    /// Each map comes after a call of the kernel: right after the other map it would find that one's memory in caches.
     fn run(&mut self, rounds: usize) -> Times {
         let mut times = Times::default();
         for _ in 0..rounds {
@@ -255,9 +258,7 @@ fn print_hundred_thousand(lists: &[(&str, List)]) {
     );
     println!("that. The map itself is made anew in every run, with room reserved, and nothing is checked. Standard is");
     println!("the hasher of Rust's library; fast is one of a multiplication and a fold for each vertex of the key.\n");
-    println!(
-        "| list | build | standard hash map | ratio | fast hash map | ratio | recovery | to build | ring of every vertex |"
-    );
+    println!("| list | build | {MAPS} | recovery | to build | ring of every vertex |");
     println!("|---|---|---|---|---|---|---|---|---|");
     for (name, list) in lists {
         let Medians { build, standard, fast, recovery, rings } = Bench::new(list).run(ROUNDS).medians(1.0);
@@ -275,9 +276,7 @@ fn print_growth(dice: &mut Dice) {
     println!("## Growth\n");
     println!("Open sheets of triangles, shuffled. Nanoseconds of processor time per element, medians of");
     println!("{GROWTH_ROUNDS} interleaved runs, with buffers, clearing and ratios as in the first table.\n");
-    println!(
-        "| elements | vertices | build | standard hash map | ratio | fast hash map | ratio | recovery | ring of every vertex |"
-    );
+    println!("| elements | vertices | build | {MAPS} | recovery | ring of every vertex |");
     println!("|---|---|---|---|---|---|---|---|---|");
     for (width, height) in [(100, 50), (150, 100), (250, 200), (500, 300), (1000, 500)] {
         let list = shuffled(open_sheet(width, height, dice), dice);
@@ -749,9 +748,7 @@ fn print_unused(dice: &mut Dice) {
     println!("clearing as in the first table. With no element or one a hash map does little but clear V2e. The one");
     println!("is a triangle of the first, the middle and the last vertex; the 100,000 are those with rims, in order,");
     println!("and use the first 50,250 vertices.\n");
-    println!(
-        "| vertices | elements | build | standard hash map | ratio | fast hash map | ratio | recovery | ring of every vertex |"
-    );
+    println!("| vertices | elements | build | {MAPS} | recovery | ring of every vertex |");
     println!("|---|---|---|---|---|---|---|---|---|");
     for list in lists_with_unused(dice) {
         let (n, m) = (list.n, list.rows.len());
