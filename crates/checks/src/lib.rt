@@ -1,14 +1,21 @@
 // Checks 6 and 7 over a list of fit rows, by what the sibling map tells, and the least side of each vertex.
+ghost use mathlib.Core.Bool.{true};
 ghost use mathlib.Core.Path.{_≡_};
 ghost use Prim.Native.Nat.{_+_, _≤_, _<_};
 ghost use lib.ListN.{length};
 ghost use Rattle.lists.specs.Search.{at};
 ghost use Rattle.lists.specs.Stores.{Kept};
 ghost use Rattle.lists.specs.TestLaws.{Means};
-ghost use Rattle.rules.specs.Refusals.{crowdedSide, alikeSide};
+ghost use Rattle.rules.specs.Refusals.{gives, crowdedSide, alikeSide};
 ghost use Rattle.theory.specs.FitRows.{Fit};
 ghost use Rattle.checks.specs.Firsts.{FirstsFrom, Firsts};
+ghost use Rattle.answer.specs.Numbers.{numbers};
+ghost use Rattle.siblings.specs.Siblings.{Apart};
 ghost use Rattle.checks.specs.Maps.{Mapped, CrowdedAt, AlikeAt};
+ghost use Rattle.checks.specs.Pairs.{pairChecks};
+use answer::Answer;
+use answer::give_two;
+use answer::refuse_side;
 use buffers::clear_first;
 use halfedge::code_at;
 use halfedge::row;
@@ -73,7 +80,7 @@ fn is_crowded(n: usize, list: &[u32], work: &[u32], p: usize) -> bool
 }
 
 // Check 6: the least side whose two vertices three or more sides join; 0 where there is none.
-pub fn crowded_side(n: usize, list: &[u32], work: &[u32]) -> u32
+fn crowded_side(n: usize, list: &[u32], work: &[u32]) -> u32
     requires { ⌜ Mapped n (now list) (now work) ⌝ }
     ensures { λ r. ⌜ r ≡ crowdedSide (now (list .entry)) ⌝ }
 {
@@ -104,7 +111,7 @@ fn is_alike(n: usize, list: &[u32], work: &[u32], p: usize) -> bool
 }
 
 // Check 7, where check 6 found nothing: the least side that another one runs alike with; 0 where there is none.
-pub fn alike_side(n: usize, list: &[u32], work: &[u32]) -> u32
+fn alike_side(n: usize, list: &[u32], work: &[u32]) -> u32
     requires { ⌜ Mapped n (now list) (now work) × (crowdedSide (now list) ≡ 0) ⌝ }
     ensures { λ r. ⌜ r ≡ alikeSide (now (list .entry)) ⌝ }
 {
@@ -116,4 +123,23 @@ pub fn alike_side(n: usize, list: &[u32], work: &[u32]) -> u32
         p += 1;
     }
     0
+}
+
+// Checks 6 and 7, told whether no two sides run alike: only where two do can either find something. 0, 0 where they find nothing.
+pub fn check_pairs(n: usize, list: &[u32], work: &[u32], paired: bool) -> Answer
+    requires { ⌜ Mapped n (now list) (now work) × (paired ≡ true → Apart (now list)) ⌝ }
+    ensures { λ r. ⌜ numbers r ≡ pairChecks (now (list .entry)) (gives 0 0) ⌝ }
+{
+    if paired {
+        return give_two(0, 0);
+    }
+    let s = crowded_side(n, list, work);
+    if s != 0 {
+        return refuse_side(6, s);
+    }
+    let t = alike_side(n, list, work);
+    if t != 0 {
+        return refuse_side(7, t);
+    }
+    give_two(0, 0)
 }

@@ -19,16 +19,7 @@ pub record Cross (L : List ℕ) (u v a b : ℕ) : Type 0 where
 abbrev pub Met : List ℕ → ℕ → Type 0
 Met L e = (e ≡ 0 → ⊥) → (u : ℕ) × (v : ℕ) × (a : ℕ) × (b : ℕ) × Cross L u v a b × (a / 8 ≡ e)
 
--- link a, with greater vertex w, is one of a vertex below v, or of v and below code c
-abbrev pub Seen : ℕ → ℕ → ℕ → ℕ → Type 0
-Seen v c w a = (w < v) ⊎ ((w ≡ v) × (a < c))
-
--- e is the least element of a link that crosses another, of those that were seen; 0 where there is none
-pub record LeastCrossed (L : List ℕ) (v c e : ℕ) : Type 0 where
-  pub met : Met L e
-  pub least : (u w a b : ℕ) → Cross L u w a b → Seen v c w a → Seen v c w b → (1 ≤ e) × (e ≤ a / 8)
-
--- of all
+-- e is the least element of a link that crosses another; 0 where there is none
 pub record FirstCrossed (L : List ℕ) (e : ℕ) : Type 0 where
   pub met : Met L e
   pub least : (u v a b : ℕ) → Cross L u v a b → (1 ≤ e) × (e ≤ a / 8)
@@ -42,8 +33,3 @@ pub data First (n : ℕ) (W : List ℕ) (t r : ℕ) : Type 0 where
 pub data Lesser (e f r : ℕ) : Type 0 where
   new : r ≡ f → ((e ≡ 0 → ⊥) → f < e) → Lesser e f r
   old : r ≡ e → (e ≡ 0 → ⊥) → e ≤ f → Lesser e f r
-
--- r is e, and where t is a diagonal's code the lesser of e and the element of t
-pub data With (e t r : ℕ) : Type 0 where
-  beside : t % 8 ≤ 4 → r ≡ e → With e t r
-  across : 4 < t % 8 → Lesser e (t / 8) r → With e t r

@@ -1,4 +1,3 @@
 pub mod Siblings
-pub mod Chains
 pub mod Crossings
 pub mod Rings

@@ -12,11 +12,11 @@ use Rattle.lists.specs.Search.{at}
 use Rattle.lists.specs.SearchLaws.{count-bound}
 use Rattle.lists.specs.Parts.{part}
 use Rattle.lists.specs.Stores.{Kept}
-use Rattle.rules.specs.Elements.{maxElement, elements, element, number, sideAt, slot, sideWith, firstNumber, countSides}
+use Rattle.rules.specs.Elements.{maxElement, elements, sideAt, slot, sideWith, firstNumber, countSides}
 use Rattle.rules.specs.Pairing.{unfitCorner, repeatedCorner, sizesFit, Element}
 use Rattle.rules.specs.Tables.{borders, edges, b2e, wide, v2e}
 use Rattle.rules.specs.Recovery.{walkTo, walk}
-use Rattle.rules.specs.Refusals.{Answer, gives, refused, crowdedSide, alikeSide, missed, unorderedVertex, clashOf, clashing, sideCheck, vertexCheck, pairCheck, rowChecks, listAnswer}
+use Rattle.rules.specs.Refusals.{Answer, gives, refused, crowdedSide, alikeSide, missed, unorderedVertex, clashOf, clashing, vertexCheck, pairCheck, rowChecks, listAnswer}
 use Rattle.theory.specs.Sides.{sideAt-slot}
 use Rattle.theory.specs.Least.{FirstNumber, first-number}
 use Rattle.theory.specs.FitRows.{Fit, means-sizes, no-side-at}
@@ -30,6 +30,7 @@ use Rattle.unordered.specs.Missed.{Walked}
 use Rattle.siblings.specs.Siblings.{Grouped, Room}
 use Rattle.checks.specs.Maps.{Mapped}
 use Rattle.checks.specs.Firsts.{Firsts}
+use Rattle.checks.specs.Pairs.{pairChecks, pairs-clear}
 use Rattle.borders.specs.Numbers.{Ready, Numbered}
 use Rattle.ordered.specs.Standing.{Standing}
 
@@ -40,7 +41,7 @@ pub record Sized (n : ℕ) (L w : List ℕ) : Type 0 where
 
 -- checks 3 to 7, and then the element that 18 finds
 abbrev pub fitPairs : List ℕ → Answer
-fitPairs L = sideCheck 6 (crowdedSide L) (sideCheck 7 (alikeSide L) (gives (clashing L) 0))
+fitPairs L = pairChecks L (gives (clashing L) 0)
 
 abbrev pub listPairs : ℕ → List ℕ → Answer
 listPairs n L = rowChecks n L (fitPairs L)
@@ -105,25 +106,27 @@ module _ {n a : ℕ} {L w : List ℕ} (here : Fit n L × (length w ≡ n + 12 * 
         same = x .kept .long;
       }
 
--- checks 6 and 7, each by what its search found, and what they give
-module _ {n a : ℕ} {L w₀ w : List ℕ} (p : Grouping n a L w₀ w) where
-  pub refuses-6 : {s : ℕ} {r : Answer} → s ≡ crowdedSide L → (s ≡ 0 → ⊥) → r ≡ refused 6 (element s) (number s) → Paired n L (fitPairs L) r w₀ w
-  refuses-6 e d f = refuses f (rw e (check-refuses (crowdedSide L) _ _ (λ z. d (e ∙ z)))) (p .same)
+-- checks 6 and 7 refused, or found nothing
+module _ {n a : ℕ} {L w₀ w : List ℕ} (p : Grouping n a L w₀ w) {pairs : Answer} (checked : pairs ≡ pairChecks L (gives 0 0)) where
+  pub pairs-refuse : {r s t : ℕ} → pairs ≡ refused r s t → Paired n L (fitPairs L) pairs w₀ w
+  pairs-refuse e =
+      refuses e (still-refused _ _ _ _ (sym checked ∙ e) (λ f. still-refused _ _ _ _ f (λ g. absurd (gives-refused g)))) (p .same)
 
-  module _ (uncrowded : crowdedSide L ≡ 0) where
-    pub refuses-7 : {s : ℕ} {r : Answer} → s ≡ alikeSide L → (s ≡ 0 → ⊥) → r ≡ refused 7 (element s) (number s) → Paired n L (fitPairs L) r w₀ w
-    refuses-7 e d f =
-        refuses f (check-clear _ _ _ uncrowded ∙ rw e (check-refuses (alikeSide L) _ _ (λ z. d (e ∙ z)))) (p .same)
+  module _ {i j : ℕ} (g : pairs ≡ gives i j) where
+    pub none-found : (crowdedSide L ≡ 0) × (alikeSide L ≡ 0)
+    none-found =
+        let (x, h) = past-check (crowdedSide L) _ _ _ _ _ _ (sym checked ∙ g) in (x, past-check (alikeSide L) _ _ _ _ _ _ h .0)
 
     pub still : Fit a L × (a ≤ length w)
     still = (p .mapped .fit, omega (arith, p .mapped .room))
 
     -- the least sides of the vertices are put into w, which becomes w₁
-    pub gives-pairs : alikeSide L ≡ 0 → {w₁ : List ℕ} → Kept a w w₁ × Firsts a L w₁ → {f : ℕ} {r : Answer} → f ≡ clashing L → r ≡ gives f 0 → Paired n L (fitPairs L) r w₀ w₁
-    gives-pairs apart (y, x) {f} g e =
+    pub gives-pairs : {w₁ : List ℕ} → Kept a w w₁ × Firsts a L w₁ → {f : ℕ} {r : Answer} → f ≡ clashing L → r ≡ gives f 0 → Paired n L (fitPairs L) r w₀ w₁
+    gives-pairs (y, x) {f} q e =
+        let (uncrowded, apart) = none-found in
         record {
-          answer = e ∙ ap (λ (f : ℕ). gives f 0) g ∙ sym (check-clear _ _ _ uncrowded ∙ check-clear _ _ _ apart);
-          holds = λ i j q. record {
+          answer = e ∙ ap (λ (f : ℕ). gives f 0) q ∙ sym (pairs-clear L _ uncrowded apart);
+          holds = λ k c z. record {
                 mapped =
                     rw (← p .index)
                     (record {
@@ -267,9 +270,9 @@ module _ {n a : ℕ} {L w w₂ : List ℕ} (s : Standing n L w) (e : a ≡ n) (y
 
 -- checks 3 to 7 refused, or the others follow
 module _ {n : ℕ} {L w w₁ : List ℕ} {b : Answer} (x : Paired n L (listPairs n L) b w w₁) where
-  pub pairs-refuse : {r p q : ℕ} → b ≡ refused r p q → Tabulated n L (listAnswer n L) b w w₁
+  pub list-refuse : {r p q : ℕ} → b ≡ refused r p q → Tabulated n L (listAnswer n L) b w w₁
   unfolding listAnswer
-  pairs-refuse e =
+  list-refuse e =
       refuses e
       (still-refused _ _ _ _ (sym (x .answer) ∙ e) (λ f.
       still-refused _ _ _ _ f (λ g. still-refused _ _ _ _ g (λ h. still-refused _ _ _ _ h (λ i. absurd (gives-refused i))))))

@@ -14,10 +14,8 @@ use answer::Answer;
 use answer::give;
 use answer::give_two;
 use answer::refuse_at;
-use answer::refuse_side;
 use borders::number_borders;
-use checks::alike_side;
-use checks::crowded_side;
+use checks::check_pairs;
 use checks::first_sides;
 use corners::check_rows;
 use halfedge::wide;
@@ -34,16 +32,16 @@ fn pair_fit(n: u32, list: &[u32], work: &mut [u32]) -> Answer
     ensures { λ r. ⌜ Paired n (now (list .entry)) (fitPairs (now (list .entry))) (numbers r) (now (work .entry)) (now (work .exit)) ⌝ }
 {
     let vertices = wide(n);
-    let crossed = siblings(vertices, list, work);
-    let s = crowded_side(vertices, list, work);
-    if s != 0 {
-        return refuse_side(6, s);
-    }
-    let t = alike_side(vertices, list, work);
-    if t != 0 {
-        return refuse_side(7, t);
-    }
-    let f = clashing_element(vertices, list, work, crossed);
+    let found = siblings(vertices, list, work);
+    let pairs = check_pairs(vertices, list, work, found.paired);
+    let Answer::Gives {
+        first: _,
+        second: _,
+    } = pairs
+    else {
+        return pairs;
+    };
+    let f = clashing_element(vertices, list, work, found.crossed);
     first_sides(vertices, list, work);
     give(f)
 }

@@ -3,7 +3,7 @@
 use mathlib.Core.Path.{ap}
 use borrow.Author.Needs.{needs}
 use Rattle.answer.specs.Numbers.{numbers}
-use Rattle.tabulate.specs.Results.{pairs-refuse, pairs-found, list-on}
+use Rattle.tabulate.specs.Results.{list-refuse, pairs-found, list-on}
 use Rattle.tabulate.proofs.tabulate.Statement.{statement}
 use Rattle.tabulate.proofs.tabulate.Tie as tie
 
@@ -20,7 +20,7 @@ same-length : tie.Need-same-length
 same-length c = search needs
 
 returns : tie.Need-returns
-returns c = pairs-refuse (c .before .before .before .before .pair .ensures) (ap numbers (c .enum-told .given .1))
+returns c = list-refuse (c .before .before .before .before .pair .ensures) (ap numbers (c .enum-told .given .1))
 
 -- past checks 3 to 7
 abbrev asked : tie.After-known-told → tie.After-pair
