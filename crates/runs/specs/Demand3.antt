@@ -24,12 +24,10 @@ use Rattle.rules.specs.Tables.{borders, edges, e2e, v2e}
 use Rattle.rules.specs.Recovery.{HasTables, widened, walk}
 use Rattle.rules.specs.Refusals.{Answer, gives, refused, Buffers, buildLengths, roomCheck, listAnswer, after, buildAnswer, buildLeaves}
 use Rattle.rules.specs.Refusals.{recoverLengths, recovers, recoverAnswer}
-use Rattle.theory.specs.Deciding.{means-accepted}
-use Rattle.theory.specs.Answers.{past-lengths, past-room, Late, Never, accepted-answer, build-late, build-accepted, build-never-five}
+use Rattle.theory.specs.Answers.{past-lengths, past-room, Late, Never, accepted-answer, given-accepted, build-late, build-accepted, build-never-five}
 use Rattle.theory.specs.Described.{described}
 use Rattle.theory.specs.Rings.{About}
 use Rattle.theory.specs.Recovering.{tables-equal, means-recovers, means-some-list, recover-gives, recover-none}
-use Rattle.recover.specs.Recovering.{counts-accepted}
 use Rattle.runs.specs.Runs.{BuildRun, RecoverRun}
 
 -- what a run of build that counts shows of its list and its counts
@@ -42,7 +40,7 @@ pub record Counted (n : ℕ) (L : List ℕ) (w : Buffers) (k e : ℕ) : Type 0 w
 -- counts come only for an accepted list, and are its own
 pub list-counted : (n : ℕ) (L : List ℕ) → T (sizesFit n L) → (k e : ℕ) → listAnswer n L ≡ gives k e → Accepted n L × ((k ≡ borders L) × (e ≡ edges L))
 list-counted n L s k e f =
-    let x = means-accepted n L .says (counts-accepted n L s k e f) in
+    let x = given-accepted n L s f in
     let q = sym f ∙ accepted-answer n L (x .rows) x in
     (x, ((cc), (cc)))
 

@@ -9,7 +9,7 @@ use Prim.Native.Nat.{ℕ, _≤_, _<_}
 use native.Mathlib.Omega.{arith}
 use lib.Dec.{T, leb, eqb, not-T}
 use lib.ListN.{length}
-use Rattle.lists.specs.TestLaws.{true-of, false-of, passes, both-pass, means-not, means-eq, means-le, zero-or}
+use Rattle.lists.specs.TestLaws.{true-of, false-of, passes, both-pass, decide, means-not, means-eq, means-le, zero-or}
 use Rattle.lists.specs.SearchLaws.{le-or-lt}
 use Rattle.rules.specs.Pairing.{Accepted, unfitCorner, repeatedCorner, rowsFit, sizesFit}
 use Rattle.rules.specs.Tables.{partner, borders, edges}
@@ -18,7 +18,7 @@ use Rattle.rules.specs.Refusals.{buildLengths, lengthChecks, roomCheck, buildAn
 use Rattle.theory.specs.FitRows.{Fit, means-fit}
 use Rattle.theory.specs.Pairings.{pairing-exists, the-pairing}
 use Rattle.theory.specs.Orders.{good, accepted-of}
-use Rattle.theory.specs.Deciding.{means-ordered, means-conformal}
+use Rattle.theory.specs.Deciding.{means-ordered, means-conformal, means-accepted}
 
 -- a check that found nothing goes on to the later ones; else it refuses
 module _ (x : ℕ) (refusal rest : Answer) where
@@ -189,6 +189,14 @@ module _ (n : ℕ) (L : List ℕ) (rows : T (rowsFit n L)) where
         not-late r a b late (inr h) e =
             let g = room-short (length (w .border)) (borders L) (edges L) h in
             let z : r ≡ 9 = cc in other r late z
+
+-- counts come only for an accepted list
+pub given-accepted : (n : ℕ) (L : List ℕ) → T (sizesFit n L) → {k e : ℕ} → listAnswer n L ≡ gives k e → Accepted n L
+unfolding listAnswer
+given-accepted n L s g = elim (decide (means-accepted n L)) [
+  | inl a ↦ a
+  | inr d ↦ let (r, a, b, late, f) = unaccepted-answer n L (means-fit n L .shows (fit-passed n L _ s g)) d in absurd (gives-refused (sym g ∙ f))
+]
 
 -- the answer x isn't refusal q
 abbrev pub Never : ℕ → Answer → Type 0

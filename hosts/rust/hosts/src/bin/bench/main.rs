@@ -312,22 +312,23 @@ fn outcome(list: &List) -> String {
 }
 
 fn print_extremes(dice: &mut Dice) {
-    let lists = [
-        ("sheet, in order", open_sheet(1000, 500, dice)),
-        ("one fan about one vertex", fan(999_999, true)),
-        ("all on one edge", book(1_000_000, 1_000_000)),
-    ];
+    let sheets = [(100, 50), (250, 200), (1000, 500)];
+    let lists: Vec<(&str, List)> = (sheets.map(|(width, height)| ("sheet, in order", open_sheet(width, height, dice))))
+        .into_iter()
+        .chain([9_999, 99_999, 999_999].map(|rows| ("one fan about one vertex", fan(rows, true))))
+        .chain([10_000, 100_000, 1_000_000].map(|rows| ("all on one edge", book(rows, rows))))
+        .collect();
     let times = build_times(&lists);
-    println!("## Many elements at one place\n");
+    println!("## In order, and many elements at one place\n");
     println!(
         "Building, nanoseconds of processor time per element, medians of {LARGE_ROUNDS} interleaved runs, each list"
     );
     println!("with buffers of its own, which hold what the run before left; nothing is cleared first. A fan about one");
     println!("vertex has at most 999,999 triangles, since 1,000,000 vertices are the most.\n");
-    println!("| list | elements | outcome | time per element | relative to the sheet |");
+    println!("| list | elements | outcome | time per element | relative to the largest sheet |");
     println!("|---|---|---|---|---|");
     for ((name, list), time) in lists.iter().zip(&times) {
-        println!("| {name} | {} | {} | {time:.0} | {:.2} |", list.rows.len(), outcome(list), time / times[0]);
+        println!("| {name} | {} | {} | {time:.0} | {:.2} |", list.rows.len(), outcome(list), time / times[2]);
     }
     println!();
 }
