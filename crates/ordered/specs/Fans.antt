@@ -90,9 +90,9 @@ module _ (n : ℕ) (L : List ℕ) (p : Pairing L (partner L)) where
     pub unused : s ≡ 0 → MetBy n L v met
     unused z =
         let (o, f, whole) = its-fan in
-        elim (zero-or (length o))
-        [ inl e ↦ record { all = omega (arith, e, whole .all) }
-        | inr d ↦ absurd (side-positive L (at o 0) (f .sides 0 (omega arith) .0) (f .first (omega arith) ∙ z))
+        elim (zero-or (length o)) [
+          | inl e ↦ record { all = omega (arith, e, whole .all) }
+          | inr d ↦ absurd (side-positive L (at o 0) (f .sides 0 (omega arith) .0) (f .first (omega arith) ∙ z))
         ]
 
     module _ (d : s ≡ 0 → ⊥) where

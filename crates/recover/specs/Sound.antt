@@ -106,15 +106,15 @@ pub record Tabled (n : ℕ) (L : List ℕ) (r : Bool) (w w′ : List ℕ) : Type
 module _ {n : ℕ} {L w w₁ : List ℕ} {b : Answer} (x : Paired n L (listPairs n L) b w w₁) where
   pub refused-unsound : {r p q : ℕ} → b ≡ refused r p q → Tabled n L false w w₁
   refused-unsound e = record {
-      says = record {
-        says = λ t. absurd t;
-        shows = λ s.
-            gives-refused
-            (sym (rows-clear n L _ (s .fit) (s .single) ∙ check-clear _ _ _ (s .uncrowded) ∙ check-clear _ _ _ (s .apart)) ∙ sym (x .answer) ∙ e);
-      };
-      holds = λ z. absurd (subst T (sym z) tt);
-      long = x .long;
-    }
+    says = record {
+      says = λ t. absurd t;
+      shows = λ s.
+          gives-refused
+          (sym (rows-clear n L _ (s .fit) (s .single) ∙ check-clear _ _ _ (s .uncrowded) ∙ check-clear _ _ _ (s .apart)) ∙ sym (x .answer) ∙ e);
+    };
+    holds = λ z. absurd (subst T (sym z) tt);
+    long = x .long;
+  }
 
   module _ {f e : ℕ} (g : b ≡ gives f e) where
     pub clash-unsound : (f ≡ 0 → ⊥) → Tabled n L false w w₁

@@ -127,19 +127,19 @@ module _ {n a : ℕ} {L w₀ w : List ℕ} (p : Grouping n a L w₀ w) {pairs : 
         record {
           answer = e ∙ ap (λ (f : ℕ). gives f 0) q ∙ sym (pairs-clear L _ uncrowded apart);
           holds = λ k c z. record {
-                mapped =
-                    rw (← p .index)
-                    (record {
-                      fit = p .mapped .fit;
-                      room = omega (arith, y .long, p .mapped .room);
-                      siblings = λ s b. y .entries (a + slot s) (omega arith) ∙ p .mapped .siblings s b;
-                      empty = λ q h d. y .entries (a + q) (omega arith) ∙ p .mapped .empty q h d;
-                    });
-                firsts = rw (p .index) at x;
-                uncrowded = uncrowded;
-                apart = apart;
-                long = y .long ∙ p .long;
-              };
+            mapped =
+                rw (← p .index)
+                (record {
+                  fit = p .mapped .fit;
+                  room = omega (arith, y .long, p .mapped .room);
+                  siblings = λ s b. y .entries (a + slot s) (omega arith) ∙ p .mapped .siblings s b;
+                  empty = λ q h d. y .entries (a + q) (omega arith) ∙ p .mapped .empty q h d;
+                });
+            firsts = rw (p .index) at x;
+            uncrowded = uncrowded;
+            apart = apart;
+            long = y .long ∙ p .long;
+          };
           long = y .long ∙ p .same;
         }
 

@@ -63,11 +63,11 @@ module _ (n : ℕ) (L : List ℕ) (p : Pairing L (partner L)) where
           last : suc i ≡ length o → ⊥
           last q =
               let e : length o - 1 ≡ i = omega arith in
-              elim (f .last (omega arith))
-              [ inl z ↦ paired (ap (λ (k : ℕ). partner L (at o k)) (sym e) ∙ z)
-              | inr (j, k, t) ↦
-                  let (x, y) = subst (λ (k : ℕ). Turn L (partner L) (at o k) (at o 0)) e (last-turn L p v c o f j k t) in
-                  d (sym (its-turn .1) ∙ y ∙ f .first (omega arith))
+              elim (f .last (omega arith)) [
+                | inl z ↦ paired (ap (λ (k : ℕ). partner L (at o k)) (sym e) ∙ z)
+                | inr (j, k, t) ↦
+                    let (x, y) = subst (λ (k : ℕ). Turn L (partner L) (at o k) (at o 0)) e (last-turn L p v c o f j k t) in
+                    d (sym (its-turn .1) ∙ y ∙ f .first (omega arith))
               ]
 
           go : (suc i < length o) ⊎ (suc i ≡ length o) → (suc i < length o) × (turnBy (wide L) (at o i) ≡ at o (suc i))

@@ -40,7 +40,7 @@ start-requires : tie.Need-start-requires Inv-loop μ-loop
 start-requires c κs = let x = c .before .before .pre in (x .0 .sizes, x .0 .linked, x .1, x .2)
 
 returns : tie.Need-returns Inv-loop μ-loop
-returns c = 
+returns c =
     let p = begun (c .before) .pre in
     unused _ _ (p .0 .pairing) (p .1) (p .2) (started (c .before)) (p .3) (c .if1 .taken)
 
@@ -66,20 +66,20 @@ part-turn-end : tie.Need-part-turn-end Inv-loop μ-loop
 part-turn-end c = search needs
 
 turn-requires : tie.Need-turn-requires Inv-loop μ-loop
-turn-requires c κs = 
+turn-requires c κs =
     let here = c .before .before in
     let p = begun here .pre in
     in-own (p .0) (start-side _ _ (p .0 .pairing) (p .1) (p .2) (started here) (p .3) (c .before .if1 .left))
 
 loop-holds : tie.Need-loop-holds Inv-loop μ-loop
-loop-holds c = 
+loop-holds c =
     let here = c .before .before .before in
     let p = begun here .pre in
     starts _ _ (p .0 .pairing) (p .1) (p .2) (started here) (p .3) (c .before .before .if1 .left)
     (c .turn .ensures ∙ ap (λ (E : List ℕ). turnBy E (here .start .result)) (lent-own (p .0)))
 
 returns-2 : tie.Need-returns-2 Inv-loop μ-loop
-returns-2 c = 
+returns-2 c =
     let here = c .before .before in over _ _ (begun (found here) .pre .0 .pairing) (here .loop .inv) (c .if2 .taken)
 
 -- past both tests the fan goes on
@@ -107,14 +107,14 @@ part-turn-end-2 : tie.Need-part-turn-end-2 Inv-loop μ-loop
 part-turn-end-2 c = search needs
 
 turn-requires-2 : tie.Need-turn-requires-2 Inv-loop μ-loop
-turn-requires-2 c κs = 
+turn-requires-2 c κs =
     let on = c .before in in-own (begun (found (on .before .before)) .pre .0) (goes on .1)
 
 loop-less : tie.Need-loop-less Inv-loop μ-loop
 loop-less c = omega (arith, goes (c .before .before) .0)
 
 loop-again : tie.Need-loop-again Inv-loop μ-loop
-loop-again c = 
+loop-again c =
     let on = c .before .before in
     let here = on .before .before in
     let p = begun (found here) .pre .0 in
@@ -122,7 +122,7 @@ loop-again c =
     (c .turn2 .ensures ∙ ap (λ (E : List ℕ). turnBy E (here .loop .t)) (lent-own p))
 
 returns-3 : tie.Need-returns-3 Inv-loop μ-loop
-returns-3 c = 
+returns-3 c =
     let here = c .before in back _ _ (begun (found here) .pre .0 .pairing) (here .loop .inv) (c .loop-test .left)
 
 pub count-about-spec : {M : Type 1} → statement M
