@@ -1,5 +1,4 @@
 // Checks 6 and 7 over a list of fit rows, by what the sibling map tells, and the least side of each vertex.
-ghost use mathlib.Core.Bool.{true};
 ghost use mathlib.Core.Path.{_≡_};
 ghost use Prim.Native.Nat.{_+_, _≤_, _<_};
 ghost use lib.ListN.{length};
@@ -10,7 +9,6 @@ ghost use Rattle.rules.specs.Refusals.{gives, crowdedSide, alikeSide};
 ghost use Rattle.theory.specs.FitRows.{Fit};
 ghost use Rattle.checks.specs.Firsts.{FirstsFrom, Firsts};
 ghost use Rattle.answer.specs.Numbers.{numbers};
-ghost use Rattle.siblings.specs.Siblings.{Apart};
 ghost use Rattle.checks.specs.Maps.{Mapped, CrowdedAt, AlikeAt};
 ghost use Rattle.checks.specs.Pairs.{pairChecks};
 use answer::Answer;
@@ -125,9 +123,10 @@ fn alike_side(n: usize, list: &[u32], work: &[u32]) -> u32
     0
 }
 
-// Checks 6 and 7, told whether no two sides run alike: only where two do can either find something. 0, 0 where they find nothing.
+// Checks 6 and 7, told whether no two sides run alike: of three sides at an edge two do, so only where two do can either find something.
+// 0, 0 where they find nothing.
 pub fn check_pairs(n: usize, list: &[u32], work: &[u32], paired: bool) -> Answer
-    requires { ⌜ Mapped n (now list) (now work) × (paired ≡ true → Apart (now list)) ⌝ }
+    requires { ⌜ Mapped n (now list) (now work) × Means paired (alikeSide (now list) ≡ 0) ⌝ }
     ensures { λ r. ⌜ numbers r ≡ pairChecks (now (list .entry)) (gives 0 0) ⌝ }
 {
     if paired {
@@ -137,9 +136,5 @@ pub fn check_pairs(n: usize, list: &[u32], work: &[u32], paired: bool) -> Answer
     if s != 0 {
         return refuse_side(6, s);
     }
-    let t = alike_side(n, list, work);
-    if t != 0 {
-        return refuse_side(7, t);
-    }
-    give_two(0, 0)
+    refuse_side(7, alike_side(n, list, work))
 }

@@ -167,44 +167,9 @@ count-gap p a b h f =
     omega arith
 
 -- all places pass
-count-all : (p : ℕ → Bool) (n : ℕ) → ((i : ℕ) → i < n → T (p i)) → count p n ≡ n
+pub count-all : (p : ℕ → Bool) (n : ℕ) → ((i : ℕ) → i < n → T (p i)) → count p n ≡ n
 count-all p zero f = omega (arith, count-bound p zero)
 count-all p (suc n) f = count-pass p n (f n (omega arith)) ∙ ap suc (count-all p n (λ i h. f i (omega arith)))
-
--- where every place passes one of two tests, they count no more than the places exactly where none passes both
-module _ (p q : ℕ → Bool) where
-  count-cover : (n : ℕ) → ((i : ℕ) → i < n → T (p i) ⊎ T (q i)) → n ≤ count p n + count q n
-  count-cover zero f = omega arith
-  count-cover (suc n) f = go (f n (omega arith)) (count-cover n (λ i h. f i (omega arith)))
-    where
-      go : T (p n) ⊎ T (q n) → n ≤ count p n + count q n → suc n ≤ count p (suc n) + count q (suc n)
-      go (inl t) r = omega (arith, r, count-pass p n t, count-le q n (suc n) (omega arith))
-      go (inr t) r = omega (arith, r, count-pass q n t, count-le p n (suc n) (omega arith))
-
-  pub count-apart : (n : ℕ) → ((i : ℕ) → i < n → T (p i) ⊎ T (q i)) → count p n + count q n ≤ n → (i : ℕ) → i < n → T (p i) → T (q i) → ⊥
-  count-apart (suc n) f e i h t u =
-      go (lt-or-eq i n h) (count-cover n below) (λ l k. count-apart n below l i k t u) (f n (omega arith))
-    where
-      below : (i : ℕ) → i < n → T (p i) ⊎ T (q i)
-      below i h = f i (omega arith)
-
-      go : (i < n) ⊎ (i ≡ n) → n ≤ count p n + count q n → (count p n + count q n ≤ n → i < n → ⊥) → T (p n) ⊎ T (q n) → ⊥
-      go (inr z) r rest s = omega (arith, count-pass p n (rw z at t), count-pass q n (rw z at u))
-      go (inl k) r rest (inl s) = rest (omega (arith, count-pass p n s, count-le q n (suc n) (omega arith))) k
-      go (inl k) r rest (inr s) = rest (omega (arith, count-pass q n s, count-le p n (suc n) (omega arith))) k
-  count-apart zero f e i h t u = omega arith
-
-  pub count-parts : (n : ℕ) → ((i : ℕ) → i < n → T (p i) ⊎ T (q i)) → ((i : ℕ) → i < n → T (p i) → T (q i) → ⊥) → count p n + count q n ≡ n
-  unfolding count
-  count-parts zero f g = refl
-  count-parts (suc n) f g = go (test (p n)) (test (q n)) (f n (omega arith)) (count-parts n (λ i h. f i (omega arith)) (λ i h. g i (omega arith)))
-    where
-      go : Test (p n) → Test (q n) → T (p n) ⊎ T (q n) → count p n + count q n ≡ n → count p (suc n) + count q (suc n) ≡ suc n
-      go (pass t a) (pass u b) r h = absurd (g n (omega arith) t u)
-      go (pass t a) (fail u b) r h = omega (arith, count-pass p n t, count-fail q n u, h)
-      go (fail t a) (pass u b) r h = omega (arith, count-fail p n t, count-pass q n u, h)
-      go (fail t a) (fail u b) (inl x) h = absurd (T-not (p n) t x)
-      go (fail t a) (fail u b) (inr x) h = absurd (T-not (q n) u x)
 
 -- tests that agree below n count alike and list alike
 pub count-same : (p q : ℕ → Bool) (n : ℕ) → ((i : ℕ) → i < n → p i ≡ q i) → count p n ≡ count q n

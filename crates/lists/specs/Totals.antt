@@ -2,7 +2,7 @@
 -- they are many.
 -- Assumes nothing.
 use mathlib.Core.Path.{_≡_, refl, ap, sym, _∙_}
-use mathlib.Core.Bool.{Bool, not}
+use mathlib.Core.Bool.{Bool, true, not}
 use mathlib.Core.Logic.{_⊎_, inl, inr}
 use mathlib.Core.List.{List, [], _∷_, _++_}
 use Prim.Native.Nat.{ℕ, zero, suc, _+_, _-_, _≤_, _<_}
@@ -12,12 +12,7 @@ use lib.ListN.{length}
 use Rattle.lists.specs.Tests.{both, within}
 use Rattle.lists.specs.TestLaws.{Test, pass, fail, test, false-of, Means, means-both, means-not, means-itself, means-eq, means-within}
 use Rattle.lists.specs.Search.{at, count, tab, total}
-use Rattle.lists.specs.SearchLaws.{lt-or-eq, count-pass, count-fail, count-gap, count-drop, Met}
-
-pub count-all : (p : ℕ → Bool) (n : ℕ) → ((i : ℕ) → i < n → T (p i)) → count p n ≡ n
-unfolding count
-count-all p zero f = refl
-count-all p (suc n) f = count-pass p n (f n (omega arith)) ∙ ap suc (count-all p n (λ i h. f i (omega arith)))
+use Rattle.lists.specs.SearchLaws.{lt-or-eq, count-pass, count-fail, count-le, count-all, count-gap, count-drop, Met}
 
 -- what passes p passes exactly one of q and r
 module _ (p q r : ℕ → Bool) where
@@ -38,6 +33,34 @@ module _ (p q r : ℕ → Bool) where
       go (fail t d) (pass u e) (fail v f) x h = absurd (T-not (p n) t (x .whole .shows (inl u)))
       go (fail t d) (fail u e) (pass v f) x h = absurd (T-not (p n) t (x .whole .shows (inr v)))
       go (pass t d) (fail u e) (fail v f) x h = elim (x .whole .says t) [ inl w ↦ absurd (T-not (q n) u w) | inr w ↦ absurd (T-not (r n) v w) ]
+
+-- where every place passes one of two tests, they count no more than the places exactly where none passes both
+module _ (p q : ℕ → Bool) where
+  count-cover : (n : ℕ) → ((i : ℕ) → i < n → T (p i) ⊎ T (q i)) → n ≤ count p n + count q n
+  count-cover zero f = omega arith
+  count-cover (suc n) f = go (f n (omega arith)) (count-cover n (λ i h. f i (omega arith)))
+    where
+      go : T (p n) ⊎ T (q n) → n ≤ count p n + count q n → suc n ≤ count p (suc n) + count q (suc n)
+      go (inl t) r = omega (arith, r, count-pass p n t, count-le q n (suc n) (omega arith))
+      go (inr t) r = omega (arith, r, count-pass q n t, count-le p n (suc n) (omega arith))
+
+  pub count-apart : (n : ℕ) → ((i : ℕ) → i < n → T (p i) ⊎ T (q i)) → count p n + count q n ≤ n → (i : ℕ) → i < n → T (p i) → T (q i) → ⊥
+  count-apart (suc n) f e i h t u =
+      go (lt-or-eq i n h) (count-cover n below) (λ l k. count-apart n below l i k t u) (f n (omega arith))
+    where
+      below : (i : ℕ) → i < n → T (p i) ⊎ T (q i)
+      below i h = f i (omega arith)
+
+      go : (i < n) ⊎ (i ≡ n) → n ≤ count p n + count q n → (count p n + count q n ≤ n → i < n → ⊥) → T (p n) ⊎ T (q n) → ⊥
+      go (inr z) r rest s = omega (arith, count-pass p n (rw z at t), count-pass q n (rw z at u))
+      go (inl k) r rest (inl s) = rest (omega (arith, count-pass p n s, count-le q n (suc n) (omega arith))) k
+      go (inl k) r rest (inr s) = rest (omega (arith, count-pass q n s, count-le p n (suc n) (omega arith))) k
+  count-apart zero f e i h t u = omega arith
+
+  pub count-parts : (n : ℕ) → ((i : ℕ) → i < n → T (p i) ⊎ T (q i)) → ((i : ℕ) → i < n → T (p i) → T (q i) → ⊥) → count p n + count q n ≡ n
+  count-parts n f g =
+      sym (count-parted (λ i. true) p q n (λ i h. record { whole = record { says = λ t. f i h; shows = λ t. tt }; once = g i h }))
+      ∙ count-all (λ i. true) n (λ i h. tt)
 
 pub total-last : (xs : List ℕ) (x : ℕ) → total (xs ++ (x ∷ [])) ≡ total xs + x
 unfolding total

@@ -4,7 +4,7 @@ use mathlib.Core.Path.{_≡_, refl, ap, sym, subst, _∙_}
 use mathlib.Core.Logic.{_⊎_, inl, inr}
 use mathlib.Core.Bool.{Bool, true, false}
 use mathlib.Core.List.{List}
-use Prim.Native.Nat.{ℕ, zero, suc, _+_, _*_, _-_, _%_, _≤_, _<_}
+use Prim.Native.Nat.{ℕ, suc, _+_, _*_, _-_, _%_, _≤_, _<_}
 use native.Mathlib.Omega.{arith}
 use lib.Dec.{eqb, not-T}
 use lib.ListN.{length}
@@ -15,7 +15,7 @@ use Rattle.lists.specs.SearchLaws.{zeros-blank}
 use Rattle.lists.specs.Parts.{part}
 use Rattle.rules.specs.Elements.{elements, number, isSide, Side, slot, next, countSides}
 use Rattle.rules.specs.Pairing.{Pairing, SideAt}
-use Rattle.rules.specs.Tables.{partner, borderNumber, wide, v2e}
+use Rattle.rules.specs.Tables.{partner, wide, v2e}
 use Rattle.rules.specs.Recovery.{walkStart, turnBy, walkTo, walk}
 use Rattle.rules.specs.Refusals.{unorderedVertex}
 use Rattle.theory.specs.Sides.{side-positive, side-from}
@@ -126,9 +126,6 @@ module _ (n : ℕ) (L : List ℕ) (p : Pairing L (partner L)) where
     abbrev o : List ℕ
     o = a .fan
 
-    start-in : s ≡ 0 → ⊥
-    start-in z = side-positive L (at o 0) (a .about .sides 0 (omega (arith, a .inside)) .0) (a .about .first (omega (arith, a .inside)) ∙ z)
-
     done : suc (a .place) ≡ length o → MetBy n L v count
     done e = record { all = omega (arith, a .whole .all, a .counted, e) }
 
@@ -136,8 +133,7 @@ module _ (n : ℕ) (L : List ℕ) (p : Pairing L (partner L)) where
     over z = done (ends-over n L p (a .about) (a .place) (a .inside) (sym (a .turned) ∙ z))
 
     pub back : t ≡ s → MetBy n L v count
-    back e =
-        done (ends-back n L p (a .about) (a .place) (a .inside) (λ z. start-in (sym e ∙ a .turned ∙ z)) (sym (a .turned) ∙ e))
+    back e = done (ends-back n L p (a .about) (a .place) (a .inside) (sym (a .turned) ∙ e))
 
     module _ (more : t ≡ 0 → ⊥) (new : t ≡ s → ⊥) where
       on : (suc (a .place) < length o) × (turnBy (wide L) (at o (a .place)) ≡ at o (suc (a .place)))

@@ -10,11 +10,10 @@ ghost use Rattle.rules.specs.Refusals.{unorderedVertex};
 ghost use Rattle.ordered.specs.Standing.{Known, Standing, MetBy};
 use halfedge::is_border;
 use halfedge::slot_of;
-use halfedge::wide;
 use sides::next_by_row;
 use walk::start;
 
-// The turn of s; 0 where s is a border side.
+// The turn of s; 0 where s is a border side. In a list's own tables an entry is a side or a border, so one test tells which.
 fn turn(e2e: &[u32], s: u32) -> u32
     requires { ⌜ Known (now e2e) s ⌝ }
     ensures { λ r. ⌜ r ≡ turnBy (now (e2e .entry)) s ⌝ }

@@ -1,6 +1,6 @@
 -- What recovery leaves on its way.
 -- Assumes nothing.
-use mathlib.Core.Path.{_≡_, refl, ap, sym, subst, _∙_}
+use mathlib.Core.Path.{_≡_, ap, sym, subst, _∙_}
 use mathlib.Core.Bool.{Bool, true, false}
 use mathlib.Core.Logic.{_⊎_}
 use mathlib.Core.List.{List, _++_}
@@ -27,7 +27,7 @@ use Rattle.links.specs.Links.{LinkedBy}
 use Rattle.tabulate.specs.Results.{Sized}
 use Rattle.buffers.specs.Whole.{onto-full}
 use Rattle.build.specs.Building.{holds-front}
-use Rattle.recover.specs.Sound.{agree, Tabled, unsound, agreement}
+use Rattle.recover.specs.Faults.{agree, OwnTables, faulted, agreement}
 
 -- E2e has three columns or four
 abbrev pub EitherLong : ℕ → List ℕ → Type 0
@@ -73,7 +73,7 @@ pub record ToTry (n : ℕ) (V2e E2e L w : List ℕ) : Type 0 where
 
 -- the scratch buffer s that the list's tables are tried in, and what is kept behind it; k is n as an index
 module _ {n k : ℕ} {V2e E2e L w : List ℕ} (p : ToTry n V2e E2e L w) (index : k ≡ n) {b : Bool} {s : List ℕ}
-    (x : Tabled n L b (take (k + 12 * elements L - 0) w) s) where
+    (x : OwnTables n L b (take (k + 12 * elements L - 0) w) s) where
   abbrev kept : List ℕ
   kept = drop (k + 12 * elements L - 0) w
 
@@ -92,7 +92,7 @@ module _ {n k : ℕ} {V2e E2e L w : List ℕ} (p : ToTry n V2e E2e L w) (index :
       record { answer = e; rest = drop-at s kept (n + 12 * elements L) scratch-long ∙ ap (λ (i : ℕ). drop i w) z; long = tried-long }
 
   pub not-tabled : b ≡ false → Tried n (elements L) V2e E2e false w w′
-  not-tabled f = by (unsound n L V2e E2e (p .given) (λ s. subst T f (x .says .shows s)))
+  not-tabled f = by (faulted n L V2e E2e (p .given) (λ s. subst T f (x .says .shows s)))
 
   -- c is the number of the list's columns
   module _ {j c : ℕ} (again : j ≡ n) (columned : c ≡ columns L) where

@@ -12,7 +12,7 @@ ghost use Rattle.answer.specs.Numbers.{numbers};
 ghost use Rattle.rules.specs.Refusals.{recoverAnswer, recoverList, recoverWork};
 ghost use Rattle.tabulate.specs.Results.{Sized};
 ghost use Rattle.walk.specs.Layout.{Sizes};
-ghost use Rattle.recover.specs.Sound.{agree, Tabled};
+ghost use Rattle.recover.specs.Faults.{agree, OwnTables};
 ghost use Rattle.recover.specs.Recovering.{EitherLong, Filled, Walked, Roomy, Proposed, ToTry, Tried, Passed, Recovered};
 use answer::Answer;
 use halfedge::wide;
@@ -64,7 +64,7 @@ fn propose(n: usize, m: usize, v2e: &[u32], e2e: &[u32], list: &mut [u32], work:
 // Checks 3 to 7 and 18 find nothing in the list; its tables are put into the scratch buffer.
 fn has_own_tables(n: u32, list: &[u32], work: &mut [u32]) -> bool
     requires { ⌜ Sized n (now list) (now work) ⌝ }
-    ensures { λ r. ⌜ Tabled n (now (list .entry)) r (now (work .entry)) (now (work .exit)) ⌝ }
+    ensures { λ r. ⌜ OwnTables n (now (list .entry)) r (now (work .entry)) (now (work .exit)) ⌝ }
 {
     let paired = tabulate::pair(n, list, work);
     let Answer::Gives { first, second: _ } = paired else {

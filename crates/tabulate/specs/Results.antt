@@ -19,18 +19,18 @@ use Rattle.rules.specs.Recovery.{walkTo, walk}
 use Rattle.rules.specs.Refusals.{Answer, gives, refused, crowdedSide, alikeSide, missed, unorderedVertex, clashOf, clashing, vertexCheck, pairCheck, rowChecks, listAnswer}
 use Rattle.theory.specs.Sides.{sideAt-slot}
 use Rattle.theory.specs.Least.{FirstNumber, first-number}
-use Rattle.theory.specs.FitRows.{Fit, means-sizes, no-side-at}
+use Rattle.theory.specs.FitRows.{Fit, no-side-at}
 use Rattle.theory.specs.Pairings.{the-pairing}
 use Rattle.theory.specs.Entries.{length-v2e}
 use Rattle.theory.specs.Built.{borders-bound}
 use Rattle.theory.specs.Walking.{walk-walked}
-use Rattle.theory.specs.Answers.{check-clear, check-refuses, past-check, gives-refused, still-refused, rows-clear, rows-passed, rows-refused, fit-passed}
+use Rattle.theory.specs.Answers.{check-clear, check-refuses, gives-refused, rows-clear, rows-passed, rows-refused, fit-passed}
 use Rattle.walk.specs.Layout.{Sizes, written, e2eIn, Linked, Walking}
 use Rattle.unordered.specs.Missed.{Walked}
 use Rattle.siblings.specs.Siblings.{Grouped, Room}
 use Rattle.checks.specs.Maps.{Mapped}
 use Rattle.checks.specs.Firsts.{Firsts}
-use Rattle.checks.specs.Pairs.{pairChecks, pairs-clear}
+use Rattle.checks.specs.Pairs.{pairChecks, pairs-clear, pairs-passed, pairs-refused}
 use Rattle.borders.specs.Numbers.{Ready, Numbered}
 use Rattle.ordered.specs.Standing.{Standing}
 
@@ -110,12 +110,11 @@ module _ {n a : ℕ} {L w : List ℕ} (here : Fit n L × (length w ≡ n + 12 * 
 module _ {n a : ℕ} {L w₀ w : List ℕ} (p : Grouping n a L w₀ w) {pairs : Answer} (checked : pairs ≡ pairChecks L (gives 0 0)) where
   pub pairs-refuse : {r s t : ℕ} → pairs ≡ refused r s t → Paired n L (fitPairs L) pairs w₀ w
   pairs-refuse e =
-      refuses e (still-refused _ _ _ _ (sym checked ∙ e) (λ f. still-refused _ _ _ _ f (λ g. absurd (gives-refused g)))) (p .same)
+      refuses e (pairs-refused L 0 0 _ (sym checked ∙ e)) (p .same)
 
   module _ {i j : ℕ} (g : pairs ≡ gives i j) where
     pub none-found : (crowdedSide L ≡ 0) × (alikeSide L ≡ 0)
-    none-found =
-        let (x, h) = past-check (crowdedSide L) _ _ _ _ _ _ (sym checked ∙ g) in (x, past-check (alikeSide L) _ _ _ _ _ _ h .0)
+    none-found = let (x, y, h) = pairs-passed L _ (sym checked ∙ g) in (x, y)
 
     pub still : Fit a L × (a ≤ length w)
     still = (p .mapped .fit, omega (arith, p .mapped .room))
@@ -146,13 +145,17 @@ module _ {n a : ℕ} {L w₀ w : List ℕ} (p : Grouping n a L w₀ w) {pairs : 
 -- checks 3 and 4 refused, or the others follow
 module _ {n : ℕ} {L w : List ℕ} {rows : Answer} (checked : rows ≡ rowChecks n L (gives 0 0)) where
   pub rows-refuse : {r p q : ℕ} → rows ≡ refused r p q → Paired n L (listPairs n L) rows w w
-  rows-refuse e = refuses e (rows-refused n L (fitPairs L) (sym checked ∙ e)) refl
+  rows-refuse e = refuses e (rows-refused n L _ _ (sym checked ∙ e) (λ g. absurd (gives-refused g))) refl
 
   pub rows-fit : {k e : ℕ} → rows ≡ gives k e → Sized n L w → Fit n L × (length w ≡ n + 12 * elements L)
   rows-fit g s = (fit-passed n L (gives 0 0) (s .sizes) (sym checked ∙ g), s .long)
 
   pub pairs-on : {k e : ℕ} {r : Answer} {w′ : List ℕ} → rows ≡ gives k e → Paired n L (fitPairs L) r w w′ → Paired n L (listPairs n L) r w w′
   pairs-on g x = let (y, z, i) = rows-passed n L _ (sym checked ∙ g) in restated (rows-clear n L _ y z) refl x
+
+pub numbered-holds : {n a k c : ℕ} {L w w₁ : List ℕ} → a ≡ n → Numbered a L k c w w₁ → Holds n L w₁
+numbered-holds e x =
+    let y = rw e at x in record { vertices = y .vertices; opposites = y .opposites; border = y .border }
 
 -- the tables stand in w₁, which w has become, and k and c are the numbers of border sides and of sides; n as an index is a
 pub record Tabled (n a k c : ℕ) (L w w₁ : List ℕ) : Type 0 where
@@ -193,9 +196,6 @@ module _ {n a k c : ℕ} {L w w₁ : List ℕ} (t : Tabled n a k c L w w₁) whe
   pub ordered : {b : Bool} → Means b (unorderedVertex a L ≡ 0) → b ≡ true → unorderedVertex n L ≡ 0
   ordered m b = rw e at (m .says (rw b tt))
 
-  holds : Holds n L w₁
-  holds = let y = rw e at x in record { vertices = y .vertices; opposites = y .opposites; border = y .border }
-
   sides-bound : countSides L (λ s. true) ≤ length L
   unfolding countSides
   sides-bound = count-bound (sideWith L (λ s. true)) (length L)
@@ -224,7 +224,7 @@ module _ {n a k c : ℕ} {L w w₁ : List ℕ} (t : Tabled n a k c L w w₁) whe
         let counts = ap (λ (i : ℕ). gives i ((c + i) / 2)) (x .number) ∙ ap (λ (j : ℕ). gives (borders L) ((j + borders L) / 2)) (x .sides) in
         record {
           answer = b ∙ counts ∙ sym (check-clear (unorderedVertex n L) _ _ passed-8 ∙ check-clear (clashing L) _ _ (sym p ∙ y));
-          holds = λ k e g. holds;
+          holds = λ k c g. numbered-holds e x;
           long = x .long;
         }
 
@@ -273,17 +273,13 @@ module _ {n : ℕ} {L w w₁ : List ℕ} {b : Answer} (x : Paired n L (listPairs
   pub list-refuse : {r p q : ℕ} → b ≡ refused r p q → Tabulated n L (listAnswer n L) b w w₁
   unfolding listAnswer
   list-refuse e =
-      refuses e
-      (still-refused _ _ _ _ (sym (x .answer) ∙ e) (λ f.
-      still-refused _ _ _ _ f (λ g. still-refused _ _ _ _ g (λ h. still-refused _ _ _ _ h (λ i. absurd (gives-refused i))))))
-      (x .long)
+      refuses e (rows-refused n L _ _ (sym (x .answer) ∙ e) (pairs-refused L (clashing L) 0 _)) (x .long)
 
   module _ {f e : ℕ} (g : b ≡ gives f e) where
     pub passed : (unfitCorner n L ≡ 0) × (repeatedCorner L ≡ 0) × (crowdedSide L ≡ 0) × (alikeSide L ≡ 0) × (gives (clashing L) 0 ≡ gives f e)
     passed =
         let (p, q, h) = rows-passed n L _ (sym (x .answer) ∙ g) in
-        let (r, i) = past-check (crowdedSide L) _ _ _ _ _ _ h in
-        let (s, j) = past-check (alikeSide L) _ _ _ _ _ _ i in (p, q, r, s, j)
+        let (r, s, j) = pairs-passed L _ h in (p, q, r, s, j)
 
     pub pairs-found : Ready n L w₁ × (f ≡ clashing L)
     pairs-found = (x .holds f e g, (let h = passed .4 in cc))
@@ -291,4 +287,4 @@ module _ {n : ℕ} {L w w₁ : List ℕ} {b : Answer} (x : Paired n L (listPairs
     pub list-on : {c : Answer} {w₂ : List ℕ} → Tabulated n L (pairedAnswer n L) c w₁ w₂ → Tabulated n L (listAnswer n L) c w w₂
     unfolding listAnswer
     list-on y =
-        let (p, q, r, s, j) = passed in restated (rows-clear n L _ p q ∙ check-clear _ _ _ r ∙ check-clear _ _ _ s) (x .long) y
+        let (p, q, r, s, j) = passed in restated (rows-clear n L _ p q ∙ pairs-clear L _ r s) (x .long) y

@@ -1,5 +1,5 @@
-// Checks 3 to 8 and 18 and the three tables of a list, in a scratch buffer of n + 12m entries; nothing else is written. Each check is
-// decided first, and only where it finds something is the place looked for.
+// Checks 3 to 8 and 18 and the three tables of a list, in a scratch buffer of n + 12m entries; nothing else is written. Whether checks 6, 7
+// and 8 find something is decided first, and only then is the place looked for.
 ghost use mathlib.Core.Path.{_≡_};
 ghost use Prim.Native.Nat.{_+_, _*_};
 ghost use lib.ListN.{length};

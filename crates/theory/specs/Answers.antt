@@ -100,8 +100,9 @@ module _ (n : ℕ) (L : List ℕ) where
       (both-pass (sizesFit n L) _ sizes
       (both-pass (eqb (unfitCorner n L) 0) (eqb (repeatedCorner L) 0) (means-eq _ 0 .shows x) (means-eq _ 0 .shows y)))
 
-  pub rows-refused : {r p q : ℕ} (rest : Answer) → rowChecks n L (gives 0 0) ≡ refused r p q → rowChecks n L rest ≡ refused r p q
-  rows-refused rest g = still-refused _ _ _ _ g (λ h. still-refused _ _ _ _ h (λ i. absurd (gives-refused i)))
+  -- what they refuse before one rest they refuse before another, where the one doesn't refuse, or the other does alike
+  pub rows-refused : {r p q : ℕ} (a b : Answer) → rowChecks n L a ≡ refused r p q → (a ≡ refused r p q → b ≡ refused r p q) → rowChecks n L b ≡ refused r p q
+  rows-refused a b g f = still-refused _ _ _ _ g (λ h. still-refused _ _ _ _ h f)
 
 -- one of the refusals 6 to 8 and 18
 abbrev pub LateNumber : ℕ → Type 0

@@ -9,17 +9,18 @@ use Prim.Native.Nat.{ℕ, suc, _+_, _*_, _-_, _≤_, _<_}
 use native.Mathlib.Omega.{arith}
 use lib.Dec.{T, eqb, T-not}
 use lib.ListN.{length}
-use Rattle.lists.specs.TestLaws.{Test, pass, fail, test, zero-or, passes, both-pass, means-eq}
+use Rattle.lists.specs.TestLaws.{Test, pass, fail, test, passes, both-pass, means-eq}
 use Rattle.lists.specs.Search.{at, count, zeros}
-use Rattle.lists.specs.SearchLaws.{count-apart, count-parts, lt-or-eq}
-use Rattle.rules.specs.Elements.{elements, isSide, Side, slot, origin, next, sideAt, sideWith, countSides}
-use Rattle.rules.specs.Pairing.{Pairing, Turn, SideAt}
+use Rattle.lists.specs.SearchLaws.{lt-or-eq}
+use Rattle.lists.specs.Totals.{count-apart, count-parts}
+use Rattle.rules.specs.Elements.{elements, isSide, Side, slot, origin, sideAt, sideWith, countSides}
+use Rattle.rules.specs.Pairing.{Pairing, Turn}
 use Rattle.rules.specs.Tables.{partner, wide, v2e}
-use Rattle.rules.specs.Recovery.{turnBy, walkTo, walk}
+use Rattle.rules.specs.Recovery.{turnBy, walk}
 use Rattle.rules.specs.Refusals.{unorderedVertex}
 use Rattle.theory.specs.Sides.{side-positive, sideAt-slot, slot-sideAt, slot-below}
 use Rattle.theory.specs.FitRows.{Fit}
-use Rattle.theory.specs.Entries.{length-wide, length-v2e}
+use Rattle.theory.specs.Entries.{length-wide}
 use Rattle.theory.specs.Turns.{turn-paired, turn-border}
 use Rattle.theory.specs.Walking.{Fan, Walked, walk-walked}
 use Rattle.theory.specs.Spreading.{last-turn}
@@ -32,47 +33,37 @@ module _ (n : ℕ) (L : List ℕ) (p : Pairing L (partner L)) where
     is-side : Side L (at o i)
     is-side = f .sides i h .0
 
+    -- there is another side, its turn, or it is the last
+    on-or-last : ((suc i < length o) × (turnBy (wide L) (at o i) ≡ at o (suc i))) ⊎ (suc i ≡ length o)
+    on-or-last =
+        elim (lt-or-eq (suc i) (length o) (omega arith)) [
+          | inl l ↦ let (z, t) = f .turns i l in inl (l, turn-paired L (at o i) is-side z ∙ t)
+          | inr q ↦ inr q
+        ]
+
     pub ends-over : turnBy (wide L) (at o i) ≡ 0 → suc i ≡ length o
-    ends-over e = go (lt-or-eq (suc i) (length o) (omega arith))
+    ends-over e = elim on-or-last [ inl (l, t) ↦ absurd (side-positive L (at o (suc i)) (f .sides (suc i) l .0) (sym t ∙ e)) | inr q ↦ q ]
+
+    pub ends-back : turnBy (wide L) (at o i) ≡ c → suc i ≡ length o
+    ends-back e =
+        elim on-or-last
+        [ inl (l, t) ↦ absurd (omega (arith, f .once (suc i) 0 l (omega arith) (sym t ∙ e ∙ sym (f .first (omega arith))))) | inr q ↦ q ]
+
+    pub goes-on : (turnBy (wide L) (at o i) ≡ 0 → ⊥) → (turnBy (wide L) (at o i) ≡ c → ⊥) → (suc i < length o) × (turnBy (wide L) (at o i) ≡ at o (suc i))
+    goes-on more d = elim on-or-last [ inl x ↦ x | inr q ↦ absurd (last q) ]
       where
-        go : (suc i < length o) ⊎ (suc i ≡ length o) → suc i ≡ length o
-        go (inr q) = q
-        go (inl l) =
-            let (z, t) = f .turns i l in
-            absurd (side-positive L (at o (suc i)) (f .sides (suc i) l .0) (sym t ∙ sym (turn-paired L (at o i) is-side z) ∙ e))
+        paired : partner L (at o i) ≡ 0 → ⊥
+        paired z = more (turn-border L (at o i) is-side z)
 
-    module _ (turns : turnBy (wide L) (at o i) ≡ 0 → ⊥) where
-      paired : partner L (at o i) ≡ 0 → ⊥
-      paired z = turns (turn-border L (at o i) is-side z)
-
-      its-turn : Turn L (partner L) (at o i) (turnBy (wide L) (at o i))
-      its-turn = (paired, sym (turn-paired L (at o i) is-side paired))
-
-      pub ends-back : turnBy (wide L) (at o i) ≡ c → suc i ≡ length o
-      ends-back e = go (lt-or-eq (suc i) (length o) (omega arith))
-        where
-          go : (suc i < length o) ⊎ (suc i ≡ length o) → suc i ≡ length o
-          go (inr q) = q
-          go (inl l) =
-              let same : at o (suc i) ≡ at o 0 = sym (f .turns i l .1) ∙ its-turn .1 ∙ e ∙ sym (f .first (omega arith)) in
-              absurd (omega (arith, f .once (suc i) 0 l (omega arith) same))
-
-      pub goes-on : (turnBy (wide L) (at o i) ≡ c → ⊥) → (suc i < length o) × (turnBy (wide L) (at o i) ≡ at o (suc i))
-      goes-on d = go (lt-or-eq (suc i) (length o) (omega arith))
-        where
-          last : suc i ≡ length o → ⊥
-          last q =
-              let e : length o - 1 ≡ i = omega arith in
-              elim (f .last (omega arith)) [
-                | inl z ↦ paired (ap (λ (k : ℕ). partner L (at o k)) (sym e) ∙ z)
-                | inr (j, k, t) ↦
-                    let (x, y) = subst (λ (k : ℕ). Turn L (partner L) (at o k) (at o 0)) e (last-turn L p v c o f j k t) in
-                    d (sym (its-turn .1) ∙ y ∙ f .first (omega arith))
-              ]
-
-          go : (suc i < length o) ⊎ (suc i ≡ length o) → (suc i < length o) × (turnBy (wide L) (at o i) ≡ at o (suc i))
-          go (inl l) = (l, sym (its-turn .1) ∙ f .turns i l .1)
-          go (inr q) = absurd (last q)
+        last : suc i ≡ length o → ⊥
+        last q =
+            let e : length o - 1 ≡ i = omega arith in
+            elim (f .last (omega arith)) [
+              | inl z ↦ paired (ap (λ (k : ℕ). partner L (at o k)) (sym e) ∙ z)
+              | inr (j, k, t) ↦
+                  let (x, y) = subst (λ (k : ℕ). Turn L (partner L) (at o k) (at o 0)) e (last-turn L p v c o f j k t) in
+                  d (turn-paired L (at o i) is-side paired ∙ y ∙ f .first (omega arith))
+            ]
 
   -- as many places are written as there are sides exactly where all of these are
   module _ (fit : Fit n L) where

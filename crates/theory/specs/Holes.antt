@@ -12,8 +12,8 @@ use lib.ListN.{length}
 use Rattle.lists.specs.Tests.{both, within}
 use Rattle.lists.specs.TestLaws.{Means, means-both, means-eq, means-le, means-not, means-within}
 use Rattle.lists.specs.Search.{at, count, total}
-use Rattle.lists.specs.SearchLaws.{le-not-lt, count-pass, count-fail, count-le, count-inj, at-tab, Met, means-has}
-use Rattle.lists.specs.Totals.{count-all, count-by, Names, names-count}
+use Rattle.lists.specs.SearchLaws.{le-not-lt, count-pass, count-fail, count-le, count-inj, at-tab, Met, means-has, count-all}
+use Rattle.lists.specs.Totals.{count-by, Names, names-count}
 use Rattle.rules.specs.Elements.{firstNumber}
 use Rattle.rules.specs.Refusals.{gives, refused}
 use Rattle.rules.specs.Queries.{Mesh, borderLoop}

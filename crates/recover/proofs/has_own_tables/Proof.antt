@@ -3,7 +3,7 @@
 use mathlib.Core.Path.{ap}
 use borrow.Author.Needs.{needs}
 use Rattle.answer.specs.Numbers.{numbers}
-use Rattle.recover.specs.Sound.{refused-unsound, clash-unsound, to-number, tables-stand}
+use Rattle.recover.specs.Faults.{refused-faulted, clash-faulted, to-number, tables-stand}
 use Rattle.recover.proofs.has_own_tables.Statement.{statement}
 use Rattle.recover.proofs.has_own_tables.Tie as tie
 
@@ -24,7 +24,7 @@ same-length : tie.Need-same-length
 same-length c = search needs
 
 returns : tie.Need-returns
-returns c = refused-unsound (c .before .before .before .before .pair .ensures) (ap numbers (c .enum-told .given .1))
+returns c = refused-faulted (c .before .before .before .before .pair .ensures) (ap numbers (c .enum-told .given .1))
 
 same-length-2 : tie.Need-same-length-2
 same-length-2 c = search needs
@@ -32,7 +32,7 @@ same-length-2 c = search needs
 returns-2 : tie.Need-returns-2
 returns-2 c =
     let told = c .before in
-    clash-unsound (asked told .pair .ensures) (ap numbers (told .before .paired .given .1)) (c .if1 .taken)
+    clash-faulted (asked told .pair .ensures) (ap numbers (told .before .paired .given .1)) (c .if1 .taken)
 
 wide-requires : tie.Need-wide-requires
 wide-requires c κs = search needs
