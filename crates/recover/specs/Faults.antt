@@ -111,7 +111,7 @@ module _ {n : ℕ} {L w w₁ : List ℕ} {b : Answer} (x : Paired n L (listPairs
       says = λ t. absurd t;
       shows = λ s.
           gives-refused
-          (sym (rows-clear n L _ (s .fit) (s .single) ∙ check-clear _ _ _ (s .uncrowded) ∙ check-clear _ _ _ (s .apart)) ∙ sym (x .answer) ∙ e);
+          (sym (rows-clear n L _ (s .fit) (s .single) ∙ pairs-clear L _ (s .uncrowded) (s .apart)) ∙ sym (x .answer) ∙ e);
     };
     holds = λ z. absurd (subst T (sym z) tt);
     long = x .long;
