@@ -40,6 +40,7 @@ module _ (L : List ℕ) where
     pub crowded-refuses : {s : ℕ} → s ≡ crowdedSide L → (s ≡ 0 → ⊥) → pairChecks L (gives 0 0) ≡ refused 6 (element s) (number s)
     crowded-refuses e d = rw e (check-refuses (crowdedSide L) _ _ (λ z. d (e ∙ z)))
 
-    pub alike-refuses : flag ≡ false → {s t : ℕ} → s ≡ crowdedSide L → s ≡ 0 → t ≡ alikeSide L → pairChecks L (gives 0 0) ≡ refused 7 (element t) (number t)
+    pub alike-refuses : flag ≡ false → {s t : ℕ} → s ≡ crowdedSide L → s ≡ 0 → t ≡ alikeSide L
+        → pairChecks L (gives 0 0) ≡ refused 7 (element t) (number t)
     alike-refuses f e z q =
         check-clear _ _ _ (sym e ∙ z) ∙ rw q (check-refuses (alikeSide L) _ _ (λ y. (let x : T false = rw f at (means .shows y) in absurd x)))

@@ -79,12 +79,15 @@ pub record Along (n : ℕ) (L : List ℕ) (v s count t : ℕ) : Type 0 where
   pub counted : count ≡ met + suc place
 
 module _ (n : ℕ) (L : List ℕ) (p : Pairing L (partner L)) where
-  module _ {v s met : ℕ} (from : 1 ≤ v) (to : v ≤ n) (start : s ≡ walkStart (wide L) (at (v2e n L) (v - 1))) (before : MetBy n L (v - 1) met) where
+  module _ {v s met : ℕ} (from : 1 ≤ v) (to : v ≤ n)
+      (start : s ≡ walkStart (wide L) (at (v2e n L) (v - 1))) (before : MetBy n L (v - 1) met) where
     its-fan : (o : List ℕ) × Fan L v s o × MetBy n L v (met + length o)
     its-fan =
         let (o, f, filled) = fan-after n L p (v - 1) (omega arith) in
         let e : suc (v - 1) ≡ v = omega arith in
-        (o, rw start (subst (λ (u : ℕ). Fan L u (walkStart (wide L) (at (v2e n L) (v - 1))) o) e f), subst (λ (v : ℕ). MetBy n L v (met + length o)) e (record { all = omega (arith, filled, before .all) }))
+        let about = subst (λ (u : ℕ). Fan L u (walkStart (wide L) (at (v2e n L) (v - 1))) o) e f in
+        let whole = subst (λ (u : ℕ). MetBy n L u (met + length o)) e (record { all = omega (arith, filled, before .all) }) in
+        (o, rw start about, whole)
 
     -- a vertex without a start has no fan
     pub unused : s ≡ 0 → MetBy n L v met
@@ -164,7 +167,8 @@ unfolding walkTo
 none-met n L = record { all = omega (arith, zeros-blank (length (wide L)), length-wide L) }
 
 -- as many as there are exactly where every vertex has a turn order
-pub means-all-met : {n : ℕ} {L w : List ℕ} {met sides : ℕ} → Standing n L w → sides ≡ countSides L (λ s. true) → MetBy n L n met → Means (eqb met sides) (unorderedVertex n L ≡ 0)
+pub means-all-met : {n : ℕ} {L w : List ℕ} {met sides : ℕ} → Standing n L w → sides ≡ countSides L (λ s. true) → MetBy n L n met
+    → Means (eqb met sides) (unorderedVertex n L ≡ 0)
 unfolding walk
 means-all-met {n} {L} {met = met} {sides} k q x =
     let p = k .pairing in

@@ -13,7 +13,7 @@ use lib.Seq.{take-at, drop-at, take-all}
 use Rattle.lists.specs.Parts.{part, part-take, put-take, put-drop, put-length}
 use Rattle.rules.specs.Elements.{elements}
 use Rattle.rules.specs.Pairing.{callSizes}
-use Rattle.rules.specs.Tables.{columns, v2e, e2e}
+use Rattle.rules.specs.Tables.{columns, v2e}
 use Rattle.rules.specs.Recovery.{widened, walkTo, walk}
 use Rattle.rules.specs.Refusals.{Answer, gives, refused}
 use Rattle.rules.specs.Refusals.{recovers, recoverLengths, after, onto, recoverAnswer, recoverList, recoverWork}

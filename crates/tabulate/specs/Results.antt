@@ -72,12 +72,14 @@ Tabulated n L = Leaves (Holds n L)
 
 module _ {P : List ℕ → Type 0} where
   -- a refusal leaves nothing that holds
-  refuses : {stated a : Answer} {r p q : ℕ} {w w′ : List ℕ} → a ≡ refused r p q → stated ≡ refused r p q → length w′ ≡ length w → Leaves P stated a w w′
+  refuses : {stated a : Answer} {r p q : ℕ} {w w′ : List ℕ} → a ≡ refused r p q → stated ≡ refused r p q → length w′ ≡ length w
+      → Leaves P stated a w w′
   refuses e f l =
       record { answer = e ∙ sym f; holds = λ k c g. absurd (gives-refused (sym g ∙ e)); long = l }
 
   -- the same answer, stated with the checks before it, of the buffer at first
-  restated : {stated stated′ a : Answer} {w w₀ w′ : List ℕ} → stated′ ≡ stated → length w ≡ length w₀ → Leaves P stated a w w′ → Leaves P stated′ a w₀ w′
+  restated : {stated stated′ a : Answer} {w w₀ w′ : List ℕ} → stated′ ≡ stated → length w ≡ length w₀ → Leaves P stated a w w′
+      → Leaves P stated′ a w₀ w′
   restated e l x = record { answer = x .answer ∙ sym e; holds = x .holds; long = x .long ∙ l }
 
 -- w₀ has become w, which holds the sibling map; n as an index is a
@@ -120,7 +122,8 @@ module _ {n a : ℕ} {L w₀ w : List ℕ} (p : Grouping n a L w₀ w) {pairs : 
     still = (p .mapped .fit, omega (arith, p .mapped .room))
 
     -- the least sides of the vertices are put into w, which becomes w₁
-    pub gives-pairs : {w₁ : List ℕ} → Kept a w w₁ × Firsts a L w₁ → {f : ℕ} {r : Answer} → f ≡ clashing L → r ≡ gives f 0 → Paired n L (fitPairs L) r w₀ w₁
+    pub gives-pairs : {w₁ : List ℕ} → Kept a w w₁ × Firsts a L w₁ → {f : ℕ} {r : Answer} → f ≡ clashing L → r ≡ gives f 0
+        → Paired n L (fitPairs L) r w₀ w₁
     gives-pairs (y, x) {f} q e =
         let (uncrowded, apart) = none-found in
         record {
@@ -210,7 +213,8 @@ module _ {n a k c : ℕ} {L w w₁ : List ℕ} (t : Tabled n a k c L w w₁) whe
 
   module _ (passed-8 : unorderedVertex n L ≡ 0) where
     -- check 18 by the element f, and by g for its other
-    pub refuses-18 : {f g : ℕ} {b : Answer} → f ≡ clashing L → (f ≡ 0 → ⊥) → g ≡ clashOf L f → b ≡ refused 18 f g → Tabulated n L (pairedAnswer n L) b w w₁
+    pub refuses-18 : {f g : ℕ} {b : Answer} → f ≡ clashing L → (f ≡ 0 → ⊥) → g ≡ clashOf L f → b ≡ refused 18 f g
+        → Tabulated n L (pairedAnswer n L) b w w₁
     refuses-18 {f} p d q b =
         refuses b
         (check-clear (unorderedVertex n L) _ _ passed-8
@@ -221,7 +225,8 @@ module _ {n a k c : ℕ} {L w w₁ : List ℕ} (t : Tabled n a k c L w w₁) whe
     pub gives-tables : {f : ℕ} {b : Answer} → f ≡ clashing L → f ≡ 0 → b ≡ gives k ((c + k) / 2) → Tabulated n L (pairedAnswer n L) b w w₁
     unfolding edges
     gives-tables p y b =
-        let counts = ap (λ (i : ℕ). gives i ((c + i) / 2)) (x .number) ∙ ap (λ (j : ℕ). gives (borders L) ((j + borders L) / 2)) (x .sides) in
+        let counts =
+        ap (λ (i : ℕ). gives i ((c + i) / 2)) (x .number) ∙ ap (λ (j : ℕ). gives (borders L) ((j + borders L) / 2)) (x .sides) in
         record {
           answer = b ∙ counts ∙ sym (check-clear (unorderedVertex n L) _ _ passed-8 ∙ check-clear (clashing L) _ _ (sym p ∙ y));
           holds = λ k c g. numbered-holds e x;

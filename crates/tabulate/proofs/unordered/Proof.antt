@@ -1,6 +1,5 @@
 -- `tabulate::unordered` meets its contract.
 -- Assumes nothing.
-use mathlib.Core.Path.{sym, _∙_}
 use borrow.Author.Needs.{needs}
 use Rattle.tabulate.specs.Results.{walk-needs, walked, left-out}
 use Rattle.tabulate.proofs.unordered.Statement.{statement}
