@@ -44,10 +44,6 @@ high L c =
     elim (leb (number c) 4)
     [ true ↦ greater L c | false ↦ max (corner L (element c) (number c - 4)) (corner L (element c) (number c - 2)) ]
 
--- no link of L has this code or a higher one
-abbrev pub beyond : List ℕ → ℕ
-beyond L = 8 * elements L + 7
-
 -- its element, and its number in it
 pub record LinkFacts (L : List ℕ) (c : ℕ) : Type 0 where
   pub element-from : 1 ≤ c / 8
@@ -62,12 +58,6 @@ module _ (L : List ℕ) (c : ℕ) where
       record { element-from = f .element-from; element-to = f .element-to; number-from = f .number-from; number-to = omega (arith, f .number-four) }
   link-facts (diagonal d) =
       record { element-from = d .element-from; element-to = d .element-to; number-from = omega (arith, d .number-from); number-to = d .number-to }
-
-  pub link-beyond : Link L c → c < beyond L
-  link-beyond l = let f = link-facts l in omega arith
-
-  pub link-positive : Link L c → c ≡ 0 → ⊥
-  link-positive l e = let f = link-facts l in omega arith
 
   -- a link is a side where its number is one of a side
   pub link-side : Link L c → c % 8 ≤ 4 → Side L c

@@ -16,8 +16,8 @@ use Rattle.rules.specs.Pairing.{joins}
 use Rattle.rules.specs.Siblings.{sibling}
 use Rattle.theory.specs.Sides.{slot-sideAt, sideAt-slot, slot-below, slot-inj, slot-less, less-slot}
 use Rattle.theory.specs.Steps.{next-number, wraps, grows, NextNumber, Ahead, on, round, ahead}
-use Rattle.theory.specs.Links.{lesser, greater, beyond}
-use Rattle.theory.specs.Siblings.{Between, Next, rises, returns, next-between, side-beyond, joins-between, between-joins, sibling-follows}
+use Rattle.theory.specs.Links.{lesser, greater}
+use Rattle.theory.specs.Siblings.{Between, Next, rises, returns, follows-in, joins-between, between-joins, sibling-follows}
 
 -- t is a side that joins the two vertices of s; how many there are
 abbrev pub Joined : List ℕ → ℕ → ℕ → Type 0
@@ -83,8 +83,8 @@ module _ (L : List ℕ) (s : ℕ) (a : Side L s) where
   unfolding rank
   rank-sibling t b = go (sibling-follows L t (between t b)) (next-number k (rank t))
     where
-      go : {x r : ℕ} → Next L (lesser L s) (greater L s) (beyond L) t x → NextNumber k (rank t) r → rank x ≡ r
-      go {x} (rises c h i f) n =
+      go : {x r : ℕ} → Next L (lesser L s) (greater L s) t x → NextNumber k (rank t) r → rank x ≡ r
+      go {x} (rises c h f) n =
           let y = joined x c in
           let l = slot-less L t x (b .0) (c .side) h in
           let gap = count-gap test (suc (slot t)) (slot x) l
@@ -95,7 +95,7 @@ module _ (L : List ℕ) (s : ℕ) (a : Side L s) where
       go {x} (returns c h f g) n =
           let none = count-gap test 0 (slot x) (omega arith) (clear 0 (slot x) (λ z w p q. g z (between z w) (less-slot L z x (w .0) (c .side) q))) in
           let gap = count-gap test (suc (slot t)) (length L) (slot-below L t (b .0))
-          (clear (suc (slot t)) (length L) (λ z w p q. f z (between z w) (less-slot L t z (b .0) (w .0) p) (side-beyond L z (w .0)))) in
+          (clear (suc (slot t)) (length L) (λ z w p q. f z (between z w) (less-slot L t z (b .0) (w .0) p))) in
           let here = count-pass test (slot t) (passes-at t b) in
           elim n [ wraps e g ↦ omega (arith, count-bound test 0) | grows e g ↦ absurd (e (omega (arith, counted))) ]
 
@@ -105,7 +105,7 @@ module _ (L : List ℕ) (s : ℕ) (a : Side L s) where
     only zero = rw begins (joined s own)
     only (suc i) =
         let b = only i in
-        rw (steps i (b .0)) (joined (sibling L (cs i)) (next-between (sibling-follows L (cs i) (between (cs i) b))))
+        rw (steps i (b .0)) (joined (sibling L (cs i)) (follows-in (sibling-follows L (cs i) (between (cs i) b))))
 
     -- from place i on the numbers count on, and after the last from 1 again
     window : (i j : ℕ) → j ≤ k → Ahead k (rank (cs i)) j (rank (cs (i + j)))
