@@ -1,6 +1,6 @@
 //! Refusals that are found late: sound lists followed by an element that is at fault, or by two.
 
-use crate::{grid_100_000, median, rims_100_000, shuffled, timed, Bench, ROUNDS};
+use crate::{grid_100_000, median, rims_100_000, shuffled, Kernel, ROUNDS};
 use hosts::meshes::{corners_of, Dice, List};
 use std::collections::HashMap;
 
@@ -92,13 +92,13 @@ fn faults(sound: &List) -> Vec<Fault> {
 
 /// Medians of the milliseconds of a build of the sound list, and of each of those with a fault, runs interleaved.
 fn late_times(sound: &List, faults: &[Fault]) -> (f64, Vec<f64>) {
-    let mut bench = Bench::new(sound);
-    let mut benches: Vec<Bench> = faults.iter().map(|fault| Bench::new(&fault.list)).collect();
+    let mut kernel = Kernel::new(sound);
+    let mut kernels: Vec<Kernel> = faults.iter().map(|fault| Kernel::new(&fault.list)).collect();
     let (mut build, mut refused) = (Vec::new(), vec![Vec::new(); faults.len()]);
     for _ in 0..ROUNDS {
-        timed(&mut build, || bench.build()).expect("the list is accepted");
-        for ((fault, bench), times) in faults.iter().zip(&mut benches).zip(&mut refused) {
-            let refusal = timed(times, || bench.build()).expect_err("the list is refused");
+        kernel.timed_build(&mut build).expect("the list is accepted");
+        for ((fault, kernel), times) in faults.iter().zip(&mut kernels).zip(&mut refused) {
+            let refusal = kernel.timed_build(times).expect_err("the list is refused");
             assert_eq!((refusal.number(), refusal.place()), (fault.number, fault.place));
         }
     }
@@ -140,8 +140,9 @@ pub fn print_late_refusals(dice: &mut Dice) {
     println!(
         "Milliseconds of processor time, medians of {ROUNDS} interleaved runs, each list with buffers of its own,"
     );
-    println!("which hold what the run before left. Nothing is cleared first; the time of a build and of a refusal");
-    println!("includes clearing the work buffer at the end. The ratio is of the refusal to the build.\n");
+    println!("which hold what the run before left; tables and list are read through before each run, as in the first");
+    println!("table. Nothing is cleared first; the time of a build and of a refusal includes clearing the work buffer");
+    println!("at the end. The ratio is of the refusal to the build.\n");
     println!("| list | fault | refused | build without the fault | refusal | ratio |");
     println!("|---|---|---|---|---|---|");
     for (name, sound) in sound_lists(dice) {

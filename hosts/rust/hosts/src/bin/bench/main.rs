@@ -33,21 +33,24 @@ const GROWTH_ROUNDS: usize = 5;
 /// The heads of the columns about hash-map builds.
 const MAPS: &str = "standard hash map | ratio | fast hash map | ratio";
 
-/// The buffers of a hash-map build.
+/// The tables that a build writes, E2e in so many columns.
 struct Tables {
+    columns: usize,
     v2e: Vec<u32>,
     e2e: Vec<u32>,
     b2e: Vec<u32>,
 }
 
-/// A list and the buffers of the calls on it, and of the builds beside them.
-struct Bench<'a> {
+/// A list and the buffers of the kernel's build.
+struct Kernel<'a> {
     list: &'a List,
-    columns: usize,
-    v2e: Vec<u32>,
-    e2e: Vec<u32>,
-    b2e: Vec<u32>,
+    tables: Tables,
     work: Vec<u32>,
+}
+
+/// Buffers for the other calls too, and for the builds by hash maps.
+struct Bench<'a> {
+    kernel: Kernel<'a>,
     standard: Tables,
     fast: Tables,
     recovered: Vec<u32>,
@@ -120,65 +123,71 @@ fn median(times: &[f64]) -> f64 {
     sorted[sorted.len() / 2]
 }
 
+/// Reads the tables of the call that is timed next, and then the list, so that they are as far in caches for it as for
+/// any other, whatever was called before.
+fn read_through(tables: &Tables, list: &List) {
+    for numbers in [&tables.v2e[..], &tables.e2e, &tables.b2e, list.entries()] {
+        black_box(black_box(numbers).iter().map(|&number| u64::from(number)).sum::<u64>());
+    }
+}
+
 impl Tables {
-    fn new(n: usize, e2e: usize, borders: usize) -> Tables {
-        Tables { v2e: vec![1; n], e2e: vec![1; e2e], b2e: vec![1; borders] }
+    fn new(list: &List) -> Tables {
+        let columns = columns(list.n, list.entries()).expect("the list is small enough") as usize;
+        let (n, m) = (list.n as usize, list.rows.len());
+        Tables { columns, v2e: vec![1; n], e2e: vec![1; columns * m], b2e: vec![1; n.min(4 * m)] }
     }
 
-    fn build<S: BuildHasher + Default>(&mut self, columns: usize, list: &List) -> (u32, u32) {
-        hash_map_build::<S>(columns, list.entries(), &mut self.v2e, &mut self.e2e, &mut self.b2e)
+    fn hash_map_build<S: BuildHasher + Default>(&mut self, list: &List) -> (u32, u32) {
+        hash_map_build::<S>(self.columns, list.entries(), &mut self.v2e, &mut self.e2e, &mut self.b2e)
+    }
+}
+
+impl<'a> Kernel<'a> {
+    fn new(list: &'a List) -> Kernel<'a> {
+        Kernel { list, tables: Tables::new(list), work: vec![1; work_length(list.n, list.rows.len())] }
+    }
+
+    fn build(&mut self) -> Result<(u32, u32), Refusal> {
+        let Tables { v2e, e2e, b2e, .. } = &mut self.tables;
+        build(self.list.n, self.list.entries(), v2e, e2e, b2e, &mut self.work)
+            .map(|counts| (counts.borders, counts.edges))
+    }
+
+    fn timed_build(&mut self, times: &mut Vec<f64>) -> Result<(u32, u32), Refusal> {
+        read_through(&self.tables, self.list);
+        timed(times, || self.build())
     }
 }
 
 impl<'a> Bench<'a> {
     fn new(list: &'a List) -> Bench<'a> {
-        let columns = columns(list.n, list.entries()).expect("the list is small enough") as usize;
-        let (n, m) = (list.n as usize, list.rows.len());
-        let borders = n.min(4 * m);
+        let m = list.rows.len();
         Bench {
-            list,
-            columns,
-            v2e: vec![1; n],
-            e2e: vec![1; columns * m],
-            b2e: vec![1; borders],
-            work: vec![1; work_length(list.n, m)],
-            standard: Tables::new(n, columns * m, borders),
-            fast: Tables::new(n, columns * m, borders),
+            kernel: Kernel::new(list),
+            standard: Tables::new(list),
+            fast: Tables::new(list),
             recovered: vec![1; 4 * m],
             ring: vec![1; m],
         }
     }
 
-    fn build(&mut self) -> Result<(u32, u32), Refusal> {
-        let entries = self.list.entries();
-        build(self.list.n, entries, &mut self.v2e, &mut self.e2e, &mut self.b2e, &mut self.work)
-            .map(|counts| (counts.borders, counts.edges))
-    }
-
-    fn standard_hash_map(&mut self) -> (u32, u32) {
-        self.standard.build::<RandomState>(self.columns, self.list)
-    }
-
-    fn fast_hash_map(&mut self) -> (u32, u32) {
-        self.fast.build::<FastHasher>(self.columns, self.list)
-    }
-
     fn recover(&mut self) {
-        let m = self.list.rows.len() as u32;
-        recover(self.list.n, m, &self.v2e, &self.e2e, &mut self.recovered, &mut self.work).expect("tables as built");
+        let Kernel { list, tables: Tables { v2e, e2e, .. }, work } = &mut self.kernel;
+        recover(list.n, list.rows.len() as u32, v2e, e2e, &mut self.recovered, work).expect("tables as built");
     }
 
     /// The ring of every vertex of a mesh that is put together for it; gives the sum of their lengths.
     fn rings(&mut self, k: u32) -> usize {
-        let b2e = &self.b2e[..k as usize];
-        let mesh = Mesh::new(self.list.n, self.list.entries(), &self.v2e, &self.e2e, b2e).expect("tables as built");
+        let Kernel { list, tables: Tables { v2e, e2e, b2e, .. }, .. } = &self.kernel;
+        let mesh = Mesh::new(list.n, list.entries(), v2e, e2e, &b2e[..k as usize]).expect("tables as built");
         (1..=mesh.n()).map(|v| mesh.ring(v, &mut self.ring).expect("tables as built")).sum()
     }
 
     /// The ring of every vertex of a closed mesh, each call told these columns; gives the sum of their lengths.
     fn rings_told(&mut self, told: u32) -> usize {
-        let view =
-            View { n: self.list.n, told, elements: self.list.entries(), v2e: &self.v2e, e2e: &self.e2e, b2e: &[] };
+        let Kernel { list, tables: Tables { v2e, e2e, .. }, .. } = &self.kernel;
+        let view = View { n: list.n, told, elements: list.entries(), v2e, e2e, b2e: &[] };
         let (out, len) = (self.ring.as_mut_ptr(), self.ring.len());
         let ring = |v| taken_apart(told!(borzhanu_ring, view, v, out, len)).expect("tables as built").0;
         (1..=view.n).map(|v| ring(v) as usize).sum()
@@ -186,21 +195,25 @@ impl<'a> Bench<'a> {
 
     /// All builds write the same tables, and recovery gives the list back.
     fn check(&self, k: u32) {
-        let k = k as usize;
-        for Tables { v2e, e2e, b2e } in [&self.standard, &self.fast] {
-            assert!(&self.v2e == v2e && &self.e2e == e2e && self.b2e[..k] == b2e[..k]);
+        let (k, built) = (k as usize, &self.kernel.tables);
+        for Tables { v2e, e2e, b2e, .. } in [&self.standard, &self.fast] {
+            assert!(&built.v2e == v2e && &built.e2e == e2e && built.b2e[..k] == b2e[..k]);
         }
-        assert!(self.recovered == self.list.entries());
+        assert!(self.recovered == self.kernel.list.entries());
     }
 
     /// Each map comes after a call of the kernel: right after the other map it would find that one's memory in caches.
     fn run(&mut self, rounds: usize) -> Times {
-        let mut times = Times::default();
+        let (list, mut times) = (self.kernel.list, Times::default());
         for _ in 0..rounds {
-            let built = timed(&mut times.build, || self.build()).expect("the list is accepted");
-            assert_eq!(built, timed(&mut times.standard, || self.standard_hash_map()));
+            let built = self.kernel.timed_build(&mut times.build).expect("the list is accepted");
+            read_through(&self.standard, list);
+            assert_eq!(built, timed(&mut times.standard, || self.standard.hash_map_build::<RandomState>(list)));
+            read_through(&self.kernel.tables, list);
             timed(&mut times.recovery, || self.recover());
-            assert_eq!(built, timed(&mut times.fast, || self.fast_hash_map()));
+            read_through(&self.fast, list);
+            assert_eq!(built, timed(&mut times.fast, || self.fast.hash_map_build::<FastHasher>(list)));
+            read_through(&self.kernel.tables, list);
             timed(&mut times.rings, || self.rings(built.0));
             self.check(built.0);
         }
@@ -251,13 +264,13 @@ fn print_hundred_thousand(lists: &[(&str, List)]) {
     println!("## 100,000 elements\n");
     println!("Triangles, closed and with rims, and an open grid of quadrilaterals, 400 by 250.\n");
     println!("Milliseconds of processor time, medians of {ROUNDS} interleaved runs on buffers that hold what the run");
-    println!("before left. A ratio after a hash map is of build to that map; recovery is beside its ratio to build.");
-    println!("The kernel needs nothing cleared, in building and in recovery; its time includes clearing its work");
-    println!(
-        "buffer at the end, and all its checks. A hash map needs V2e and E2e cleared first, and its time includes"
-    );
-    println!("that. The map itself is made anew in every run, with room reserved, and nothing is checked. Standard is");
-    println!("the hasher of Rust's library; fast is one of a multiplication and a fold for each vertex of the key.\n");
+    println!("before left. Before each run its tables and then the list are read through, untimed, so that every run");
+    println!("finds them alike. A ratio after a hash map is of build to that map; recovery is beside its ratio to");
+    println!("build. The kernel needs nothing cleared, in building and in recovery; its time includes clearing its");
+    println!("work buffer at the end, and all its checks. A hash map needs V2e and E2e cleared first, and its time");
+    println!("includes that. The map itself is made anew in every run, with room reserved, and nothing is checked.");
+    println!("Standard is the hasher of Rust's library; fast is one of a multiplication and a fold for each vertex of");
+    println!("the key.\n");
     println!("| list | build | {MAPS} | recovery | to build | ring of every vertex |");
     println!("|---|---|---|---|---|---|---|---|---|");
     for (name, list) in lists {
@@ -294,18 +307,18 @@ fn print_growth(dice: &mut Dice) {
 
 /// Median of the build's nanoseconds per element for each list, runs interleaved.
 fn build_times(lists: &[(&str, List)]) -> Vec<f64> {
-    let mut benches: Vec<Bench> = lists.iter().map(|(_, list)| Bench::new(list)).collect();
+    let mut kernels: Vec<Kernel> = lists.iter().map(|(_, list)| Kernel::new(list)).collect();
     let mut times = vec![Vec::new(); lists.len()];
     for _ in 0..LARGE_ROUNDS {
-        for (bench, times) in benches.iter_mut().zip(&mut times) {
-            let _ = timed(times, || bench.build());
+        for (kernel, times) in kernels.iter_mut().zip(&mut times) {
+            let _ = kernel.timed_build(times);
         }
     }
     times.iter().zip(lists).map(|(times, (_, list))| median(times) * 1e6 / list.rows.len() as f64).collect()
 }
 
 fn outcome(list: &List) -> String {
-    match Bench::new(list).build() {
+    match Kernel::new(list).build() {
         Ok((k, edges)) => format!("k = {k}, {edges} edges"),
         Err(refusal) => format!("refused {} at {},{}", refusal.number(), refusal.place().0, refusal.place().1),
     }
@@ -323,8 +336,9 @@ fn print_extremes(dice: &mut Dice) {
     println!(
         "Building, nanoseconds of processor time per element, medians of {LARGE_ROUNDS} interleaved runs, each list"
     );
-    println!("with buffers of its own, which hold what the run before left; nothing is cleared first. A fan about one");
-    println!("vertex has at most 999,999 triangles, since 1,000,000 vertices are the most.\n");
+    println!("with buffers of its own, which hold what the run before left; nothing is cleared first, and tables and");
+    println!("list are read through before each run, as in the first table. A fan about one vertex has at most");
+    println!("999,999 triangles, since 1,000,000 vertices are the most.\n");
     println!("| list | elements | outcome | time per element | relative to the largest sheet |");
     println!("|---|---|---|---|---|");
     for ((name, list), time) in lists.iter().zip(&times) {
@@ -356,7 +370,7 @@ fn ring_times(lists: &[(u32, List)]) -> Vec<f64> {
     let mut benches: Vec<Bench> = lists.iter().map(|(_, list)| Bench::new(list)).collect();
     let mut times = vec![Vec::new(); lists.len()];
     for bench in &mut benches {
-        bench.build().expect("a closed sheet is accepted");
+        bench.kernel.build().expect("a closed sheet is accepted");
     }
     for _ in 0..LARGE_ROUNDS {
         for (((told, list), bench), times) in lists.iter().zip(&mut benches).zip(&mut times) {
@@ -466,20 +480,21 @@ struct HoleTimes {
 /// Holes by the kernel, its work buffer cleared once more, and holes by the hash map, runs interleaved. A run asks many
 /// times where there are few border half-edges.
 fn hole_times(list: &List) -> HoleTimes {
-    let mut bench = Bench::new(list);
-    let k = bench.build().expect("the list is accepted").0 as usize;
-    let (entries, b2e) = (list.entries(), &bench.b2e[..k]);
-    let mesh = Mesh::new(list.n, entries, &bench.v2e, &bench.e2e, b2e).expect("tables as built");
+    let mut kernel = Kernel::new(list);
+    let k = kernel.build().expect("the list is accepted").0 as usize;
+    let Kernel { tables: Tables { v2e, e2e, b2e, .. }, mut work, .. } = kernel;
+    let (entries, b2e) = (list.entries(), &b2e[..k]);
+    let mesh = Mesh::new(list.n, entries, &v2e, &e2e, b2e).expect("tables as built");
     let [mut hole, mut lengths, mut other_hole, mut other_lengths] = [(); 4].map(|()| vec![1; k]);
     let (mut kernel, mut clearing, mut hash_map) = (Vec::new(), Vec::new(), Vec::new());
     let (passes, mut count) = (100_000_usize.div_ceil(k), 0);
     for _ in 0..if passes > 1 { ROUNDS } else { LARGE_ROUNDS } {
         timed(&mut kernel, || {
             for _ in 0..passes {
-                count = mesh.holes(&mut hole, &mut lengths, &mut bench.work).expect("tables as built");
+                count = mesh.holes(&mut hole, &mut lengths, &mut work).expect("tables as built");
             }
         });
-        timed(&mut clearing, || (0..passes).for_each(|_| black_box(&mut bench.work).fill(0)));
+        timed(&mut clearing, || (0..passes).for_each(|_| black_box(&mut work).fill(0)));
         timed(&mut hash_map, || {
             (0..passes).for_each(|_| _ = black_box(hash_map_holes(entries, b2e, &mut other_hole, &mut other_lengths)))
         });
@@ -530,17 +545,18 @@ fn entered(elements: &[u32], v2e: &[u32], b2e: &[u32]) -> Vec<(&'static str, Vec
 
 /// For each of these V2e what holes answers, and the median of the nanoseconds per border half-edge, runs interleaved.
 fn entered_times(list: &List) -> Vec<(&'static str, String, f64)> {
-    let mut bench = Bench::new(list);
-    let k = bench.build().expect("the list is accepted").0 as usize;
-    let (entries, b2e) = (list.entries(), &bench.b2e[..k]);
+    let mut kernel = Kernel::new(list);
+    let k = kernel.build().expect("the list is accepted").0 as usize;
+    let Kernel { tables: Tables { v2e, e2e, b2e, .. }, mut work, .. } = kernel;
+    let (entries, b2e) = (list.entries(), &b2e[..k]);
     let [mut hole, mut lengths] = [(); 2].map(|()| vec![1; k]);
-    let tables = entered(entries, &bench.v2e, b2e);
+    let tables = entered(entries, &v2e, b2e);
     let mut times = vec![Vec::new(); tables.len()];
     let mut outcomes = vec![String::new(); tables.len()];
     for _ in 0..LARGE_ROUNDS {
         for (((_, v2e), times), outcome) in tables.iter().zip(&mut times).zip(&mut outcomes) {
-            let mesh = Mesh::new(list.n, entries, v2e, &bench.e2e, b2e).expect("the lengths are fit");
-            let answer = timed(times, || mesh.holes(&mut hole, &mut lengths, &mut bench.work));
+            let mesh = Mesh::new(list.n, entries, v2e, &e2e, b2e).expect("the lengths are fit");
+            let answer = timed(times, || mesh.holes(&mut hole, &mut lengths, &mut work));
             *outcome = answer.map_or_else(|refusal| format!("refused {}", refusal.number()), |count| count.to_string());
         }
     }
@@ -683,13 +699,13 @@ impl Prepared {
 fn swap_times(list: &List, dice: &mut Dice) -> SwapTimes {
     let Prepared { mut mesh, side, crowded } = Prepared::new(list);
     let list = List::new(mesh.n(), mesh.rows());
-    let (mut bench, mut plain) = (Bench::new(&list), Plain::new(&mesh.mesh()));
+    let (mut kernel, mut plain) = (Kernel::new(&list), Plain::new(&mesh.mesh()));
     check_plain(&mesh, side);
     let inner_sides = plain.any_third_sides(dice);
     let (border, mut early) = (HalfEdge::border(1), None);
     let [mut build, mut swaps, mut earlies, mut lates, mut in_place] = [(); 5].map(|()| Vec::new());
     for _ in 0..ROUNDS {
-        timed(&mut build, || bench.build()).expect("the list is accepted");
+        timed(&mut build, || kernel.build()).expect("the list is accepted");
         timed(&mut swaps, || mesh.swap(side).and_then(|_| mesh.swap(side))).expect("the diagonal can be swapped");
         early = timed(&mut earlies, || mesh.swap(border)).err();
         assert!(matches!(timed(&mut lates, || mesh.swap(crowded)), Err(Refusal::EdgeCrowded { .. })));
