@@ -22,7 +22,7 @@ use Rattle.rules.specs.Queries.{ring, neighbours, nextBorder, loopNext, 
 use Rattle.rules.specs.Queries.{ringAnswer, ringLeaves, neighboursAnswer, neighboursLeaves, borderLoopAnswer, borderLoopLeaves}
 use Rattle.rules.specs.Holes.{lists, broken, HoleBuffers, leastOf, holesUpTo, holeOf, holes, holeCount}
 use Rattle.rules.specs.Holes.{holeLengths, holesFound, holesFit, holesAnswer, holesLeaves}
-use Rattle.rules.specs.Edits.{Lent, overOld, onceAccepted, newAnswer, isThere, editSizes, editLengths, editAnswer, written, editLeaves}
+use Rattle.rules.specs.Edits.{Lent, overOld, onceAccepted, newAnswer, isThere, countsFit, hasRoom, editSizes, editLengths, editAnswer, written, editLeaves}
 use Rattle.rules.specs.Swap.{third, flipped, withRow, swapped, isSwappable, swap, swapAnswer, swapLeaves}
 
 -- an element's row, or a row of E2e, in three columns or in four; lists are rows joined by ++
@@ -417,6 +417,6 @@ unfolding three quad tri blank room left built sameAnswer gave holds every listi
     borderLoop listedAnswer ringAnswer ringLeaves neighboursAnswer neighboursLeaves borderLoopAnswer borderLoopLeaves
     siblingRoom workAfter sibling siblingEntry sibhe v2he siblingLengths siblingsAnswer siblingsLeaves
     has holeRoom openings apart between lists broken leastOf holesUpTo holeOf holes holeCount holeLengths holesFound holesFit holesAnswer holesLeaves
-    editRoom fan previousNumber previous overOld onceAccepted newAnswer isThere editSizes editLengths editAnswer written editLeaves
+    editRoom fan previousNumber previous overOld onceAccepted newAnswer isThere countsFit hasRoom editSizes editLengths editAnswer written editLeaves
     third flipped withRow swapped isSwappable swap
 cases-hold = tt

@@ -43,9 +43,10 @@ swap n L s =
     elim (isThere L s)
     [ true ↦ elim (isSwappable L s) [ true ↦ becomes n (swapped L s) | false ↦ refuses 15 ] | false ↦ refuses 11 ]
 
+-- nothing else is lent
 abbrev pub swapAnswer : Lent → ℕ → Answer
-swapAnswer w s = editAnswer w (swap (w .n) (held w) s)
+swapAnswer w s = editAnswer w true (swap (w .n) (held w) s)
 
 -- what the call leaves of what it is lent
 abbrev pub swapLeaves : Lent → ℕ → Lent
-swapLeaves w s = editLeaves w (swap (w .n) (held w) s)
+swapLeaves w s = editLeaves w true (swap (w .n) (held w) s)

@@ -12,6 +12,7 @@ pub mod Entries
 pub mod Columns
 pub mod Triangles
 pub mod Rows
+pub mod Refining
 pub mod Replacing
 pub mod Turned
 pub mod Swapping
