@@ -1,7 +1,7 @@
 -- What any edit answers and leaves. x is what it makes of the list, from the trial of the old list to the whole call.
 -- Assumes nothing.
 use mathlib.Core.Path.{_≡_, ap, sym, _∙_}
-use mathlib.Core.Bool.{true, false}
+use mathlib.Core.Bool.{Bool, true, false}
 use mathlib.Core.List.{List, []}
 use Prim.Native.Nat.{ℕ}
 use lib.Dec.{T}
@@ -62,7 +62,7 @@ module _ (n : ℕ) (L : List ℕ) (x : Edited) (room : ℕ) {t : Answer} (said :
         }
 
 -- the whole call
-module _ (w : Lent) (x : Edited) where
+module _ (w : Lent) (others : Bool) (x : Edited) where
   abbrev pub rest : Answer
   rest = onceAccepted (listAnswer (w .n) (held w)) (newAnswer (length (w .border)) x)
 
@@ -71,12 +71,12 @@ module _ (w : Lent) (x : Edited) where
   leavesBy a work = withWork (after a (written w x) w) work
 
   abbrev pub Whole : Answer → Lent → Type 0
-  Whole a w′ = (a ≡ editAnswer w x) × (w′ ≡ editLeaves w x)
+  Whole a w′ = (a ≡ editAnswer w others x) × (w′ ≡ editLeaves w others x)
 
   pub unsized : {a : Answer} → editSizes w ≡ false → a ≡ refused 1 0 0 → Whole a w
   unfolding after editAnswer editLeaves
-  unsized = calls.unsized leavesBy (editSizes w) (editLengths w) rest (w .work)
+  unsized = calls.unsized leavesBy (editSizes w) (editLengths w others) rest (w .work)
 
-  pub unlengthened : {a : Answer} → editSizes w ≡ true → editLengths w ≡ false → a ≡ refused 2 0 0 → Whole a w
+  pub unlengthened : {a : Answer} → editSizes w ≡ true → editLengths w others ≡ false → a ≡ refused 2 0 0 → Whole a w
   unfolding after editAnswer editLeaves
-  unlengthened = calls.unlengthened leavesBy (editSizes w) (editLengths w) rest (w .work)
+  unlengthened = calls.unlengthened leavesBy (editSizes w) (editLengths w others) rest (w .work)

@@ -1,2 +1,4 @@
 pub mod Holding
 pub mod Leaving
+pub mod RowPut
+pub mod Trying

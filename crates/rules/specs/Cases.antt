@@ -22,8 +22,8 @@ use Rattle.rules.specs.Queries.{ring, neighbours, nextBorder, loopNext, 
 use Rattle.rules.specs.Queries.{ringAnswer, ringLeaves, neighboursAnswer, neighboursLeaves, borderLoopAnswer, borderLoopLeaves}
 use Rattle.rules.specs.Holes.{lists, broken, HoleBuffers, leastOf, holesUpTo, holeOf, holes, holeCount}
 use Rattle.rules.specs.Holes.{holeLengths, holesFound, holesFit, holesAnswer, holesLeaves}
-use Rattle.rules.specs.Edits.{Lent, overOld, onceAccepted, newAnswer, isThere, countsFit, hasRoom, editSizes, editLengths, editAnswer, written, editLeaves}
-use Rattle.rules.specs.Swap.{third, flipped, withRow, swapped, isSwappable, swap, swapAnswer, swapLeaves}
+use Rattle.rules.specs.Edits.{Lent, overOld, withRow, onceAccepted, newAnswer, isThere, countsFit, hasRoom, editSizes, editLengths, editAnswer, written, editLeaves}
+use Rattle.rules.specs.Swap.{third, flipped, swapped, isSwappable, swap, swapAnswer, swapLeaves}
 
 -- an element's row, or a row of E2e, in three columns or in four; lists are rows joined by ++
 unfoldable pub three : ℕ → ℕ → ℕ → List ℕ

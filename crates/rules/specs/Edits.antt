@@ -5,7 +5,7 @@ use mathlib.Core.Bool.{Bool}
 use mathlib.Core.List.{List, _++_}
 use Prim.Native.Nat.{ℕ, _+_, _*_, _-_}
 use lib.Dec.{leb, eqb}
-use lib.ListN.{length, take, replicate}
+use lib.ListN.{length, take, drop, replicate}
 use Rattle.lists.specs.Tests.{both, either, within}
 use Rattle.rules.specs.Elements.{maxVertex, maxElement, elements, element, number, isSide}
 use Rattle.rules.specs.Tables.{borders, b2e, columns, e2e, v2e}
@@ -43,6 +43,10 @@ withWork w work =
 -- between the new and the old length become 0" (point 8)
 unfoldable pub overOld : ℕ → List ℕ → List ℕ → List ℕ
 overOld old xs buffer = onto (xs ++ replicate (old - length xs) 0) buffer
+
+-- the list with this row for element f
+unfoldable pub withRow : ℕ → List ℕ → List ℕ → List ℕ
+withRow f row L = take (4 * (f - 1)) L ++ (row ++ drop (4 * f) L)
 
 -- "The list as given must first be accepted": what comes then, or what was said of the list
 unfoldable pub onceAccepted : Answer → Answer → Answer

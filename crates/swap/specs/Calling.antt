@@ -90,7 +90,7 @@ module _ (n m : ℕ) (list V2e E2e B2e work : List ℕ) (s : ℕ) where
       rejoined = λ k. lentEdit n (size k) (take-append-drop (4 * m) list k) (take-append-drop n V2e k) (take-append-drop (c * m) E2e k) B2e work′
 
       loosened : (z : Edited) (a : Answer) → ((i j n′ : ℕ) (L′ : List ℕ) → a ≡ gives i j → z ≡ becomes n′ L′ → Stays n L n′ L′)
-          → loose (after a (written front z) front) ≡ leavesBy w z a work′
+          → loose (after a (written front z) front) ≡ leavesBy w true z a work′
       unfolding after written loose
       loosened z (refused r p q) f = rejoined
       loosened (refuses r) (gives i j) f = rejoined
@@ -118,14 +118,14 @@ module _ (n m : ℕ) (list V2e E2e B2e work : List ℕ) (s : ℕ) where
       pub checked-at : Checked n (take p list) (take q V2e) (take r E2e) work × (c ≡ columns (take p list))
       checked-at = rw (rows, vertices, opposites) (checked-front, held .columned)
 
-      pub whole : {a : Answer} {L₁ V₁ E₁ B₁ work′ : List ℕ} {l : ℕ} → (editSizes w ≡ true) × (editLengths w ≡ true)
+      pub whole : {a : Answer} {L₁ V₁ E₁ B₁ work′ : List ℕ} {l : ℕ} → (editSizes w ≡ true) × (editLengths w true ≡ true)
           → Left (onceAccepted (listAnswer n (take p list)) (newAnswer (length B2e) (swap n (take p list) s))) a (tight n (take p list) (take q V2e) (take r E2e) B2e)
           (swap n (take p list) s) (tight n L₁ V₁ E₁ B₁)
-          → l ≡ length work → work′ ≡ replicate l 0 → Whole w (swap n L s) a (lentEdit n m (L₁ ++ drop p list) (V₁ ++ drop q V2e) (E₁ ++ drop r E2e) B₁ work′)
+          → l ≡ length work → work′ ≡ replicate l 0 → Whole w true (swap n L s) a (lentEdit n m (L₁ ++ drop p list) (V₁ ++ drop q V2e) (E₁ ++ drop r E2e) B₁ work′)
       unfolding loose editAnswer editLeaves
       whole {a} {L₁} {V₁} {E₁} {B₁} {work′} fit left same z =
-          let x : Left (rest w (swap n L s)) a front (swap n L s) (tight n L₁ V₁ E₁ B₁) = rw (rows, vertices, opposites) at left in
-          let (e, f) = calls.cleared (leavesBy w (swap n L s)) (editSizes w) (editLengths w) (rest w (swap n L s)) work fit (x .answer) (z ∙ ap (λ (k : ℕ). replicate k 0) same) in
+          let x : Left (rest w true (swap n L s)) a front (swap n L s) (tight n L₁ V₁ E₁ B₁) = rw (rows, vertices, opposites) at left in
+          let (e, f) = calls.cleared (leavesBy w true (swap n L s)) (editSizes w) (editLengths w true) (rest w true (swap n L s)) work fit (x .answer) (z ∙ ap (λ (k : ℕ). replicate k 0) same) in
           let accepted : (i j n′ : ℕ) (L′ : List ℕ) → a ≡ gives i j → swap n L s ≡ becomes n′ L′ → Stays n L n′ L′ =
           λ i j n′ L′ g d.
           (let (k, o, h, new) = past-old (listAnswer n L) _ (sym (x .answer) ∙ g) in stays n L s (accepted-fit n L (checked-front .sizes) h) d) in

@@ -34,30 +34,6 @@ use Rattle.build.specs.Building.{Built, Checked, Scratched, counts-are}
 use Rattle.edits.specs.Holding.{lentEdit}
 use Rattle.edits.specs.Leaving.{tight, Left, accepted-fit}
 
--- a row of four
-pub four-is : (r : List ℕ) → length r ≡ 4 → rowOf r ≡ r
-four-is (a ∷ b ∷ c ∷ d ∷ []) h = refl
-four-is [] h = absurd (omega arith)
-four-is (a ∷ []) h = absurd (omega arith)
-four-is (a ∷ b ∷ []) h = absurd (omega arith)
-four-is (a ∷ b ∷ c ∷ []) h = absurd (omega arith)
-four-is (a ∷ b ∷ c ∷ d ∷ e ∷ r) h = absurd (omega arith)
-
--- a row is copied to where element f stands; f - 1 as an index is a
-pub row-put : (f : ℕ) {a : ℕ} (r L : List ℕ) {ys : List ℕ} → length r ≡ 4 → 1 ≤ f → 4 * f ≤ length L → a ≡ f - 1
-    → ys ≡ onto r (take (4 * a + 4 - 4 * a) (drop (4 * a) L)) → take (4 * a) L ++ (ys ++ drop (4 * a + 4 - 4 * a) (drop (4 * a) L)) ≡ withRow f (rowOf r) L
-unfolding withRow
-row-put f {a} r L {ys} long from to index copied =
-    let four : 4 * a + 4 - 4 * a ≡ 4 = omega arith in
-    let start : 4 * a ≡ 4 * (f - 1) = omega arith in
-    let end : 4 * a + (4 * a + 4 - 4 * a) ≡ 4 * f = omega arith in
-    let whole : ys ≡ rowOf r =
-    copied ∙ onto-full r (take (4 * a + 4 - 4 * a) (drop (4 * a) L)) (simp (length-take, length-drop) (omega arith)) ∙ sym (four-is r long) in
-    ap (λ (X : List ℕ). take (4 * a) L ++ (X ++ drop (4 * a + 4 - 4 * a) (drop (4 * a) L))) whole
-    ∙ ap (λ (X : List ℕ). take (4 * a) L ++ (rowOf r ++ X)) (drop-drop (4 * a + 4 - 4 * a) (4 * a) L)
-    ∙ ap (λ (k : ℕ). take (4 * a) L ++ (rowOf r ++ drop k L)) end
-    ∙ ap (λ (k : ℕ). take k L ++ (rowOf r ++ drop (4 * f) L)) start
-
 -- what is read of side s in the row of its element: its origin, and the corner before
 module _ (L : List ℕ) (s : ℕ) (a : Side L s) where
   abbrev r : List ℕ
@@ -215,14 +191,6 @@ module _ {n : ℕ} {L V2e E2e work : List ℕ} {s t : ℕ} (x : ToSwap n L V2e E
               ∙ sym (ap (λ (y : Answer). after y (written (tight n L V2e E2e B2e) (becomes n L′)) (tight n L V2e E2e B2e)) g);
         }
 
--- the E2e of the list, in four columns, stands from n on
-pub record Tabled (n : ℕ) (L w : List ℕ) : Type 0 where
-  pub vertices : n ≤ maxVertex
-  pub size : elements L ≤ maxElement
-  pub fours : length L ≡ 4 * elements L
-  pub room : n + 4 * elements L ≤ length w
-  pub opposites : part n (4 * elements L) w ≡ wide L
-
 -- what the tests say of side s: no side, a border side, or by its two elements
 pub not-side : (L : List ℕ) (s : ℕ) → isSide L s ≡ false → false ≡ isSwappable L s
 unfolding isSwappable
@@ -234,38 +202,6 @@ at-border L s z = sym (false-of (isSwappable L s) (not-T (isSwappable L s) (λ t
 pub by-triangles : (L : List ℕ) (s : ℕ) → Side L s → (partner L s ≡ 0 → ⊥) → isSwappable L s ≡ both (eqb (sides L (s / 8)) 3) (eqb (sides L (partner L s / 8)) 3)
 unfolding isSwappable
 by-triangles L s a d = rw (true-of (isSide L s) a, false-of (isBorder L s) (means-not (means-border L s) .shows d)) refl
-
--- where the entry of side s stands, and what is read there
-module _ {n : ℕ} {L w : List ℕ} (x : Tabled n L w) (s : ℕ) (a : Side L s) where
-  pub slot-inside : n + slot s < length w
-  slot-inside = omega (arith, slot-below L s a, x .room, x .fours)
-
-  pub entry-read : at w (n + slot s) ≡ at (wide L) (slot s)
-  entry-read =
-      let h : slot s < 4 * elements L = omega (arith, slot-below L s a, x .fours) in
-      sym (at-part n (4 * elements L) w (slot s) h) ∙ ap (λ (X : List ℕ). at X (slot s)) (x .opposites)
-
--- the entry t of side s: a border, or the partner
-module _ (L : List ℕ) (s : ℕ) {t : ℕ} (a : Side L s) (own : t ≡ at (wide L) (slot s)) where
-  pub entry-border : t % 8 ≡ 0 → partner L s ≡ 0
-  entry-border e = go (zero-or (partner L s))
-    where
-      go : (partner L s ≡ 0) ⊎ (partner L s ≡ 0 → ⊥) → partner L s ≡ 0
-      go (inl z) = z
-      go (inr d) =
-          let p = own ∙ wide-paired L s a d in
-          absurd (omega (arith, side-facts L (partner L s) (partner-opposed L s d .0) .number-from))
-
-  pub entry-partner : (t % 8 ≡ 0 → ⊥) → (t ≡ partner L s) × (partner L s ≡ 0 → ⊥)
-  entry-partner d = go (zero-or (partner L s))
-    where
-      go : (partner L s ≡ 0) ⊎ (partner L s ≡ 0 → ⊥) → (t ≡ partner L s) × (partner L s ≡ 0 → ⊥)
-      go (inl z) = let p = own ∙ wide-border L s a z in absurd (d (omega arith))
-      go (inr e) = (own ∙ wide-paired L s a e, e)
-
--- where the row of a side is
-pub row-inside : (L : List ℕ) (s : ℕ) → Side L s → (1 ≤ s / 8) × (4 * (s / 8) ≤ length L)
-row-inside L s a = let i = side-facts L s a in (i .element-from, omega (arith, i .element-to))
 
 -- the edit by its two tests
 module _ (n : ℕ) (L : List ℕ) (s : ℕ) where
@@ -292,20 +228,6 @@ module _ (n : ℕ) (L : List ℕ) (s : ℕ) where
 
 -- the old list was tried in the front of the work, which has become W: it is accepted
 module _ {n : ℕ} {L V2e E2e work : List ℕ} (x : Checked n L V2e E2e work) {t : Answer} {W : List ℕ} (y : Scratched n L t work W) {k e : ℕ} (g : t ≡ gives k e) where
-  pub number : k ≡ borders L
-  number = counts-are n L k e (sym (y .stated) ∙ g)
-
-  pub tabled : {a : ℕ} → a ≡ n → Tabled a L W
-  tabled i =
-      rw i
-      (record {
-        vertices = x .vertices;
-        size = x .size;
-        fours = x .fours;
-        room = omega (arith, x .room, y .long);
-        opposites = y .holds k e g .opposites;
-      })
-
   -- the code is a diagonal's, and p what E2e says of it
   pub to-swap : (s : ℕ) {p : ℕ} → isSwappable L s ≡ true → p ≡ at (wide L) (slot s) → ToSwap n L V2e E2e W s p
   to-swap s f h =

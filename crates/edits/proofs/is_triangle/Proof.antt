@@ -1,4 +1,4 @@
--- `swap::is_triangle` meets its contract.
+-- `edits::is_triangle` meets its contract.
 -- Assumes nothing.
 use mathlib.Core.Path.{ap, _∙_}
 use Prim.Native.Nat.{ℕ}
@@ -8,8 +8,8 @@ use Rattle.rules.specs.Elements.{sidesBy}
 use Rattle.lists.specs.Search.{at}
 use Rattle.halfedge.specs.Rows.{row-sides}
 use borrow.Author.Needs.{needs}
-use Rattle.swap.proofs.is_triangle.Statement.{statement}
-use Rattle.swap.proofs.is_triangle.Tie as tie
+use Rattle.edits.proofs.is_triangle.Statement.{statement}
+use Rattle.edits.proofs.is_triangle.Tie as tie
 
 row-at-requires : tie.Need-row-at-requires
 row-at-requires c κs = search needs

@@ -1,11 +1,11 @@
--- `swap::put_row` meets its contract.
+-- `edits::put_row` meets its contract.
 -- Assumes nothing.
 use mathlib.Core.Path.{_≡_}
 use lib.ListN.{length}
-use Rattle.swap.specs.Swaps.{row-put}
+use Rattle.edits.specs.RowPut.{row-put}
 use borrow.Author.Needs.{needs}
-use Rattle.swap.proofs.put_row.Statement.{statement}
-use Rattle.swap.proofs.put_row.Tie as tie
+use Rattle.edits.proofs.put_row.Statement.{statement}
+use Rattle.edits.proofs.put_row.Tie as tie
 
 sub-wide : tie.Need-sub-wide
 sub-wide c = search needs

@@ -1,4 +1,4 @@
--- `swap::entry_of` meets its contract.
+-- `edits::entry_of` meets its contract.
 -- Assumes nothing.
 use mathlib.Core.Path.{ap, _∙_}
 use Prim.Native.Nat.{ℕ, _+_, _<_}
@@ -6,10 +6,10 @@ use native.Mathlib.Omega.{arith}
 use lib.ListN.{length}
 use Rattle.lists.specs.Search.{at}
 use Rattle.theory.specs.Sides.{side-from}
-use Rattle.swap.specs.Swaps.{slot-inside, entry-read}
+use Rattle.edits.specs.Trying.{slot-inside, entry-read}
 use borrow.Author.Needs.{needs}
-use Rattle.swap.proofs.entry_of.Statement.{statement}
-use Rattle.swap.proofs.entry_of.Tie as tie
+use Rattle.edits.proofs.entry_of.Statement.{statement}
+use Rattle.edits.proofs.entry_of.Tie as tie
 
 abbrev start : tie.After-slot-of → tie.Start
 start c = c .before .before .before
