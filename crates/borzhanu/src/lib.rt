@@ -15,7 +15,7 @@ ghost use Rattle.sibling_map.specs.Mapping.{lentMaps};
 ghost use Rattle.holes.specs.Marks.{lentHoles};
 ghost use Rattle.walker.specs.Walkers.{calledBy};
 ghost use Rattle.borzhanu.specs.Walkers.{walkerIn, entriesOf};
-ghost use Rattle.borzhanu.specs.Sizes.{lentSized};
+ghost use Rattle.edits.specs.Holding.{lentSized};
 
 // V2e, E2e and the first k entries of B2e of an element list: k and the number of edges.
 #[no_mangle]

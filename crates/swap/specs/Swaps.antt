@@ -2,27 +2,24 @@
 -- Assumes nothing.
 use mathlib.Core.Path.{_≡_, refl, ap, sym, _∙_}
 use mathlib.Core.Bool.{true, false}
-use mathlib.Core.Logic.{_⊎_, inl, inr}
-use mathlib.Core.List.{List, [], _∷_, _++_}
-use Prim.Native.Nat.{ℕ, _+_, _*_, _-_, _/_, _%_, _≤_, _<_}
+use mathlib.Core.List.{List, [], _∷_}
+use Prim.Native.Nat.{ℕ, _+_, _*_, _/_, _%_, _≤_}
 use native.Mathlib.Omega.{arith}
 use lib.Dec.{eqb, not-T}
-use lib.ListN.{length, take, drop, length-take, length-drop}
-use lib.Seq.{drop-drop, take-all}
+use lib.ListN.{length, take}
+use lib.Seq.{take-all}
 use Rattle.lists.specs.Tests.{both}
-use Rattle.lists.specs.TestLaws.{Test, pass, fail, test, true-of, false-of, means-not, zero-or}
+use Rattle.lists.specs.TestLaws.{Test, pass, fail, test, true-of, false-of, means-not}
 use Rattle.lists.specs.Search.{at}
-use Rattle.lists.specs.Parts.{part, at-part}
-use Rattle.rules.specs.Elements.{maxVertex, maxElement, elements, row, sides, isSide, Side, slot, origin, previousNumber, previous}
-use Rattle.rules.specs.Tables.{partner, isBorder, borders, columns, wide, v2e, e2e}
-use Rattle.rules.specs.Refusals.{Answer, gives, refused, listAnswer, roomCheck, after, onto}
-use Rattle.rules.specs.Edits.{becomes, refuses, overOld, written, isThere}
-use Rattle.rules.specs.Swap.{third, flipped, withRow, swapped, isSwappable, swap}
-use Rattle.theory.specs.Sides.{side-facts, slot-below}
+use Rattle.rules.specs.Elements.{elements, row, sides, isSide, Side, slot, origin, previousNumber, previous}
+use Rattle.rules.specs.Tables.{partner, isBorder, columns, wide, v2e, e2e}
+use Rattle.rules.specs.Refusals.{Answer, gives, refused, listAnswer, roomCheck, after}
+use Rattle.rules.specs.Edits.{becomes, refuses, overOld, withRow, written, isThere}
+use Rattle.rules.specs.Swap.{third, flipped, swapped, isSwappable, swap}
+use Rattle.theory.specs.Sides.{side-facts}
 use Rattle.theory.specs.Steps.{previous-numbered}
 use Rattle.theory.specs.FitRows.{Fit, means-sizes}
-use Rattle.theory.specs.Pairings.{partner-opposed}
-use Rattle.theory.specs.Entries.{length-v2e, means-border, wide-paired, wide-border}
+use Rattle.theory.specs.Entries.{length-v2e, means-border, wide-paired}
 use Rattle.theory.specs.Columns.{length-e2e}
 use Rattle.theory.specs.Edits.{over-same}
 use Rattle.theory.specs.Rows.{row-itself, rows-alike}
@@ -30,7 +27,7 @@ use Rattle.theory.specs.Replacing.{Replaced, same-columns, same-size}
 use Rattle.theory.specs.Swapping.{Diagonal, means-swappable, across, swapped-replaced}
 use Rattle.halfedge.specs.Rows.{rowOf, cornerOf, previousSide, row-at, row-corner, row-turned}
 use Rattle.buffers.specs.Whole.{onto-full}
-use Rattle.build.specs.Building.{Built, Checked, Scratched, counts-are}
+use Rattle.build.specs.Building.{Built, Checked, Scratched}
 use Rattle.edits.specs.Holding.{lentEdit}
 use Rattle.edits.specs.Leaving.{tight, Left, accepted-fit}
 

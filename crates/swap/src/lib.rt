@@ -1,18 +1,15 @@
 // Swapping the diagonal of two triangles, document 02, point 1.
 ghost use mathlib.Core.Path.{_≡_};
 ghost use mathlib.Core.List.{[], _∷_};
-ghost use Prim.Native.Nat.{_*_, _≤_};
-ghost use lib.Dec.{eqb};
+ghost use Prim.Native.Nat.{_*_};
 ghost use lib.ListN.{length};
 ghost use Rattle.lists.specs.Search.{at};
-ghost use Rattle.rules.specs.Elements.{sides, Side, slot};
 ghost use Rattle.rules.specs.Tables.{columns as columnsIn};
-ghost use Rattle.rules.specs.Tables.{wide as wideOf};
 ghost use Rattle.rules.specs.Refusals.{listAnswer, roomCheck};
 ghost use Rattle.rules.specs.Edits.{becomes, onceAccepted, newAnswer};
-ghost use Rattle.rules.specs.Swap.{withRow, swapped, isSwappable, swapAnswer, swapLeaves};
+ghost use Rattle.rules.specs.Swap.{swapped, isSwappable, swapAnswer, swapLeaves};
 ghost use Rattle.rules.specs.Swap.{swap as swapOf};
-ghost use Rattle.halfedge.specs.Rows.{rowOf, cornerOf, previousSide};
+ghost use Rattle.halfedge.specs.Rows.{cornerOf, previousSide};
 ghost use Rattle.answer.specs.Numbers.{numbers};
 ghost use Rattle.build.specs.Building.{Checked};
 ghost use Rattle.edits.specs.Holding.{lentEdit};

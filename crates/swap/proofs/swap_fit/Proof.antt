@@ -14,7 +14,8 @@ use Rattle.theory.specs.Swapping.{means-swappable}
 use Rattle.answer.specs.Numbers.{numbers}
 use Rattle.build.specs.Building.{Checked, front-fits, sized, Scratched, scratched}
 use Rattle.edits.specs.Leaving.{old-refused, new-refused, new-tried}
-use Rattle.swap.specs.Swaps.{gone, unfit, swaps, number, tabled, to-swap, Tabled}
+use Rattle.edits.specs.Trying.{Tabled, number, tabled}
+use Rattle.swap.specs.Swaps.{gone, unfit, swaps, to-swap}
 use borrow.Author.Needs.{needs}
 use Rattle.swap.proofs.swap_fit.Statement.{statement}
 use Rattle.swap.proofs.swap_fit.Tie as tie
