@@ -11,11 +11,11 @@ ghost use Rattle.rules.specs.Siblings.{siblingsAnswer, siblingsLeaves};
 ghost use Rattle.rules.specs.Holes.{holesAnswer, holesLeaves};
 ghost use Rattle.rules.specs.Swap.{swapAnswer, swapLeaves};
 ghost use Rattle.build.specs.Building.{lent};
+ghost use Rattle.edits.specs.Holding.{lentSized};
 ghost use Rattle.sibling_map.specs.Mapping.{lentMaps};
 ghost use Rattle.holes.specs.Marks.{lentHoles};
 ghost use Rattle.walker.specs.Walkers.{calledBy};
 ghost use Rattle.borzhanu.specs.Walkers.{walkerIn, entriesOf};
-ghost use Rattle.edits.specs.Holding.{lentSized};
 
 // V2e, E2e and the first k entries of B2e of an element list: k and the number of edges.
 #[no_mangle]

@@ -132,9 +132,9 @@ new-fits room (refuses r) f g = omega (arith, g r refl)
 pub swap-fits : (w : Lent) (s : ℕ) → Fits (swapAnswer w s)
 unfolding editAnswer
 swap-fits w s =
-    lengths-fit (editSizes w) (editLengths w) _
+    lengths-fit (editSizes w) (editLengths w true) _
     (λ sizes lengths.
-    let fit = held-sizes w sizes lengths in
+    let fit = held-sizes w true sizes lengths in
     once-fits (listAnswer n L) _ (list-fits n L (means-sizes n L .says fit))
     (λ k e g. new-fits (length (w .border)) (swap n L s) (becomes-sized (list-counted n L fit k e g .0)) (λ r h. refuses-small r h (test (isThere L s)) (test (isSwappable L s)))))
   where

@@ -2,6 +2,7 @@
 -- the tables that build gives of it, so recovery covers edited housings too". x is what the edit makes of the list that is held.
 -- Assumes nothing.
 use mathlib.Core.Path.{_≡_, refl, ap, sym, subst, _∙_}
+use mathlib.Core.Bool.{Bool}
 use mathlib.Core.Logic.{inl, inr}
 use mathlib.Core.List.{List}
 use Prim.Native.Nat.{ℕ, _+_, _*_, _≤_}
@@ -10,7 +11,7 @@ use lib.Dec.{T}
 use lib.ListN.{length, take, length-replicate}
 use lib.Seq.{length-take-le}
 use Rattle.lists.specs.Tests.{both}
-use Rattle.lists.specs.TestLaws.{pass, fail, test, true-of, means-both, means-le}
+use Rattle.lists.specs.TestLaws.{pass, fail, test, passes, true-of, means-itself, means-both, means-le}
 use Rattle.lists.specs.SearchLaws.{le-or-lt}
 use Rattle.rules.specs.Elements.{maxVertex, maxElement, elements}
 use Rattle.rules.specs.Pairing.{Accepted, sizesFit}
@@ -19,7 +20,7 @@ use Rattle.rules.specs.Recovery.{HasTables}
 use Rattle.rules.specs.Refusals.{Answer, gives, refused, Buffers, buildLengths, listAnswer, lengthChecks, roomCheck, after, workAfter, buildAnswer}
 use Rattle.rules.specs.Refusals.{recoverAnswer, recoverList, recoverWork}
 use Rattle.rules.specs.Queries.{Mesh}
-use Rattle.rules.specs.Edits.{Edited, becomes, refuses, Lent, withWork, overOld, held, onceAccepted, newAnswer, editSizes, editLengths, editAnswer, written, editLeaves}
+use Rattle.rules.specs.Edits.{Edited, becomes, refuses, Lent, withWork, overOld, held, countsFit, hasRoom, onceAccepted, newAnswer, editSizes, editLengths, editAnswer, written, editLeaves}
 use Rattle.theory.specs.FitRows.{means-sizes}
 use Rattle.theory.specs.Entries.{length-b2e, length-v2e}
 use Rattle.theory.specs.Columns.{length-e2e}
@@ -61,11 +62,12 @@ not-by-room room (gives k j) {r} e d = elim (le-or-lt k room) [
 ]
 
 -- where checks 1 and 2 find nothing
-module _ (w : Lent) (sizes : T (editSizes w)) (lengths : T (editLengths w)) where
+module _ (w : Lent) (others : Bool) (sizes : T (editSizes w)) (lengths : T (editLengths w others)) where
   pub enough : (4 * w .m ≤ length (w .list)) × (w .n ≤ length (w .vertices)) × (columns (held w) * w .m ≤ length (w .opposites)) × (w .n + 16 * w .m ≤ length (w .work))
-  unfolding editLengths
+  unfolding hasRoom editLengths
   enough =
-      let (l, (v, (e, r))) = means-holds (w .n) (w .m) (w .list) (length (w .vertices)) (length (w .opposites)) (length (w .work)) .says lengths in
+      let room = passes others (hasRoom w (w .n) (w .m)) lengths .1 in
+      let (l, (v, (e, r))) = means-holds (w .n) (w .m) (w .list) (length (w .vertices)) (length (w .opposites)) (length (w .work)) .says room in
       (l, v, e, r)
 
   -- the list that is held has m rows, and fit sizes
@@ -73,21 +75,21 @@ module _ (w : Lent) (sizes : T (editSizes w)) (lengths : T (editLengths w)) wher
   held-rows = let long = length-take-le (4 * w .m) (w .list) (enough .0) in (long, omega (arith, long))
 
   pub held-sizes : T (sizesFit (w .n) (held w))
-  unfolding editSizes
+  unfolding countsFit editSizes
   held-sizes =
       let (v, m) = means-both (means-le (w .n) maxVertex) (means-le (w .m) maxElement) .says sizes in
       means-sizes (w .n) (held w) .shows (v, (omega (arith, m, held-rows), omega (arith, held-rows)))
 
-module _ (x : Edited) (w : Lent) (a : Answer) (w′ : Lent) (run : EditRun x w a w′) where
+module _ {others : Bool} (x : Edited) (w : Lent) (a : Answer) (w′ : Lent) (run : EditRun others x w a w′) where
   abbrev L : List ℕ
   L = held w
 
   abbrev work′ : List ℕ
-  work′ = workAfter (editSizes w) (editLengths w) (w .work)
+  work′ = workAfter (editSizes w) (editLengths w others) (w .work)
 
   work-length : length work′ ≡ length (w .work)
   unfolding workAfter
-  work-length = elim (test (both (editSizes w) (editLengths w))) [
+  work-length = elim (test (both (editSizes w) (editLengths w others))) [
     | pass t e ↦ rw (e, workAfter) (length-replicate {A = ℕ} (length (w .work)) 0)
     | fail t e ↦ rw (e, workAfter) refl
   ]
@@ -105,7 +107,7 @@ module _ (x : Edited) (w : Lent) (a : Answer) (w′ : Lent) (run : EditRun x w a
   -- an answer has a new list, after the old one was accepted
   pub record Answered (k e : ℕ) : Type 0 where
     pub sizes : T (editSizes w)
-    pub lengths : T (editLengths w)
+    pub lengths : T (editLengths w others)
     pub old-borders : ℕ
     pub old-edges : ℕ
     pub old : listAnswer (w .n) L ≡ gives old-borders old-edges
@@ -118,16 +120,16 @@ module _ (x : Edited) (w : Lent) (a : Answer) (w′ : Lent) (run : EditRun x w a
   pub answered : {k e : ℕ} → a ≡ gives k e → Answered k e
   unfolding editAnswer
   answered {k} {e} g =
-      let (s, l, f) = past-lengths (editSizes w) (editLengths w) _ k e (sym (run .answer) ∙ g) in
+      let (s, l, f) = past-lengths (editSizes w) (editLengths w others) _ k e (sym (run .answer) ∙ g) in
       let (i, j, o, h) = past-old (listAnswer (w .n) L) _ f in
       let (n′, L′, c, d, r) = past-new (length (w .border)) x h in
       record { sizes = s; lengths = l; old-borders = i; old-edges = j; old = o; n′ = n′; L′ = L′; edited = c; new = d; room = r }
 
   -- where checks 1 and 2 find nothing
-  module _ (sizes : T (editSizes w)) (lengths : T (editLengths w)) where
+  module _ (sizes : T (editSizes w)) (lengths : T (editLengths w others)) where
     tried : a ≡ onceAccepted (listAnswer (w .n) L) (newAnswer (length (w .border)) x)
     unfolding editAnswer lengthChecks
-    tried = run .answer ∙ rw (true-of (editSizes w) sizes, true-of (editLengths w) lengths, lengthChecks) refl
+    tried = run .answer ∙ rw (true-of (editSizes w) sizes, true-of (editLengths w others) lengths, lengthChecks) refl
 
     tried-by : {old : Answer} {y : Edited} → listAnswer (w .n) L ≡ old → x ≡ y → a ≡ onceAccepted old (newAnswer (length (w .border)) y)
     tried-by e f = tried ∙ (λ i. onceAccepted (e i) (newAnswer (length (w .border)) (f i)))
@@ -137,7 +139,7 @@ module _ (x : Edited) (w : Lent) (a : Answer) (w′ : Lent) (run : EditRun x w a
         → {r p q : ℕ} → b ≡ refused r p q → (r ≡ 9 → ⊥) → a ≡ refused r p q
     unfolding onceAccepted
     old-refused u u′ b built fit e d =
-        tried-by (not-by-room (length (u .border)) _ (sym (build-tried (w .n) L u b u′ built (held-sizes w sizes lengths) fit) ∙ e) d) refl
+        tried-by (not-by-room (length (u .border)) _ (sym (build-tried (w .n) L u b u′ built (held-sizes w others sizes lengths) fit) ∙ e) d) refl
 
     -- then the edit's own refusal, or what a run of build says of the new list, with 9 by its k
     module _ (old : Accepted (w .n) L) where
@@ -227,12 +229,12 @@ module _ (x : Edited) (w : Lent) (a : Answer) (w′ : Lent) (run : EditRun x w a
         (f, g ∙ sym (ap (λ (M : Mesh). M .list) tables-left))
 
     -- where the buffers have room for the old list and for the new one, the next edit finds what it needs in them
-    pub fit-still : T (editSizes w) → T (editLengths w) → length L′ ≤ length (w .list) → n′ ≤ length (w .vertices) → columns L′ * elements L′ ≤ length (w .opposites) → k ≤ length (w .border)
-        → n′ + 16 * elements L′ ≤ length (w .work) → T (editSizes w′) × T (editLengths w′) × (length (w′ .border) ≡ length (w .border))
-    unfolding editSizes editLengths written
-    fit-still sizes lengths list vertices opposites border work =
+    pub fit-still : T (editSizes w) → T (editLengths w others) → length L′ ≤ length (w .list) → n′ ≤ length (w .vertices) → columns L′ * elements L′ ≤ length (w .opposites) → k ≤ length (w .border)
+        → n′ + 16 * elements L′ ≤ length (w .work) → (others′ : Bool) → T others′ → T (editSizes w′) × T (editLengths w′ others′) × (length (w′ .border) ≡ length (w .border))
+    unfolding countsFit hasRoom editSizes editLengths written
+    fit-still sizes lengths list vertices opposites border work others′ more =
         let fit = good n′ L′ new .fit in
-        let (l, v, e, r) = enough w sizes lengths in
+        let (l, v, e, r) = enough w others sizes lengths in
         let same : held w′ ≡ L′ = ap (λ (M : Mesh). M .list) tables-left in
         let list-long = ap (λ (u : Lent). length (u .list)) left ∙ over-length (4 * w .m) L′ (w .list) l list in
         let vertices-long = ap (λ (u : Lent). length (u .vertices)) left ∙ over-length (w .n) (v2e n′ L′) (w .vertices) v (omega (arith, length-v2e L′ n′)) in
@@ -241,7 +243,7 @@ module _ (x : Edited) (w : Lent) (a : Answer) (w′ : Lent) (run : EditRun x w a
         let work-long = ap (λ (u : Lent). length (u .work)) left ∙ work-length in
         let columned : columns (held w′) * w′ .m ≡ columns L′ * elements L′ = λ i. columns (same i) * same-m i in (
           means-both (means-le (w′ .n) maxVertex) (means-le (w′ .m) maxElement) .shows (omega (arith, fit .vertices, same-n), omega (arith, fit .size, same-m)),
-          means-holds (w′ .n) (w′ .m) (w′ .list) (length (w′ .vertices)) (length (w′ .opposites)) (length (w′ .work)) .shows
-              (omega (arith, list-long, fit .fours, same-m), (omega (arith, vertices-long, same-n), (omega (arith, opposites-long, columned), omega (arith, work-long, same-n, same-m)))),
+          means-both (means-itself others′) (means-holds (w′ .n) (w′ .m) (w′ .list) (length (w′ .vertices)) (length (w′ .opposites)) (length (w′ .work))) .shows
+              (more, (omega (arith, list-long, fit .fours, same-m), (omega (arith, vertices-long, same-n), (omega (arith, opposites-long, columned), omega (arith, work-long, same-n, same-m))))),
           border-long,
         )

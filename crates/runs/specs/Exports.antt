@@ -42,10 +42,10 @@ use Rattle.borzhanu.proofs.borzhanu_walker_start.Kinds as start-kinds
 use Rattle.borzhanu.proofs.borzhanu_walker_start.Reads as start-reads
 use Rattle.borzhanu.proofs.borzhanu_walker_step.Kinds as step-kinds
 use Rattle.borzhanu.proofs.borzhanu_walker_step.Reads as step-reads
+use Rattle.edits.specs.Holding.{lentSized}
 use Rattle.sibling_map.specs.Mapping.{lentMaps}
 use Rattle.holes.specs.Marks.{lentHoles}
 use Rattle.borzhanu.specs.Walkers.{walkerIn}
-use Rattle.borzhanu.specs.Sizes.{lentSized}
 use Rattle.answer.specs.Packing.{told}
 use Rattle.runs.specs.Contracts.{buffers, of}
 use Rattle.runs.specs.Bounds.{build-fits, columns-fits, recover-fits, siblings-fits, swap-fits, opposite-fits, next-fits, previous-fits, element-fits, origin-fits, destination-fits}

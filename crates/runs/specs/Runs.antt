@@ -1,6 +1,7 @@
 -- Runs of the calls, as their contracts say: the answer, and what each buffer holds at exit. Theorems about the calls are about these.
 -- Assumes nothing.
 use mathlib.Core.Path.{_≡_, refl}
+use mathlib.Core.Bool.{Bool, true}
 use mathlib.Core.List.{List}
 use Prim.Native.Nat.{ℕ}
 use lib.ListN.{take}
@@ -30,14 +31,14 @@ pub record SiblingsRun (n : ℕ) (L : List ℕ) (w : SiblingBuffers) (a : Answer
   pub answer : a ≡ siblingsAnswer n L w
   pub leaves : w′ ≡ siblingsLeaves n L w
 
--- a run of an edit on what is lent, w: x is what the edit makes of the list that is held
-pub record EditRun (x : Edited) (w : Lent) (a : Answer) (w′ : Lent) : Type 0 where
-  pub answer : a ≡ editAnswer w x
-  pub leaves : w′ ≡ editLeaves w x
+-- a run of an edit on what is lent, w: x is what the edit makes of the list that is held, and `others` the lengths of what else is lent
+pub record EditRun (others : Bool) (x : Edited) (w : Lent) (a : Answer) (w′ : Lent) : Type 0 where
+  pub answer : a ≡ editAnswer w others x
+  pub leaves : w′ ≡ editLeaves w others x
 
 -- a run of swap with the code s
 abbrev pub SwapRun : Lent → ℕ → Answer → Lent → Type 0
-SwapRun w s = EditRun (swap (w .n) (held w) s) w
+SwapRun w s = EditRun true (swap (w .n) (held w) s) w
 
 -- runs of the queries that write a list
 pub record RingRun (M : Mesh) (v : ℕ) (out : List ℕ) (a : Answer) (out′ : List ℕ) : Type 0 where

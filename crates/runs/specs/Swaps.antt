@@ -80,7 +80,7 @@ module _ (w : Lent) (s : ℕ) (a : Answer) (w′ : Lent) (run : SwapRun w s a w�
   x = swap n L s
 
   -- each refusal, where checks 1 and 2 find nothing and the old list is accepted; `edits.old-refused` is of one that isn't
-  module _ (sizes : T (editSizes w)) (lengths : T (editLengths w)) (old : Accepted n L) where
+  module _ (sizes : T (editSizes w)) (lengths : T (editLengths w true)) (old : Accepted n L) where
     pub gives-11 : (There L s → ⊥) → a ≡ refused 11 0 0
     gives-11 f =
         edits.edit-refused x w a w′ run sizes lengths old (gone n L s (false-of (isThere L s) (means-not (means-there L s) .shows f)))
@@ -118,7 +118,7 @@ module _ (w : Lent) (s : ℕ) (a : Answer) (w′ : Lent) (run : SwapRun w s a w�
   -- n entries of B2e are always enough
   pub never-nine : n ≤ length (w .border) → (p q : ℕ) → a ≡ refused 9 p q → ⊥
   unfolding editAnswer lengthChecks onceAccepted newAnswer
-  never-nine long p q g = go (editSizes w) (editLengths w) refl refl (sym (run .answer) ∙ g)
+  never-nine long p q g = go (editSizes w) (editLengths w true) refl refl (sym (run .answer) ∙ g)
     where
       new : Accepted n L → Test (isThere L s) → Test (isSwappable L s) → newAnswer (length (w .border)) x ≡ refused 9 p q → ⊥
       new old (fail t f) c e = let h = sym (ap (newAnswer (length (w .border))) (gone n L s f)) ∙ e in let z : _≡_ {A = ℕ} 11 9 = cc in omega arith
@@ -132,16 +132,16 @@ module _ (w : Lent) (s : ℕ) (a : Answer) (w′ : Lent) (run : SwapRun w s a w�
       past fit (refused r i j) e f = list-never n L 9 (λ r from to d e. e) p q (e ∙ f)
       past fit (gives k e) o f = new (list-counted n L fit k e o .0) (test (isThere L s)) (test (isSwappable L s)) f
 
-      go : (sizes lengths : Bool) → editSizes w ≡ sizes → editLengths w ≡ lengths
+      go : (sizes lengths : Bool) → editSizes w ≡ sizes → editLengths w true ≡ lengths
           → lengthChecks sizes lengths (onceAccepted (listAnswer n L) (newAnswer (length (w .border)) x)) ≡ refused 9 p q → ⊥
-      go true true s l f = past (edits.held-sizes w (rw s tt) (rw l tt)) (listAnswer n L) refl f
+      go true true s l f = past (edits.held-sizes w true (rw s tt) (rw l tt)) (listAnswer n L) refl f
       go true false s l f = let z : _≡_ {A = ℕ} 2 9 = cc in omega arith
       go false l s m f = let z : _≡_ {A = ℕ} 1 9 = cc in omega arith
 
   -- an answer, exactly where none of the refusals is due
   pub record Swaps (k e : ℕ) : Type 0 where
     pub sizes : T (editSizes w)
-    pub lengths : T (editLengths w)
+    pub lengths : T (editLengths w true)
     pub old : Accepted n L
     pub diagonal : Diagonal L s
     pub new : Accepted n L′
@@ -154,7 +154,7 @@ module _ (w : Lent) (s : ℕ) (a : Answer) (w′ : Lent) (run : SwapRun w s a w�
     (λ gave.
         let y = edits.answered x w a w′ run gave in
         let (d, vertices, same) = becomes-swapped n L s (y .edited) in
-        let (old, counts) = list-counted n L (edits.held-sizes w (y .sizes) (y .lengths)) _ _ (y .old) in
+        let (old, counts) = list-counted n L (edits.held-sizes w true (y .sizes) (y .lengths)) _ _ (y .old) in
         let (new, (b, i)) = list-counted n L′ (new-sizes n L s old d) k e (rw (← vertices, ← same) at (y .new)) in
         record { sizes = y .sizes; lengths = y .lengths; old = old; diagonal = d; new = new; borders-are = b; edges-are = i; room = y .room }),
     (λ y.
@@ -185,7 +185,7 @@ module _ (w : Lent) (s : ℕ) (a : Answer) (w′ : Lent) (run : SwapRun w s a w�
     -- n, m, k and the number of edges stay
     pub sizes-stay : (w′ .n ≡ n) × (w′ .m ≡ w .m)
     sizes-stay =
-        let (long, rows) = edits.held-rows w (y .sizes) (y .lengths) in (
+        let (long, rows) = edits.held-rows w true (y .sizes) (y .lengths) in (
           edits.same-n x w a w′ run gave edited (y .new) (y .borders-are),
           edits.same-m x w a w′ run gave edited (y .new) (y .borders-are) ∙ same-size (replaced n L s (y .old) (y .diagonal)) ∙ rows,
         )
@@ -197,14 +197,14 @@ module _ (w : Lent) (s : ℕ) (a : Answer) (w′ : Lent) (run : SwapRun w s a w�
     )
 
     -- and the next edit finds what it needs
-    pub fit-still : T (editSizes w′) × T (editLengths w′) × (length (w′ .border) ≡ length (w .border))
+    pub fit-still : T (editSizes w′) × T (editLengths w′ true) × (length (w′ .border) ≡ length (w .border))
     fit-still =
         let r = replaced n L s (y .old) (y .diagonal) in
-        let (long, rows) = edits.held-rows w (y .sizes) (y .lengths) in
-        let (list, vertices, opposites, work) = edits.enough w (y .sizes) (y .lengths) in
+        let (long, rows) = edits.held-rows w true (y .sizes) (y .lengths) in
+        let (list, vertices, opposites, work) = edits.enough w true (y .sizes) (y .lengths) in
         let wide : columns L′ * elements L′ ≡ columns L * w .m = λ i. same-columns r i * (same-size r ∙ rows) i in
         edits.fit-still x w a w′ run gave edited (y .new) (y .borders-are) (y .sizes) (y .lengths)
-        (omega (arith, r .long)) vertices (omega (arith, wide)) (y .room) (omega (arith, same-size r))
+        (omega (arith, r .long)) vertices (omega (arith, wide)) (y .room) (omega (arith, same-size r)) true tt
 
 -- a diagonal named from its other side: the same answer, and the same is left
 pub either-side : (w : Lent) (s : ℕ) (a b : Answer) (u v : Lent) → SwapRun w s a u → SwapRun w (partner (held w) s) b v
@@ -215,4 +215,4 @@ either-side w s a b u v run other old d =
     diagonal-swaps (w .n) (held w) (partner (held w) s) (other-diagonal (w .n) (held w) h s d)
     ∙ ap (becomes (w .n)) (swapped-alike (w .n) (held w) h s d)
     ∙ sym (diagonal-swaps (w .n) (held w) s d) in
-    (other .answer ∙ ap (editAnswer w) e ∙ sym (run .answer), other .leaves ∙ ap (editLeaves w) e ∙ sym (run .leaves))
+    (other .answer ∙ ap (editAnswer w true) e ∙ sym (run .answer), other .leaves ∙ ap (editLeaves w true) e ∙ sym (run .leaves))
