@@ -3,24 +3,24 @@
 -- Assumes nothing.
 use mathlib.Core.Path.{_≡_, refl, ap, sym, subst, _∙_}
 use mathlib.Core.Bool.{Bool}
-use mathlib.Core.Logic.{inl, inr}
+use mathlib.Core.Logic.{_⊎_, inl, inr}
 use mathlib.Core.List.{List}
-use Prim.Native.Nat.{ℕ, _+_, _*_, _≤_}
+use Prim.Native.Nat.{ℕ, _+_, _*_, _/_, _%_, _≤_}
 use native.Mathlib.Omega.{arith}
 use lib.Dec.{T}
 use lib.ListN.{length, take, length-replicate}
 use lib.Seq.{length-take-le}
 use Rattle.lists.specs.Tests.{both}
-use Rattle.lists.specs.TestLaws.{pass, fail, test, passes, true-of, means-itself, means-both, means-le}
+use Rattle.lists.specs.TestLaws.{Means, pass, fail, test, passes, true-of, means-itself, means-either, means-both, means-eq, means-le, means-within}
 use Rattle.lists.specs.SearchLaws.{le-or-lt}
-use Rattle.rules.specs.Elements.{maxVertex, maxElement, elements}
+use Rattle.rules.specs.Elements.{maxVertex, maxElement, elements, isSide, Side}
 use Rattle.rules.specs.Pairing.{Accepted, sizesFit}
 use Rattle.rules.specs.Tables.{borders, b2e, columns, e2e, v2e, edges}
 use Rattle.rules.specs.Recovery.{HasTables}
 use Rattle.rules.specs.Refusals.{Answer, gives, refused, Buffers, buildLengths, listAnswer, lengthChecks, roomCheck, after, workAfter, buildAnswer}
 use Rattle.rules.specs.Refusals.{recoverAnswer, recoverList, recoverWork}
 use Rattle.rules.specs.Queries.{Mesh}
-use Rattle.rules.specs.Edits.{Edited, becomes, refuses, Lent, withWork, overOld, held, countsFit, hasRoom, onceAccepted, newAnswer, editSizes, editLengths, editAnswer, written, editLeaves}
+use Rattle.rules.specs.Edits.{Edited, becomes, refuses, Lent, withWork, overOld, isThere, held, countsFit, hasRoom, onceAccepted, newAnswer, editSizes, editLengths, editAnswer, written, editLeaves}
 use Rattle.theory.specs.FitRows.{means-sizes}
 use Rattle.theory.specs.Entries.{length-b2e, length-v2e}
 use Rattle.theory.specs.Columns.{length-e2e}
@@ -32,6 +32,14 @@ use Rattle.edits.specs.Holding.{means-holds}
 use Rattle.runs.specs.Runs.{BuildRun, RecoverRun, EditRun, LeftBy}
 use Rattle.runs.specs.RoundTrip.{tables-come-back}
 use Rattle.runs.specs.OnBuilt.{built-left}
+
+-- a side, or one of the border half-edges
+abbrev pub There : List ℕ → ℕ → Type 0
+There L s = Side L s ⊎ ((s % 8 ≡ 0) × ((1 ≤ s / 8) × (s / 8 ≤ borders L)))
+
+pub means-there : (L : List ℕ) (s : ℕ) → Means (isThere L s) (There L s)
+unfolding isThere
+means-there L s = means-either (means-itself (isSide L s)) (means-both (means-eq (s % 8) 0) (means-within 1 (borders L) (s / 8)))
 
 -- what is held: the list, its tables with its own columns, and k entries of B2e
 abbrev pub meshIn : Lent → ℕ → Mesh

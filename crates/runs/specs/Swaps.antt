@@ -9,8 +9,8 @@ use Prim.Native.Nat.{ℕ, _+_, _*_, _/_, _%_, _≤_}
 use native.Mathlib.Omega.{arith}
 use lib.Dec.{T}
 use lib.ListN.{length}
-use Rattle.lists.specs.TestLaws.{Test, pass, fail, test, Means, decide, true-of, false-of, means-not, means-itself, means-either, means-both, means-eq, means-within}
-use Rattle.rules.specs.Elements.{elements, isSide, Side}
+use Rattle.lists.specs.TestLaws.{Test, pass, fail, test, decide, true-of, false-of, means-not, means-eq}
+use Rattle.rules.specs.Elements.{elements}
 use Rattle.rules.specs.Pairing.{Accepted, sizesFit}
 use Rattle.rules.specs.Tables.{partner, borders, columns, edges}
 use Rattle.rules.specs.Refusals.{Answer, gives, refused, Buffers, crowdedSide, listAnswer, buildLengths, lengthChecks, roomCheck}
@@ -30,15 +30,7 @@ use Rattle.runs.specs.Runs.{BuildRun, RecoverRun, SwapRun, LeftBy}
 use Rattle.runs.specs.Demand3.{list-counted}
 use Rattle.runs.specs.RoundTrip.{room-for-all}
 use Rattle.runs.specs.Edits as edits
-use Rattle.runs.specs.Edits.{meshIn}
-
--- a side, or one of the border half-edges
-abbrev pub There : List ℕ → ℕ → Type 0
-There L s = Side L s ⊎ ((s % 8 ≡ 0) × ((1 ≤ s / 8) × (s / 8 ≤ borders L)))
-
-means-there : (L : List ℕ) (s : ℕ) → Means (isThere L s) (There L s)
-unfolding isThere
-means-there L s = means-either (means-itself (isSide L s)) (means-both (means-eq (s % 8) 0) (means-within 1 (borders L) (s / 8)))
+use Rattle.runs.specs.Edits.{There, means-there, meshIn}
 
 -- a diagonal is there, and is swapped
 diagonal-swaps : (n : ℕ) (L : List ℕ) (s : ℕ) → Diagonal L s → swap n L s ≡ becomes n (swapped L s)
