@@ -6,7 +6,7 @@ use Prim.Native.Nat.{ℕ, zero, suc, _+_, _*_, _-_, _≤_}
 use native.Mathlib.Omega.{arith}
 use lib.Ieee.{Float, nan}
 use lib.ListN.{length, take, drop, set, getD}
-use Rattle.rules.specs.Split.{coordinate, withPoint}
+use Rattle.rules.specs.Split.{midway, coordinate, midpoint, withPoint}
 
 -- three numbers stored one after the other
 stored : (i : ℕ) (P : List Float) (x y z : Float) → i + 3 ≤ length P
@@ -32,3 +32,13 @@ point-put n {i} x y z P e h =
 pub point-got : (v : ℕ) {i : ℕ} (P : List Float) → i ≡ v - 1 → (k j : ℕ) → j ≡ 3 * i + k → getD P j nan ≡ coordinate P v k
 unfolding coordinate
 point-got v P e k j f = let g : j ≡ 3 * (v - 1) + k = omega arith in ap (λ (p : ℕ). getD P p nan) g
+
+-- x, y and z are the point of v
+abbrev Point : List Float → ℕ → Float → Float → Float → Type 0
+Point P v x y z = (x ≡ coordinate P v 0) × (y ≡ coordinate P v 1) × (z ≡ coordinate P v 2)
+
+-- three numbers midway between those of a and b are the midpoint
+pub middle : (P : List Float) (a b : ℕ) {x y z x₁ y₁ z₁ x₂ y₂ z₂ : Float} → Point P a x₁ y₁ z₁ → Point P b x₂ y₂ z₂
+    → (x ≡ midway x₁ x₂) × (y ≡ midway y₁ y₂) × (z ≡ midway z₁ z₂) → x ∷ y ∷ z ∷ [] ≡ midpoint P a b
+unfolding midpoint
+middle P a b (d, e, f) (g, h, i) (j, k, l) = rw (j, k, l, d, e, f, g, h, i) refl

@@ -39,6 +39,7 @@ pub mod Counting
 pub mod Described
 pub mod Answers
 pub mod SplitAnswers
+pub mod SplitTests
 pub mod SwapRefusals
 pub mod Calls
 pub mod Edits

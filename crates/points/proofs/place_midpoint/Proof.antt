@@ -1,9 +1,10 @@
 -- `points::place_midpoint` meets its contract.
 -- Assumes nothing.
-use mathlib.Core.Path.{_≡_, ap, _∙_}
-use mathlib.Core.List.{List, [], _∷_}
+use mathlib.Core.Path.{ap, _∙_}
+use mathlib.Core.List.{List}
 use lib.Ieee.{Float}
-use Rattle.rules.specs.Split.{midpoint, withPoint}
+use Rattle.rules.specs.Split.{withPoint}
+use Rattle.points.specs.Placing.{middle}
 use borrow.Author.Needs.{needs}
 use Rattle.points.proofs.place_midpoint.Statement.{statement}
 use Rattle.points.proofs.place_midpoint.Tie as tie
@@ -24,19 +25,15 @@ same-length : tie.Need-same-length
 same-length c = search needs
 
 returns : tie.Need-returns
-unfolding midpoint
 returns c =
     let put = c .before .before in
-    let middle = put .before .before in
-    let second = middle .before in
+    let mid = put .before .before in
+    let second = mid .before in
     let first = second .before .before in
     let args = first .before .before .before .args in
-    let m = middle .midpoint .result in
-    let (x, y, z) = middle .midpoint .ensures in
-    let (x₁, y₁, z₁) = first .point-of .ensures in
-    let (x₂, y₂, z₂) = second .point-of2 .ensures in
-    let same : m .x ∷ m .y ∷ m .z ∷ [] ≡ midpoint (args .points .now) (args .a) (args .b) = cc in
-    put .put-point .ensures ∙ ap (λ (p : List Float). withPoint (args .n) p (args .points .now)) same
+    let P = args .points .now in
+    let same = middle P (args .a) (args .b) (first .point-of .ensures) (second .point-of2 .ensures) (mid .midpoint .ensures) in
+    put .put-point .ensures ∙ ap (λ (p : List Float). withPoint (args .n) p P) same
 
 pub place-midpoint-spec : {M : Type 1} → statement M
 place-midpoint-spec =
