@@ -8,7 +8,7 @@ use mathlib.Core.List.{List}
 use Prim.Native.Nat.{ℕ, _+_, _*_, _/_, _%_, _≤_}
 use native.Mathlib.Omega.{arith}
 use lib.Dec.{T}
-use lib.ListN.{length, take, length-replicate}
+use lib.ListN.{length, take, drop, length-replicate}
 use lib.Seq.{length-take-le}
 use Rattle.lists.specs.Tests.{both}
 use Rattle.lists.specs.TestLaws.{Means, pass, fail, test, passes, true-of, means-itself, means-either, means-both, means-eq, means-le, means-within}
@@ -26,7 +26,7 @@ use Rattle.theory.specs.Entries.{length-b2e, length-v2e}
 use Rattle.theory.specs.Columns.{length-e2e}
 use Rattle.theory.specs.Orders.{good}
 use Rattle.theory.specs.Answers.{past-lengths, room-enough, room-short, accepted-answer}
-use Rattle.theory.specs.Edits.{past-old, past-new, onto-front, onto-length, over-front, over-length}
+use Rattle.theory.specs.Edits.{past-old, past-new, onto-front, onto-length, past-onto, over-front, over-length, past-over}
 use Rattle.theory.specs.Built.{built}
 use Rattle.edits.specs.Holding.{means-holds}
 use Rattle.runs.specs.Runs.{BuildRun, RecoverRun, EditRun, LeftBy}
@@ -235,6 +235,26 @@ module _ {others : Bool} (x : Edited) (w : Lent) (a : Answer) (w′ : Lent) (run
         } in
         let (f, g) = tables-come-back n′ L′ V2e E2e tables list work (omega (arith, fours, same-m)) (omega (arith, same-n, same-m)) b list′ work″ told in
         (f, g ∙ sym (ap (λ (M : Mesh). M .list) tables-left))
+
+    -- "entries past both the old and the new length stay untouched" (point 6)
+    pub record Untouched : Type 0 where
+      pub list : (p : ℕ) → 4 * w .m ≤ p → 4 * w′ .m ≤ p → drop p (w′ .list) ≡ drop p (w .list)
+      pub vertices : (p : ℕ) → w .n ≤ p → w′ .n ≤ p → drop p (w′ .vertices) ≡ drop p (w .vertices)
+      pub opposites : (p : ℕ) → columns L * w .m ≤ p → columns L′ * w′ .m ≤ p → drop p (w′ .opposites) ≡ drop p (w .opposites)
+      pub border : (p : ℕ) → k ≤ p → drop p (w′ .border) ≡ drop p (w .border)
+
+    pub untouched : Untouched
+    unfolding written
+    untouched =
+        record {
+          list = λ p h i. ap (λ (u : Lent). drop p (u .list)) left ∙ past-over (4 * w .m) L′ (w .list) p h (omega (arith, fours, same-m));
+          vertices = λ p h i.
+              ap (λ (u : Lent). drop p (u .vertices)) left ∙ past-over (w .n) (v2e n′ L′) (w .vertices) p h (omega (arith, length-v2e L′ n′, same-n));
+          opposites = λ p h i.
+              let wide : length (e2e L′) ≡ columns L′ * w′ .m = length-e2e L′ ∙ ap (λ (m : ℕ). columns L′ * m) (sym same-m) in
+              ap (λ (u : Lent). drop p (u .opposites)) left ∙ past-over (columns L * w .m) (e2e L′) (w .opposites) p h (omega (arith, wide));
+          border = λ p h. ap (λ (u : Lent). drop p (u .border)) left ∙ past-onto (b2e L′) (w .border) p (omega (arith, length-b2e L′, number));
+        }
 
     -- where the buffers have room for the old list and for the new one, the next edit finds what it needs in them
     pub fit-still : T (editSizes w) → T (editLengths w others) → length L′ ≤ length (w .list) → n′ ≤ length (w .vertices) → columns L′ * elements L′ ≤ length (w .opposites) → k ≤ length (w .border)

@@ -10,6 +10,7 @@ pub mod RoundTrip
 pub mod Edits
 pub mod Swaps
 pub mod Splits
+pub mod SplitPoints
 pub mod SwapBack
 pub mod Bounds
 pub mod Exports

@@ -184,3 +184,12 @@ module _ (w : Lent) (P : List Float) (s : ℕ) (a : Answer) (w′ : Lent) (P′ 
 
     pub border-grows : partner L s ≡ 0 → GrownBy 1 1 2
     border-grows z = grown-by (grown-border n L g (y .old .meeting) s (y .splittable) (y .holds .vertices) (y .holds .size) z)
+
+    -- and the next split finds what it needs, where the buffers have room for it
+    pub fit-still : T (hasPoints (n + 1) P′) → T (editSizes w′) × T (editLengths w′ (hasPoints (n + 1) P′)) × (length (w′ .border) ≡ length (w .border))
+    fit-still points =
+        let h = y .holds in
+        let wide : columns L′ * elements L′ ≡ columns L * elements L′ = ap (λ (c : ℕ). c * elements L′) (columns-stay n L (g .fit) s (y .splittable) (n + 1)) in
+        edits.fit-still (split w P s) w a w′ (run .edit) gave made accepted (y .borders-are) (y .sizes) (y .lengths)
+        (omega (arith, h .list, split-fours n L (g .fit) s (y .splittable) (n + 1))) (h .v2e) (omega (arith, h .e2e, wide)) (y .room) (h .work)
+        (hasPoints (n + 1) P′) points
