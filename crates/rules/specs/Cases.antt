@@ -7,7 +7,7 @@ use mathlib.Core.List.{List, [], _∷_, _++_}
 use Prim.Native.Nat.{ℕ, zero, suc, _+_, _*_, _-_}
 use lib.Count.{trailingZeros}
 use lib.Dec.{T, eqb}
-use lib.Ieee.{Float, binary64, span, climb, size, odd, units, round, sum, add, mul, ofInt, toBits}
+use lib.Ieee.{Float, binary64, span, climb, size, odd, units, round, sum, add, mul, ofInt, ofFields, ofBits, toBits}
 use lib.IntN.{pos}
 use lib.ListN.{length, take, drop, replicate}
 use Rattle.lists.specs.Tests.{both, same, has}
@@ -132,6 +132,8 @@ pub data Case : Type 0 where
   -- with this n, m and list, a V2e, E2e, B2e, points and work buffer of these lengths, the refusal of the code, which leaves n, m, list, tables
   -- and points as they were, and what it leaves of the work
   splitRefused : ℕ → ℕ → List ℕ → ℕ → ℕ → ℕ → ℕ → ℕ → ℕ → Answer → List ℕ → Case
+  -- the bits of two numbers, and of the one midway
+  midwayIs : ℕ → ℕ → ℕ → Case
 
 unfoldable pub sameAnswer : Answer → Answer → Bool
 sameAnswer (gives a b) (gives c d) = both (eqb a c) (eqb b d)
@@ -234,6 +236,7 @@ holds (splitRefused n m L v e b points work s a work′) =
     let P = counted points in
     both (sameAnswer (splitAnswer w P s) a)
     (both (sameLent (splitLeaves w P s) w work′) (same (bits (splitPoints w P s)) (bits P)))
+holds (midwayIs x y z) = eqb (toBits binary64 (midway (ofBits binary64 x) (ofBits binary64 y))) z
 
 unfoldable pub every : (Case → Bool) → List Case → Bool
 every p [] = true
@@ -474,6 +477,15 @@ splits =
     splitRefused 4 2 listing 4 6 4 12 35 11 (refused 2 0 0) (replicate 35 1) ∷
     splitRefused 4 2 (tri 1 2 3 ++ tri 1 2 4) 4 6 0 12 36 0 (refused 7 1 1) (blank 36) ∷
     splitRefused 1_000_001 2 [] 4 6 4 0 36 11 (refused 1 0 0) (replicate 36 1) ∷
+    -- "the sum of the two ends times 0.5": of 1 and 2; of the least number twice, whose half is no number; of the greatest twice, whose sum is
+    -- none; of 2^53 and 1, whose sum is rounded; of −0 twice, of −0 and 0, of two infinities
+    midwayIs 0x3ff0_0000_0000_0000 0x4000_0000_0000_0000 0x3ff8_0000_0000_0000 ∷
+    midwayIs 1 1 1 ∷
+    midwayIs 0x7fef_ffff_ffff_ffff 0x7fef_ffff_ffff_ffff 0x7ff0_0000_0000_0000 ∷
+    midwayIs 0x4340_0000_0000_0000 0x3ff0_0000_0000_0000 0x4330_0000_0000_0000 ∷
+    midwayIs 0x8000_0000_0000_0000 0x8000_0000_0000_0000 0x8000_0000_0000_0000 ∷
+    midwayIs 0x8000_0000_0000_0000 0 0 ∷
+    midwayIs 0x7ff0_0000_0000_0000 0xfff0_0000_0000_0000 0x7ff8_0000_0000_0000 ∷
     []
 
 -- the rules give every row of the table
@@ -503,5 +515,5 @@ unfolding three quad tri blank room left sameAnswer holds every listing mixed sp
     buildLengths lengthChecks roomCheck buildAnswer after onto buildLeaves workAfter
     editRoom overOld onceAccepted newAnswer isThere countsFit hasRoom editSizes editLengths editAnswer written editLeaves counted bits heldIn sameLent
     withCorner halved splitAt isSplittable hasPoints canHold split midway coordinate midpoint withPoint splitPoints
-    ofInt toBits round size span climb units odd trailingZeros sum add mul
+    ofInt ofBits ofFields toBits round size span climb units odd trailingZeros sum add mul
 splits-hold = tt

@@ -71,7 +71,7 @@ oneHalf = fin false 1 (negsuc 0)
 unfoldable pub midway : Float → Float → Float
 midway x y = mul binary64 (add binary64 x y) oneHalf
 
--- "Each vertex has a point of three f64 numbers": number i of vertex v, both counted as the list counts them
+-- "Each vertex has a point of three f64 numbers": number i of vertex v, counted from 0
 unfoldable pub coordinate : List Float → ℕ → ℕ → Float
 coordinate P v i = getD P (3 * (v - 1) + i) nan
 

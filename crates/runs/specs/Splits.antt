@@ -1,7 +1,7 @@
 -- Document 02, point 6, as theorems about runs of split: what it refuses, that of a new list only 9 can be said, and what it leaves. What every edit
 -- promises stands in `Edits`.
 -- Assumes nothing.
-use mathlib.Core.Path.{_≡_, refl, ap, sym, _∙_}
+use mathlib.Core.Path.{_≡_, ap, sym, _∙_}
 use mathlib.Core.Bool.{true}
 use mathlib.Core.Logic.{inl, inr, _↔_}
 use mathlib.Core.List.{List}
@@ -10,7 +10,7 @@ use native.Mathlib.Omega.{arith}
 use lib.Dec.{T}
 use lib.Ieee.{Float}
 use lib.ListN.{length}
-use Rattle.lists.specs.TestLaws.{true-of, false-of, means-not, means-le}
+use Rattle.lists.specs.TestLaws.{true-of, false-of, means-not}
 use Rattle.lists.specs.SearchLaws.{le-or-lt}
 use Rattle.rules.specs.Elements.{elements, origin, destination}
 use Rattle.rules.specs.Pairing.{Accepted}
