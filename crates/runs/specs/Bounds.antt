@@ -8,6 +8,7 @@ use mathlib.Core.List.{List, [], _∷_}
 use Prim.Native.Nat.{ℕ, zero, suc, _+_, _*_, _/_, _%_, _≤_, _<_}
 use native.Mathlib.Omega.{arith}
 use lib.Dec.{T, leb, eqb}
+use lib.Ieee.{Float}
 use lib.ListN.{length}
 use Rattle.lists.specs.Tests.{both, within}
 use Rattle.lists.specs.TestLaws.{passes, Test, pass, fail, test, means-itself, means-both, means-either, means-eq, means-le, means-within}
@@ -21,6 +22,7 @@ use Rattle.rules.specs.Refusals.{rowChecks, listAnswer, lengthChecks, roomCheck
 use Rattle.rules.specs.Siblings.{SiblingBuffers, siblingsAnswer}
 use Rattle.rules.specs.Edits.{Edited, becomes, refuses, Lent, held, isThere, onceAccepted, newAnswer, editSizes, editLengths, editAnswer}
 use Rattle.rules.specs.Swap.{swapped, isSwappable, swap, swapAnswer}
+use Rattle.rules.specs.Split.{isSplittable, hasPoints, canHold, split, splitAnswer}
 use Rattle.rules.specs.Holes.{HoleBuffers, leastOf, holesUpTo, holeCount, holesFound, holesFit, holesAnswer}
 use Rattle.rules.specs.Queries.{Mesh, columnsAnswer, queryLengths, asked, defined, found, listed, andThen, prepend, readAll, read, bySide, byEntry, follow, over, isBorderCode, isHalfEdge, isEntry}
 use Rattle.rules.specs.Queries.{isVertex, readOpposite, readBorderSide, readVertexEntry, readOrigin, readDestination, opposite, borderNext, startSide}
@@ -33,6 +35,10 @@ use Rattle.theory.specs.Steps.{NextNumber, wraps, grows, next-number, previous-
 use Rattle.theory.specs.FitRows.{means-sizes}
 use Rattle.theory.specs.Columns.{three-or-four}
 use Rattle.theory.specs.Built.{borders-bound}
+use Rattle.theory.specs.Orders.{good}
+use Rattle.theory.specs.Splitting.{split-fours}
+use Rattle.theory.specs.SplitTests as split-tests
+use Rattle.theory.specs.SplitTests.{vertex, new}
 use Rattle.answer.specs.Packing.{Fits}
 use Rattle.swap.specs.Swaps.{gone, unfit, swaps, becomes-swapped}
 use Rattle.runs.specs.Runs.{walked-answers}
@@ -129,14 +135,19 @@ unfolding newAnswer
 new-fits room (becomes n L) f g = room-fits room (listAnswer n L) (list-fits n L (f n L refl))
 new-fits room (refuses r) f g = omega (arith, g r refl)
 
-pub swap-fits : (w : Lent) (s : ℕ) → Fits (swapAnswer w s)
+-- by the answers about the old list and the new one
+edit-fits : (w : Lent) (others : Bool) (x : Edited) → (Accepted (w .n) (held w) → (n : ℕ) (L : List ℕ) → x ≡ becomes n L → Sized n L)
+    → ((r : ℕ) → x ≡ refuses r → (1 ≤ r) × (r < 256)) → Fits (editAnswer w others x)
 unfolding editAnswer
-swap-fits w s =
-    lengths-fit (editSizes w) (editLengths w true) _
+edit-fits w others x sized small =
+    lengths-fit (editSizes w) (editLengths w others) _
     (λ sizes lengths.
-    let fit = held-sizes w true sizes lengths in
-    once-fits (listAnswer n L) _ (list-fits n L (means-sizes n L .says fit))
-    (λ k e g. new-fits (length (w .border)) (swap n L s) (becomes-sized (list-counted n L fit k e g .0)) (λ r h. refuses-small r h (test (isThere L s)) (test (isSwappable L s)))))
+    let fit = held-sizes w others sizes lengths in
+    once-fits (listAnswer (w .n) (held w)) _ (list-fits (w .n) (held w) (means-sizes (w .n) (held w) .says fit))
+    (λ k e g. new-fits (length (w .border)) x (sized (list-counted (w .n) (held w) fit k e g .0)) small))
+
+pub swap-fits : (w : Lent) (s : ℕ) → Fits (swapAnswer w s)
+swap-fits w s = edit-fits w true (swap n L s) becomes-sized (λ r h. refuses-small r h (test (isThere L s)) (test (isSwappable L s)))
   where
     n : ℕ
     n = w .n
@@ -153,6 +164,30 @@ swap-fits w s =
     refuses-small r e (fail t f) c = let g = sym (gone n L s f) ∙ e in let z : r ≡ 11 = cc in omega arith
     refuses-small r e (pass t f) (fail u h) = let g = sym (unfit n L s f h) ∙ e in let z : r ≡ 15 = cc in omega arith
     refuses-small r e (pass t f) (pass u h) = let g = sym (swaps n L s f h) ∙ e in let z : _≡_ {A = ℕ} 0 1 = cc in absurd (omega arith)
+
+pub split-fits : (w : Lent) (P : List Float) (s : ℕ) → Fits (splitAnswer w P s)
+split-fits w P s =
+    edit-fits w (hasPoints (w .n) P) (split w P s) becomes-sized
+    (λ r h. refuses-small r h (test (isThere L s)) (test (isSplittable L s)) (test (canHold w P (vertex w s) (new w s))))
+  where
+    L : List ℕ
+    L = held w
+
+    becomes-sized : Accepted (w .n) L → (n′ : ℕ) (L′ : List ℕ) → split w P s ≡ becomes n′ L′ → Sized n′ L′
+    becomes-sized old n′ L′ e =
+        let x = split-tests.becomes-split w P s e in
+        let h = x .holds in
+        let fours = split-fours (w .n) L (good (w .n) L old .fit) s (x .splittable) (vertex w s) in
+        let sized : Sized (vertex w s) (new w s) = (h .vertices, (h .size, fours)) in
+        rw (x .same-list, x .same-n) at sized
+
+    refuses-small : (r : ℕ) → split w P s ≡ refuses r → Test (isThere L s) → Test (isSplittable L s) → Test (canHold w P (vertex w s) (new w s))
+        → (1 ≤ r) × (r < 256)
+    refuses-small r e (fail t f) c d = let g = sym (split-tests.gone w P s f) ∙ e in let z : r ≡ 11 = cc in omega arith
+    refuses-small r e (pass t f) (fail u h) d = let g = sym (split-tests.unfit w P s f h) ∙ e in let z : r ≡ 15 = cc in omega arith
+    refuses-small r e (pass t f) (pass u h) (fail v i) = let g = sym (split-tests.full w P s f h i) ∙ e in let z : r ≡ 19 = cc in omega arith
+    refuses-small r e (pass t f) (pass u h) (pass v i) =
+        let g = sym (split-tests.splits w P s f h i) ∙ e in let z : _≡_ {A = ℕ} 0 1 = cc in absurd (omega arith)
 
 pub siblings-fits : (n : ℕ) (L : List ℕ) (w : SiblingBuffers) → Fits (siblingsAnswer n L w)
 unfolding siblingsAnswer
