@@ -12,7 +12,7 @@ use Prim.Native.Nat.{ℕ, _%_, _≤_, _<_}
 use native.Mathlib.Omega.{arith}
 use lib.Dec.{T, eqb, not-T}
 use lib.ListN.{take}
-use Rattle.lists.specs.Tests.{within}
+use Rattle.lists.specs.Tests.{both, within}
 use Rattle.lists.specs.TestLaws.{true-of, false-of, means-itself, means-either, means-not, means-eq, means-within}
 use Rattle.lists.specs.SearchLaws.{le-or-lt}
 use Rattle.rules.specs.Elements.{Side, isSide}
