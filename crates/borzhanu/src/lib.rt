@@ -110,16 +110,7 @@ pub extern "C" fn borzhanu_split(
     ensures { λ _. ⌜ lentSized (now (size .exit)) (now (elements .exit)) (now (v2e .exit)) (now (e2e .exit)) (now (b2e .exit)) (now (work .exit)) ≡ splitLeaves (lentSized (now (size .entry)) (now (elements .entry)) (now (v2e .entry)) (now (e2e .entry)) (now (b2e .entry)) (now (work .entry))) (now (points .entry)) code ⌝ }
     ensures { λ _. ⌜ now (points .exit) ≡ splitPoints (lentSized (now (size .entry)) (now (elements .entry)) (now (v2e .entry)) (now (e2e .entry)) (now (b2e .entry)) (now (work .entry))) (now (points .entry)) code ⌝ }
 {
-    answer::pack(split::split(
-        size,
-        elements,
-        v2e,
-        e2e,
-        b2e,
-        points,
-        work,
-        code,
-    ))
+    answer::pack(split::split(size, elements, v2e, e2e, b2e, points, work, code))
 }
 
 // The half-edge that runs along the same edge the other way.

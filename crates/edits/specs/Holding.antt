@@ -10,9 +10,9 @@ use lib.Dec.{leb, eqb}
 use lib.ListN.{length, take, getD}
 use Rattle.lists.specs.Tests.{both, either, within}
 use Rattle.lists.specs.TestLaws.{Test, pass, fail, test, true-of, false-of, Means, means-both, means-not, means-le}
-use Rattle.rules.specs.Elements.{element, number, isSide}
+use Rattle.rules.specs.Elements.{maxVertex, maxElement, element, number, isSide}
 use Rattle.rules.specs.Tables.{columns, borders}
-use Rattle.rules.specs.Edits.{Lent, isThere}
+use Rattle.rules.specs.Edits.{Lent, isThere, countsFit}
 use Rattle.theory.specs.Columns.{three-or-four}
 
 abbrev pub lentEdit : ℕ → ℕ → List ℕ → List ℕ → List ℕ → List ℕ → List ℕ → Lent
@@ -22,6 +22,11 @@ lentEdit n m L V2e E2e B2e work =
 -- n and m as a host holds them, in two numbers
 abbrev pub lentSized : List ℕ → List ℕ → List ℕ → List ℕ → List ℕ → List ℕ → Lent
 lentSized size = lentEdit (getD size 0 0) (getD size 1 0)
+
+-- check 1 found nothing
+pub counts-say : (n m : ℕ) → countsFit n m ≡ true → (n ≤ maxVertex) × (m ≤ maxElement)
+unfolding countsFit
+counts-say n m e = means-both (means-le n maxVertex) (means-le m maxElement) .says (rw e tt)
 
 -- buffers of these lengths have room for n vertices and m elements in c columns
 abbrev pub roomFor : ℕ → ℕ → ℕ → ℕ → ℕ → ℕ → ℕ → Bool

@@ -2,3 +2,5 @@ pub mod Holding
 pub mod Leaving
 pub mod RowPut
 pub mod Trying
+pub mod HeldRows
+pub mod Fronts

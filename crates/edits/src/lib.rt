@@ -1,19 +1,24 @@
-// What edits share: checks 1 and 2, where buffers may be longer than what they hold, whether the half-edge named is there, what the tables of the
-// old list say of a side, and a row put in its place.
+// What edits share: checks 1 and 2, where buffers may be longer than what they hold, the trial of the old list, whether the half-edge named is
+// there, what the tables of the old list say of a side, a row put in its place, and the tables of the new list.
 ghost use mathlib.Core.Path.{_≡_};
 ghost use mathlib.Core.Logic.{_⊎_};
 ghost use Prim.Native.Nat.{_*_, _≤_};
 ghost use lib.Dec.{eqb};
-ghost use lib.ListN.{length};
+ghost use lib.ListN.{length, take};
 ghost use Rattle.lists.specs.Search.{at};
 ghost use Rattle.rules.specs.Elements.{maxVertex, maxElement, sides, Side, slot};
 ghost use Rattle.rules.specs.Tables.{borders};
 ghost use Rattle.rules.specs.Tables.{wide as wideOf};
 ghost use Rattle.rules.specs.Edits.{countsFit, withRow, isThere};
 ghost use Rattle.halfedge.specs.Rows.{rowOf};
-ghost use Rattle.edits.specs.Holding.{roomFor, columnsHeld};
+ghost use Rattle.answer.specs.Numbers.{numbers};
+ghost use Rattle.build.specs.Building.{Scratched};
+ghost use Rattle.edits.specs.Holding.{lentEdit, roomFor, columnsHeld};
 ghost use Rattle.edits.specs.Trying.{Tabled};
+ghost use Rattle.edits.specs.Fronts.{Ready, ToTry, Fronted};
+use answer::Answer;
 use buffers::copy;
+use build::build_fit;
 use columns::columns_of;
 use halfedge::HalfEdge;
 use halfedge::element_of;
@@ -23,6 +28,7 @@ use halfedge::slot_of;
 use halfedge::wide;
 use sides::is_side;
 use sides::row_at;
+use tabulate::tabulate;
 
 // Check 1, which reads n and m only.
 pub fn counts_fit(n: u32, m: u32) -> bool
@@ -77,6 +83,15 @@ pub fn columns_held(n: u32, m: u32, list: &[u32], v2e: usize, e2e: usize, work: 
     columns
 }
 
+// The list as it is, tried in the front of the work buffer, where its tables are left.
+pub fn try_old(n: u32, list: &[u32], work: &mut [u32]) -> Answer
+    requires { ⌜ ToTry n (now list) (now work) ⌝ }
+    ensures { λ r. ⌜ Scratched n (now (list .entry)) (numbers r) (now (work .entry)) (now (work .exit)) ⌝ }
+{
+    let end = wide(n) + 12 * (list.len() / 4);
+    tabulate(n, list, &mut work[0..end])
+}
+
 // Whether a side or one of the k border half-edges of the list has this code.
 pub fn is_there(list: &[u32], k: u32, code: u32) -> bool
     requires { ⌜ k ≡ borders (now list) ⌝ }
@@ -118,4 +133,34 @@ pub fn put_row(f: u32, row: [u32; 4], list: &mut [u32])
     let a = 4 * wide(f - 1);
     let e = a + 4;
     copy(&row, &mut list[a..e]);
+}
+
+// The tables of the first m rows of the list, in buffers that may be longer than these.
+pub fn build_front(
+    n: u32,
+    m: u32,
+    columns: u32,
+    list: &[u32],
+    v2e: &mut [u32],
+    e2e: &mut [u32],
+    b2e: &mut [u32],
+    work: &mut [u32],
+) -> Answer
+    requires { ⌜ Ready (lentEdit n m (now list) (now v2e) (now e2e) (now b2e) (now work)) columns ⌝ }
+    ensures { λ r. ⌜ Fronted n (take (4 * m) (now (list .entry))) (numbers r) (now (v2e .entry)) (now (e2e .entry)) (now (b2e .entry)) (now (v2e .exit)) (now (e2e .exit)) (now (b2e .exit)) ⌝ }
+    ensures { λ r. ⌜ length (now (work .exit)) ≡ length (now (work .entry)) ⌝ }
+{
+    let vertices = wide(n);
+    let elements = wide(m);
+    let rows = 4 * elements;
+    let entries = wide(columns) * elements;
+    build_fit(
+        n,
+        columns,
+        &list[0..rows],
+        &mut v2e[0..vertices],
+        &mut e2e[0..entries],
+        b2e,
+        work,
+    )
 }

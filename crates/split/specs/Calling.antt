@@ -7,14 +7,13 @@ use Prim.Native.Nat.{ℕ}
 use lib.Ieee.{Float}
 use lib.ListN.{length, replicate}
 use Rattle.lists.specs.Tests.{both}
-use Rattle.rules.specs.Elements.{origin, destination}
 use Rattle.rules.specs.Refusals.{Answer, gives, refused, after}
-use Rattle.rules.specs.Edits.{Edited, becomes, refuses, Lent, withWork, held, hasRoom, editSizes, editLengths, editAnswer, written, editLeaves}
-use Rattle.rules.specs.Split.{hasPoints, split, splitAnswer, splitLeaves, midpoint, withPoint, splitPoints}
+use Rattle.rules.specs.Edits.{Edited, becomes, refuses, Lent, withWork, hasRoom, editSizes, editLengths, editAnswer, written, editLeaves}
+use Rattle.rules.specs.Split.{hasPoints, split, splitAnswer, splitLeaves, splitPoints}
 use Rattle.theory.specs.Calls as calls
 use Rattle.edits.specs.Leaving.{rest, leavesBy, unsized, unlengthened}
 use Rattle.edits.specs.Holding.{holds}
-use Rattle.split.specs.Splits.{Outcome}
+use Rattle.split.specs.Stages.{placed, Outcome}
 
 -- check 2, by the points and by the other lengths
 module _ (w : Lent) where
@@ -33,16 +32,16 @@ module _ (w : Lent) (P : List Float) (s : ℕ) where
 
   -- by the answer
   points-by : {a : Answer} {P′ : List Float} → a ≡ splitAnswer w P s
-      → P′ ≡ after a (withPoint (w .n) (midpoint P (origin (held w) s) (destination (held w) s)) P) P → P′ ≡ splitPoints w P s
+      → P′ ≡ after a (placed w P s) P → P′ ≡ splitPoints w P s
   unfolding splitPoints
-  points-by e h = h ∙ ap (λ (y : Answer). after y (withPoint (w .n) (midpoint P (origin (held w) s) (destination (held w) s)) P) P) e
+  points-by e h = h ∙ ap (λ (y : Answer). after y (placed w P s) P) e
 
   -- a refusal
   stays : {a : Answer} {r i j : ℕ} → a ≡ refused r i j → (a ≡ splitAnswer w P s) × (w ≡ splitLeaves w P s) → Whole a w P
   unfolding after
   stays f (e, l) = (
     e,
-    (l, points-by e (sym (ap (λ (y : Answer). after y (withPoint (w .n) (midpoint P (origin (held w) s) (destination (held w) s)) P) P) f))),
+    (l, points-by e (sym (ap (λ (y : Answer). after y (placed w P s) P) f))),
   )
 
   pub refused-1 : {a : Answer} → editSizes w ≡ false → a ≡ refused 1 0 0 → Whole a w P
@@ -52,14 +51,16 @@ module _ (w : Lent) (P : List Float) (s : ℕ) where
   refused-2 e d f = stays f (unlengthened w (hasPoints (w .n) P) (split w P s) e d f)
 
   -- the work buffer, which was left out, is what it is in the end
-  worked : (x : Edited) (a : Answer) (work : List ℕ) → withWork (after a (written (withWork w []) x) (withWork w [])) work ≡ withWork (after a (written w x) w) work
+  worked : (x : Edited) (a : Answer) (work : List ℕ)
+      → withWork (after a (written (withWork w []) x) (withWork w [])) work ≡ withWork (after a (written w x) w) work
   unfolding after written
   worked (becomes n L) (gives i j) work = refl
   worked (refuses r) (gives i j) work = refl
   worked x (refused r i j) work = refl
 
   -- it was cleared
-  pub finished : {a : Answer} {w′ : Lent} {P′ : List Float} {work : List ℕ} {l : ℕ} → (editSizes w ≡ true) × (editLengths w (hasPoints (w .n) P) ≡ true)
+  pub finished : {a : Answer} {w′ : Lent} {P′ : List Float} {work : List ℕ} {l : ℕ}
+      → (editSizes w ≡ true) × (editLengths w (hasPoints (w .n) P) ≡ true)
       → Outcome w P s a w′ P′ × (l ≡ length (w .work)) → work ≡ replicate l 0 → Whole a (withWork w′ work) P′
   unfolding editAnswer editLeaves
   finished {a} {w′} {P′} {work} {l} fit (x, same) z =

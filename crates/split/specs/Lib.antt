@@ -1,6 +1,7 @@
-pub mod Fronts
 pub mod NewRows
-pub mod Splits
+pub mod Testing
+pub mod Stages
+pub mod Admitting
 pub mod Writing
 pub mod Outcomes
 pub mod Calling

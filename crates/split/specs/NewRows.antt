@@ -8,7 +8,7 @@ use Prim.Native.Nat.{ℕ, suc, _+_, _*_, _-_, _/_, _%_, _≤_, _<_}
 use native.Mathlib.Omega.{arith}
 use lib.Dec.{eqb}
 use lib.ListN.{length, take, drop, set}
-use lib.Seq.{set-append-left, take-set-lt, drop-set-add, drop-append-add, drop-drop}
+use lib.Seq.{set-append-left, take-set-lt, drop-set-add}
 use Rattle.lists.specs.TestLaws.{true-of, false-of, means-not, means-eq, zero-or}
 use Rattle.lists.specs.Search.{at}
 use Rattle.lists.specs.Parts.{length-part}
@@ -20,13 +20,13 @@ use Rattle.rules.specs.Split.{withCorner, halved, splitAt}
 use Rattle.theory.specs.Sides.{side-facts, slot-below}
 use Rattle.theory.specs.Steps.{next-side}
 use Rattle.theory.specs.FitRows.{Fit}
-use Rattle.theory.specs.Edits.{onto-front, onto-length}
+use Rattle.theory.specs.Edits.{onto-front, onto-length, past-onto}
 use Rattle.theory.specs.Halving.{Halvable, halved-length}
 use Rattle.theory.specs.Splitting.{Splittable, split-border, split-inner, first, second, split-size-border, split-size-inner}
 use Rattle.halfedge.specs.Rows.{rowOf}
 use Rattle.edits.specs.RowPut.{four-is}
 use Rattle.edits.specs.Trying.{entry-border, entry-partner}
-use Rattle.split.specs.Fronts.{held-length, held-elements, held-row, held-inside, held-side, held-next}
+use Rattle.edits.specs.HeldRows.{held-length, held-elements, held-row, held-inside, held-side, held-next}
 
 -- an entry stored past the first of two lists
 set-past : (xs ys : List ℕ) (i v : ℕ) → set (xs ++ ys) (length xs + i) v ≡ xs ++ set ys i v
@@ -38,13 +38,7 @@ set-past (x ∷ xs) ys i v =
 -- what is put over a front that is no longer covers it
 onto-twice : (xs ys buffer : List ℕ) → length xs ≤ length ys → onto ys (onto xs buffer) ≡ onto ys buffer
 unfolding onto
-onto-twice xs ys buffer h =
-    let e : length ys ≡ length xs + (length ys - length xs) = omega arith in
-    ap (λ (r : List ℕ). ys ++ r)
-    (ap (λ (k : ℕ). drop k (xs ++ drop (length xs) buffer)) e
-    ∙ drop-append-add xs (drop (length xs) buffer) (length ys - length xs)
-    ∙ drop-drop (length ys - length xs) (length xs) buffer
-    ∙ ap (λ (k : ℕ). drop k buffer) (sym e))
+onto-twice xs ys buffer h = ap (λ (r : List ℕ). ys ++ r) (past-onto xs buffer (length ys) h)
 
 -- the list has room for a row after the m that it holds, and s is a side of a triangle of these
 pub record ToHalve (m : ℕ) (list : List ℕ) (s : ℕ) : Type 0 where

@@ -3,22 +3,23 @@
 use mathlib.Core.Path.{_≡_, refl, ap, sym, _∙_}
 use mathlib.Core.Bool.{Bool, true, false}
 use mathlib.Core.List.{List, []}
-use Prim.Native.Nat.{ℕ, _+_, _*_, _≤_}
+use Prim.Native.Nat.{ℕ, _+_, _*_}
 use lib.Dec.{leb}
 use lib.Ieee.{Float}
 use lib.ListN.{length, take}
 use Rattle.lists.specs.Tests.{both}
-use Rattle.rules.specs.Elements.{elements, origin, destination}
+use Rattle.rules.specs.Elements.{elements}
 use Rattle.rules.specs.Tables.{columns}
 use Rattle.rules.specs.Refusals.{Answer, gives, refused, after}
-use Rattle.rules.specs.Edits.{Edited, becomes, refuses, Lent, withWork, onceAccepted, newAnswer, isThere, countsFit, held, hasRoom, written}
-use Rattle.rules.specs.Split.{splitAt, isSplittable, hasPoints, canHold, split, midpoint, withPoint}
+use Rattle.rules.specs.Edits.{becomes, refuses, Lent, withWork, onceAccepted, newAnswer, isThere, countsFit, held, hasRoom, written}
+use Rattle.rules.specs.Split.{isSplittable, hasPoints, canHold, split}
 use Rattle.theory.specs.Answers.{gives-refused, given-accepted}
+use Rattle.theory.specs.SplitTests.{vertex, new}
 use Rattle.build.specs.Building.{Scratched}
-use Rattle.edits.specs.Leaving.{Left, refused-left, old-refused, new-tried}
+use Rattle.edits.specs.Leaving.{rest, refused-left, old-refused, new-tried}
 use Rattle.edits.specs.Trying.{number, tabled}
-use Rattle.split.specs.Fronts.{Ready, checked-front}
-use Rattle.split.specs.Splits.{vertex, new, Admissible, Splits, Admitted, denied, allowed, Written, Outcome}
+use Rattle.edits.specs.Fronts.{Ready, checked-front}
+use Rattle.split.specs.Stages.{Admissible, ToWrite, Admitted, denied, allowed, placed, Written, Outcome}
 
 -- of the work buffer, the edit reads the length only
 module _ (w : Lent) (P : List Float) (s : ℕ) (W : List ℕ) (long : length W ≡ length (w .work)) where
@@ -53,16 +54,13 @@ module _ (w : Lent) (P : List Float) (s : ℕ) {c : ℕ} (x : Ready w c) {p : �
   abbrev w₀ : Lent
   w₀ = withWork w []
 
-  abbrev point : List Float
-  point = withPoint (w .n) (midpoint P (origin (held w) s) (destination (held w) s)) P
-
   scratch : Scratched (w .n) (held w) t (w .work) W
   scratch = rw rows at tried
 
   -- a refusal leaves the points, too
-  points-stay : {a : Answer} {r i j : ℕ} → a ≡ refused r i j → P ≡ after a point P
+  points-stay : {a : Answer} {r i j : ℕ} → a ≡ refused r i j → P ≡ after a (placed w P s) P
   unfolding after
-  points-stay e = sym (ap (λ (y : Answer). after y point P) e)
+  points-stay e = sym (ap (λ (y : Answer). after y (placed w P s) P) e)
 
   -- the old list is refused
   pub old-denied : {r i j : ℕ} → t ≡ refused r i j → Outcome w P s t w₀ P × (length W ≡ length (w .work))
@@ -93,35 +91,40 @@ module _ (w : Lent) (P : List Float) (s : ℕ) {c : ℕ} (x : Ready w c) {p : �
     same-edit : split w₁ P s ≡ split w P s
     same-edit = split-alike w P s W (scratch .long)
 
-    abbrev Ends : Answer → Lent → List Float → Type 0
-    Ends a w′ P′ = Outcome w P s a w′ P′
+    -- what is said then is said of the edit
+    by-edit : rest w (hasPoints (w .n) P) (split w P s) ≡ newAnswer (length (w .border)) (split w P s)
+    unfolding onceAccepted
+    by-edit = ap (λ (y : Answer). onceAccepted y (newAnswer (length (w .border)) (split w P s))) (sym (scratch .stated) ∙ counts)
 
     -- 11, 15, 19 or 9
-    pub new-denied : {a : Answer} {r i j : ℕ} → a ≡ refused r i j → Admitted w₁ P s a → Ends a w₀ P × (length W ≡ length (w .work))
-    unfolding onceAccepted
-    new-denied {a} f (denied d said) = (
+    pub new-denied : {a : Answer} {r i j : ℕ} → a ≡ refused r i j → Admitted w₁ P s a → Outcome w P s a w₀ P × (length W ≡ length (w .work))
+    new-denied f (denied d said) = (
       record {
-        left = refused-left f (said ∙ ap (newAnswer (length (w .border))) same-edit ∙ sym (ap (λ (y : Answer). onceAccepted y (newAnswer (length (w .border)) (split w P s))) (sym (scratch .stated) ∙ counts)));
+        left = refused-left f (said ∙ ap (newAnswer (length (w .border))) same-edit ∙ sym by-edit);
         points = points-stay f;
       },
       scratch .long,
     )
-    new-denied {a} f (allowed g y) = absurd (gives-refused (sym g ∙ f))
+    new-denied f (allowed g y) = absurd (gives-refused (sym g ∙ f))
 
     -- none of these
-    pub new-allowed : {a : Answer} {i j : ℕ} → a ≡ gives i j → Admitted w₁ P s a → Splits w₁ P s i j
+    pub new-allowed : {a : Answer} {i j : ℕ} → a ≡ gives i j → Admitted w₁ P s a → ToWrite w₁ P s i j
     new-allowed f (denied d said) = absurd (gives-refused (sym f ∙ d))
     new-allowed {i = i} {j = j} f (allowed {t = u} {m′ = m′} g y) =
         let h : gives i j ≡ gives u m′ = sym f ∙ g in
         let first : i ≡ u = cc in
         let second : j ≡ m′ = cc in rw (first, second) y
 
-    pub all-done : {i j : ℕ} → Splits w₁ P s i j → {a : Answer} {w′ : Lent} {P′ : List Float} → Written w₀ P s a w′ P′ → Ends a w′ P′
+    pub all-done : {i j : ℕ} → ToWrite w₁ P s i j → {a : Answer} {w′ : Lent} {P′ : List Float} → Written w₀ P s a w′ P′ → Outcome w P s a w′ P′
     unfolding after
-    all-done y {a} {w′} {P′} z =
+    all-done y z =
+        let new-list = becomes (vertex w s) (new w s) in
         record {
           left =
               new-tried (w .n) (held w) (split w P s) (length (w .border)) (scratch .stated) counts (sym same-edit ∙ y .edit)
-              (record { answer = z .stated; leaves = z .leaves ∙ sym (ap (λ (u : Answer). after u (written w₀ (becomes (vertex w s) (new w s))) w₀) (z .answer)) });
-          points = z .points ∙ sym (ap (λ (u : Answer). after u point P) (z .answer));
+              (record {
+                answer = z .stated;
+                leaves = z .leaves ∙ sym (ap (λ (u : Answer). after u (written w₀ new-list) w₀) (z .answer));
+              });
+          points = z .points ∙ sym (ap (λ (u : Answer). after u (placed w P s) P) (z .answer));
         }

@@ -2,16 +2,16 @@
 -- Assumes nothing.
 use mathlib.Core.Path.{_≡_, ap, sym, _∙_}
 use mathlib.Core.Logic.{_⊎_, inl, inr}
-use mathlib.Core.List.{List, [], _++_, append-nil}
+use mathlib.Core.List.{List, []}
 use Prim.Native.Nat.{ℕ, _+_, _*_, _-_, _≤_}
 use native.Mathlib.Omega.{arith}
 use lib.Ieee.{Float}
-use lib.ListN.{length, take, replicate}
+use lib.ListN.{length, take}
 use Rattle.lists.specs.TestLaws.{true-of}
-use Rattle.rules.specs.Elements.{maxElement, elements, Side, origin, next, destination}
-use Rattle.rules.specs.Tables.{borders, edges, b2e, columns, e2e, v2e}
-use Rattle.rules.specs.Refusals.{Answer, gives, listAnswer, roomCheck, after, onto}
-use Rattle.rules.specs.Edits.{becomes, Lent, withWork, overOld, held, written}
+use Rattle.rules.specs.Elements.{Side, origin, next, destination}
+use Rattle.rules.specs.Tables.{borders, edges, columns, e2e, v2e}
+use Rattle.rules.specs.Refusals.{Answer, gives, roomCheck, after, onto}
+use Rattle.rules.specs.Edits.{Lent, withWork, held, written}
 use Rattle.rules.specs.Split.{midpoint, withPoint}
 use Rattle.theory.specs.Steps.{next-side}
 use Rattle.theory.specs.FitRows.{Fit, means-fit}
@@ -21,23 +21,18 @@ use Rattle.theory.specs.Answers.{room-enough}
 use Rattle.theory.specs.Edits.{onto-front, onto-length}
 use Rattle.theory.specs.Splitting.{split-fours, same-columns}
 use Rattle.theory.specs.SplitAnswers.{split-answer}
+use Rattle.theory.specs.SplitTests.{vertex, new}
 use Rattle.edits.specs.Holding.{lentEdit, holds, means-holds}
-use Rattle.split.specs.Fronts.{held-elements, held-side, held-origin, held-destination, Ready, Fronted}
+use Rattle.edits.specs.HeldRows.{held-elements, held-side, held-origin, held-destination}
+use Rattle.edits.specs.Fronts.{Ready, Fronted, over-longer}
 use Rattle.split.specs.NewRows.{ToSplit, grown}
-use Rattle.split.specs.Splits.{vertex, new, Splits, Written}
-
--- a list that is at least as long as the old one leaves no 0 after it
-over-longer : (old : ℕ) (xs buffer : List ℕ) → old ≤ length xs → overOld old xs buffer ≡ onto xs buffer
-unfolding overOld
-over-longer old xs buffer h =
-    let z : old - length xs ≡ 0 = omega arith in
-    ap (λ (k : ℕ). onto (xs ++ replicate k 0) buffer) z ∙ ap (λ (ys : List ℕ). onto ys buffer) (append-nil xs)
+use Rattle.split.specs.Stages.{ToWrite, placed, Written}
 
 more-entries : (c : ℕ) {m m′ : ℕ} → (c ≡ 3) ⊎ (c ≡ 4) → m ≤ m′ → c * m ≤ c * m′
 more-entries c (inl e) h = rw e (omega arith)
 more-entries c (inr e) h = rw e (omega arith)
 
-module _ (w : Lent) (P : List Float) {s t m′ : ℕ} (x : Splits w P s t m′) where
+module _ (w : Lent) (P : List Float) {s t m′ : ℕ} (x : ToWrite w P s t m′) where
   abbrev L : List ℕ
   L = held w
 
@@ -70,7 +65,7 @@ module _ (w : Lent) (P : List Float) {s t m′ : ℕ} (x : Splits w P s t m′) 
         let c = next-side L s side in
         omega (arith, fit .from s side, fit .to s side, fit .from (next L s) c, fit .to (next L s) c, x .holds .points)
 
-    pub mid : {P′ : List Float} → P′ ≡ withPoint (w .n) (midpoint P a b) P → P′ ≡ withPoint (w .n) (midpoint P (origin L s) (destination L s)) P
+    pub mid : {P′ : List Float} → P′ ≡ withPoint (w .n) (midpoint P a b) P → P′ ≡ placed w P s
     mid h = let (e, f) = ends in h ∙ (λ i. withPoint (w .n) (midpoint P (e i) (f i)) P)
 
   pub to-split : ToSplit (w .m) (w .list) s t v
@@ -78,8 +73,8 @@ module _ (w : Lent) (P : List Float) {s t m′ : ℕ} (x : Splits w P s t m′) 
       record {
         cuttable = x .cuttable;
         inside = x .inside;
-        size = omega (arith, x .counted, x .holds .size);
-        long = omega (arith, x .counted, x .holds .list);
+        size = x .holds .size;
+        long = x .holds .list;
       }
 
   -- the list with the new rows
@@ -96,20 +91,21 @@ module _ (w : Lent) (P : List Float) {s t m′ : ℕ} (x : Splits w P s t m′) 
     pub ready-then : {c : ℕ} → c ≡ columns L → Ready (lentEdit v m′ list (w .vertices) (w .opposites) (w .border) (w .work)) c
     ready-then {c} e =
         let f : c ≡ columns (take (4 * m′) list) = e ∙ sym columned ∙ ap columns (sym front) in
-        let same : length list ≡ length (w .list) = ap length is ∙ onto-length L′ (w .list) (omega (arith, long, x .holds .list)) in
+        let same : length list ≡ length (w .list) = ap length is ∙ onto-length L′ (w .list) (omega (arith, long, x .counted, x .holds .list)) in
         let h = x .holds in
-        let rows : 4 * m′ ≤ length list = omega (arith, h .list) in
-        let opposites : columns (take (4 * m′) list) * m′ ≤ length (w .opposites) = rw (sym f ∙ e) (h .e2e) in
+        let rows : 4 * m′ ≤ length list = omega (arith, x .counted, h .list) in
+        let opposites : columns (take (4 * m′) list) * m′ ≤ length (w .opposites) = rw (sym f ∙ e, x .counted) (h .e2e) in
+        let room : v + 16 * m′ ≤ length (w .work) = omega (arith, x .counted, h .work) in
         let test = holds v m′ list (length (w .vertices)) (length (w .opposites)) (length (w .work)) in
         record {
-          sizes = (h .vertices, h .size);
+          sizes = (h .vertices, omega (arith, x .counted, h .size));
           long = record {
-            passed = true-of test (means-holds v m′ list _ _ _ .shows (rows, (h .v2e, (opposites, h .work))));
+            passed = true-of test (means-holds v m′ list _ _ _ .shows (rows, (h .v2e, (opposites, room))));
             columned = f;
             list = rows;
             vertices = h .v2e;
             opposites = rw f opposites;
-            room = h .work;
+            room = room;
           };
         }
 
@@ -120,7 +116,7 @@ module _ (w : Lent) (P : List Float) {s t m′ : ℕ} (x : Splits w P s t m′) 
 
       answered : a ≡ gives (borders L′) (edges L′)
       answered =
-          let accepted = split-answer (w .n) L (x .accepted) s (x .cuttable .splittable) (x .holds .vertices) (omega (arith, x .counted, x .holds .size)) in
+          let accepted = split-answer (w .n) L (x .accepted) s (x .cuttable .splittable) (x .holds .vertices) (x .holds .size) in
           tables .answer
           ∙ ap (roomCheck (length (w .border))) accepted
           ∙ room-enough (length (w .border)) (borders L′) (edges L′) (x .room)
@@ -129,7 +125,7 @@ module _ (w : Lent) (P : List Float) {s t m′ : ℕ} (x : Splits w P s t m′) 
       unfolding after
       put-new new old h = h ∙ ap (λ (y : Answer). after y new old) answered
 
-      pub all-written : {P′ : List Float} → P′ ≡ withPoint (w .n) (midpoint P (origin L s) (destination L s)) P
+      pub all-written : {P′ : List Float} → P′ ≡ placed w P s
           → Written (withWork w []) P s a (lentEdit v m′ list V2e E2e B2e []) P′
       unfolding written
       all-written p =

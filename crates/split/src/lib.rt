@@ -8,18 +8,18 @@ ghost use Rattle.rules.specs.Tables.{columns as columnsIn};
 ghost use Rattle.rules.specs.Refusals.{onto};
 ghost use Rattle.rules.specs.Split.{halved, splitAt, isSplittable, splitAnswer, splitLeaves, splitPoints};
 ghost use Rattle.answer.specs.Numbers.{numbers};
-ghost use Rattle.build.specs.Building.{Scratched};
 ghost use Rattle.edits.specs.Holding.{lentEdit, lentSized};
 ghost use Rattle.edits.specs.Trying.{Tabled};
-ghost use Rattle.split.specs.Fronts.{Ready, ToTry, Fronted};
+ghost use Rattle.edits.specs.Fronts.{Ready};
 ghost use Rattle.split.specs.NewRows.{ToHalve, ToSplit, byBorder};
-ghost use Rattle.split.specs.Splits.{holdsBy, Admissible, Admitted, Splits, Written, Outcome};
+ghost use Rattle.split.specs.Testing.{holdsBy};
+ghost use Rattle.split.specs.Stages.{Admissible, ToWrite, Admitted, Written, Outcome};
 use answer::Answer;
 use answer::give_two;
 use answer::refuse;
 use answer::refuse_at;
 use buffers::clear;
-use build::build_fit;
+use edits::build_front;
 use edits::columns_held;
 use edits::counts_fit;
 use edits::entry_of;
@@ -27,6 +27,7 @@ use edits::has_room;
 use edits::is_there;
 use edits::is_triangle;
 use edits::put_row;
+use edits::try_old;
 use halfedge::element_of;
 use halfedge::is_border;
 use halfedge::number_of;
@@ -39,7 +40,6 @@ use sides::is_side;
 use sides::next_code;
 use sides::origin_of;
 use sides::row_at;
-use tabulate::tabulate;
 
 // The triangle of side s, in a list that holds m rows, halved: v takes the place of its destination, and the old row, with v for its origin,
 // comes after the others.
@@ -120,15 +120,6 @@ fn can_hold(
     has_room(n, m, columns, list, v2e, e2e, work)
 }
 
-// The list as it is, tried in the front of the work buffer, where its tables are left.
-fn try_old(n: u32, list: &[u32], work: &mut [u32]) -> Answer
-    requires { ⌜ ToTry n (now list) (now work) ⌝ }
-    ensures { λ r. ⌜ Scratched n (now (list .entry)) (numbers r) (now (work .entry)) (now (work .exit)) ⌝ }
-{
-    let end = wide(n) + 12 * (list.len() / 4);
-    tabulate(n, list, &mut work[0..end])
-}
-
 // What follows the trial of the old list, with k border half-edges, and comes before anything is written: 11, 15, 19 and, by the new k, 9. If
 // none is found, the entry of the side in E2e and the new m.
 fn admit(
@@ -177,36 +168,6 @@ fn admit(
     give_two(t, elements)
 }
 
-// The tables of the first m rows of the list, in buffers that may be longer than these.
-fn build_front(
-    n: u32,
-    m: u32,
-    columns: u32,
-    list: &[u32],
-    v2e: &mut [u32],
-    e2e: &mut [u32],
-    b2e: &mut [u32],
-    work: &mut [u32],
-) -> Answer
-    requires { ⌜ Ready (lentEdit n m (now list) (now v2e) (now e2e) (now b2e) (now work)) columns ⌝ }
-    ensures { λ r. ⌜ Fronted n (take (4 * m) (now (list .entry))) (numbers r) (now (v2e .entry)) (now (e2e .entry)) (now (b2e .entry)) (now (v2e .exit)) (now (e2e .exit)) (now (b2e .exit)) ⌝ }
-    ensures { λ r. ⌜ length (now (work .exit)) ≡ length (now (work .entry)) ⌝ }
-{
-    let vertices = wide(n);
-    let elements = wide(m);
-    let rows = 4 * elements;
-    let entries = wide(columns) * elements;
-    build_fit(
-        n,
-        columns,
-        &list[0..rows],
-        &mut v2e[0..vertices],
-        &mut e2e[0..entries],
-        b2e,
-        work,
-    )
-}
-
 // The new list, its tables, the midpoint and the new n and m are written; t is the entry of s in E2e, and `elements` the new m.
 fn write(
     size: &mut [u32; 2],
@@ -221,7 +182,7 @@ fn write(
     s: u32,
     t: u32,
 ) -> Answer
-    requires { ⌜ Splits (lentSized (now size) (now list) (now v2e) (now e2e) (now b2e) (now work)) (now points) s t elements ⌝ }
+    requires { ⌜ ToWrite (lentSized (now size) (now list) (now v2e) (now e2e) (now b2e) (now work)) (now points) s t elements ⌝ }
     requires { ⌜ columns ≡ columnsIn (take (4 * getD (now size) 1 0) (now list)) ⌝ }
     ensures { λ r. ⌜ Written (lentSized (now (size .entry)) (now (list .entry)) (now (v2e .entry)) (now (e2e .entry)) (now (b2e .entry)) []) (now (points .entry)) s (numbers r) (lentSized (now (size .exit)) (now (list .exit)) (now (v2e .exit)) (now (e2e .exit)) (now (b2e .exit)) []) (now (points .exit)) ⌝ }
     ensures { λ r. ⌜ length (now (work .exit)) ≡ length (now (work .entry)) ⌝ }

@@ -26,6 +26,7 @@ use edits::entry_of;
 use edits::is_there;
 use edits::is_triangle;
 use edits::put_row;
+use edits::try_old;
 use halfedge::corner;
 use halfedge::element_of;
 use halfedge::is_border;
@@ -34,7 +35,6 @@ use halfedge::previous_side;
 use halfedge::wide;
 use sides::is_side;
 use sides::row_at;
-use tabulate::tabulate;
 
 // The corner of a triangle before the origin of its side i.
 fn third(row: [u32; 4], i: u32) -> u32
@@ -135,8 +135,7 @@ fn swap_fit(
     ensures { λ r. ⌜ length (now (work .exit)) ≡ length (now (work .entry)) ⌝ }
 {
     let vertices = wide(n);
-    let end = vertices + 12 * (list.len() / 4);
-    let t = tabulate(n, list, &mut work[0..end]);
+    let t = try_old(n, list, work);
     let Answer::Gives { first, second: _ } = t else {
         return t;
     };

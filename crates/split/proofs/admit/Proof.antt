@@ -1,7 +1,7 @@
 -- `split::admit` meets its contract: each way out goes by the tests before it.
 -- Assumes nothing.
 use mathlib.Core.Path.{_≡_, ap, sym, _∙_}
-use mathlib.Core.Bool.{Bool, true, false}
+use mathlib.Core.Bool.{Bool, true}
 use mathlib.Core.List.{List}
 use Prim.Native.Nat.{ℕ, _+_, _*_, _-_, _≤_}
 use native.Mathlib.Omega.{arith}
@@ -11,16 +11,18 @@ use borrow.Author.Tests.{not-true, not-false}
 use Rattle.lists.specs.Search.{at}
 use Rattle.rules.specs.Elements.{maxElement, elements, slot}
 use Rattle.rules.specs.Tables.{borders, wide}
-use Rattle.rules.specs.Edits.{Lent, isThere, held, becomes}
-use Rattle.rules.specs.Split.{isSplittable, canHold, split}
+use Rattle.rules.specs.Edits.{Lent, isThere, held}
+use Rattle.rules.specs.Split.{isSplittable, canHold}
 use Rattle.theory.specs.Columns.{three-or-four}
 use Rattle.theory.specs.Built.{borders-bound}
 use Rattle.theory.specs.Splitting.{means-splittable}
+use Rattle.theory.specs.SplitTests.{vertex, new}
 use Rattle.edits.specs.Holding.{lentEdit}
 use Rattle.edits.specs.Trying.{Tabled}
-use Rattle.split.specs.Fronts.{held-length, held-elements}
+use Rattle.edits.specs.HeldRows.{held-length, held-elements}
 use Rattle.split.specs.NewRows.{byBorder, elements-then}
-use Rattle.split.specs.Splits.{vertex, new, Holds, gone, unfit, full, edited, tests, holding, cuttable, crowded, admitted}
+use Rattle.split.specs.Testing.{can-hold-by}
+use Rattle.split.specs.Admitting.{gone, unfit, full, cuttable, crowded, admitted}
 use borrow.Author.Needs.{needs}
 use Rattle.split.proofs.admit.Statement.{statement}
 use Rattle.split.proofs.admit.Tie as tie
@@ -88,31 +90,22 @@ counted : (c : tie.After-by-border) → let s = sided (c .before) in c .by-borde
 counted c =
     let s = sided (c .before) in
     let w = lends s in
-    let code = s .args .code in
+    let two = c .before .before in
     let m = held-elements (s .args .m) (s .args .list .now) (s .pre .inside) in
     c .by-border .ensures
     ∙ (λ i. byBorder (c .before .entry-of .result) (sym m i + 1) (sym m i + 2))
-    ∙ sym (elements-then (cuttable w (points s) code (s .pre) (fit (c .before .before)) (entry (c .before))) (vertex w code))
+    ∙ sym (elements-then (cuttable w (points s) (s .args .code) (there (passed two)) (fit two) (s .pre) (entry (c .before))) (w .n + 1))
 
--- 19 finds nothing
-abbrev chosen : tie.Else3 → tie.After-by-border
-chosen c = c .before .before
+-- by 19
+abbrev chosen : tie.After-can-hold → tie.Start
+chosen c = sided (c .before .before)
 
-abbrev begun : tie.Else3 → tie.Start
-begun c = sided (chosen c .before)
-
-holds : (c : tie.Else3) → let s = begun c in Holds (lends s) (points s) (vertex (lends s) (s .args .code)) (chosen c .by-border .result)
-holds c =
-    let s = begun c in
-    holding (lends s) (points s) (s .args .code) (s .pre .columned) (counted (chosen c)) (sym (c .before .can-hold .ensures) ∙ not-false _ (c .if3 .left))
-
-edit : (c : tie.Else3) → let s = begun c in
-    let w = lends s in split w (points s) (s .args .code) ≡ becomes (vertex w (s .args .code)) (new w (s .args .code))
-edit c =
-    let s = begun c in
-    let two = chosen c .before .before in
-    edited (lends s) (points s) (s .args .code) (there (passed two)) (fit two)
-    (sym (tests (lends s) (points s) (s .args .code) (s .pre .columned) (counted (chosen c))) ∙ sym (c .before .can-hold .ensures) ∙ not-false _ (c .if3 .left))
+told : (c : tie.After-can-hold) {b : Bool} → let s = chosen c in
+    let w = lends s in c .can-hold .result ≡ b → canHold w (points s) (vertex w (s .args .code)) (new w (s .args .code)) ≡ b
+told c e =
+    let s = chosen c in
+    let w = lends s in
+    sym (can-hold-by w (points s) (w .n + 1) (new w (s .args .code)) (s .pre .columned) (counted (c .before))) ∙ sym (c .can-hold .ensures) ∙ e
 
 wide-requires : tie.Need-wide-requires
 wide-requires c κs = search needs
@@ -183,16 +176,13 @@ refuse-requires-3 c κs = search needs
 returns-3 : tie.Need-returns-3
 returns-3 c =
     let asked = c .before .before in
-    let one = asked .before in
-    let s = sided (one .before) in
-    let two = one .before .before in
-    full (lends s) (points s) (s .args .code) (there (passed two)) (fit two)
-    (sym (tests (lends s) (points s) (s .args .code) (s .pre .columned) (counted one)) ∙ sym (asked .can-hold .ensures) ∙ not-true _ (c .before .if3 .taken))
-    (c .refuse3 .ensures)
+    let s = chosen asked in
+    let two = asked .before .before .before in
+    full (lends s) (points s) (s .args .code) (there (passed two)) (fit two) (told asked (not-true _ (c .before .if3 .taken))) (c .refuse3 .ensures)
 
 add-by-border-3 : tie.Need-add-by-border-3
 add-by-border-3 c =
-    let s = begun c in
+    let s = chosen (c .before) in
     let L = held (lends s) in
     let few : s .args .k ≤ 4 * maxElement =
     omega (arith, s .pre .number, borders-bound L, held-length (s .args .m) (s .args .list .now) (s .pre .inside), s .pre .tabled .size) in
@@ -211,10 +201,11 @@ returns-4 : tie.Need-returns-4
 returns-4 c =
     let short = c .before in
     let k = short .before .before in
-    let three = k .before in
-    let s = begun three in
-    let one = chosen three in
-    crowded (lends s) (points s) (s .args .code) (s .pre) (fit (one .before .before)) (entry (one .before)) (counted one) (holds three) (edit three)
+    let asked = k .before .before in
+    let s = chosen asked in
+    let read = asked .before .before in
+    let two = read .before in
+    crowded (lends s) (points s) (s .args .code) (there (passed two)) (fit two) (s .pre) (entry read) (told asked (not-false _ (k .before .if3 .left)))
     (k .by-border2 .ensures) (omega (arith, short .if4 .taken, short .before .wide3 .ensures)) (c .refuse-at .ensures)
 
 give-two-requires : tie.Need-give-two-requires
@@ -224,11 +215,12 @@ returns-5 : tie.Need-returns-5
 returns-5 c =
     let long = c .before in
     let k = long .before .before in
-    let three = k .before in
-    let s = begun three in
-    let one = chosen three in
-    admitted (lends s) (points s) (s .args .code) (s .pre) (fit (one .before .before)) (entry (one .before)) (counted one) (holds three) (edit three)
-    (k .by-border2 .ensures) (omega (arith, long .if4 .left, long .before .wide3 .ensures)) (c .give-two .ensures)
+    let asked = k .before .before in
+    let s = chosen asked in
+    let read = asked .before .before in
+    let two = read .before in
+    admitted (lends s) (points s) (s .args .code) (there (passed two)) (fit two) (s .pre) (entry read) (told asked (not-false _ (k .before .if3 .left)))
+    (k .by-border2 .ensures) (counted (asked .before)) (omega (arith, long .if4 .left, long .before .wide3 .ensures)) (c .give-two .ensures)
 
 pub admit-spec : {M : Type 1} → statement M
 admit-spec =

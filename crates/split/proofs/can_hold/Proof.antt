@@ -9,8 +9,8 @@ use borrow.Author.Tests.{le-leb, lt-leb, not-true, not-false}
 use Rattle.lists.specs.Tests.{both}
 use Rattle.rules.specs.Elements.{maxVertex, maxElement}
 use Rattle.rules.specs.Edits.{countsFit}
-use Rattle.edits.specs.Holding.{roomFor}
-use Rattle.split.specs.Splits.{holdsBy, held-by, counts-say}
+use Rattle.edits.specs.Holding.{counts-say, roomFor}
+use Rattle.split.specs.Testing.{holdsBy, held-by}
 use borrow.Author.Needs.{needs}
 use Rattle.split.proofs.can_hold.Statement.{statement}
 use Rattle.split.proofs.can_hold.Tie as tie

@@ -11,7 +11,7 @@ use Rattle.rules.specs.Tables.{partner}
 use Rattle.theory.specs.Pairings.{partner-opposed}
 use Rattle.halfedge.specs.Codes.{of-border, of-side}
 use Rattle.edits.specs.Trying.{entry-border, entry-partner, row-inside}
-use Rattle.split.specs.Splits.{not-side, not-triangle, nothing-across, by-across}
+use Rattle.split.specs.Testing.{not-side, not-triangle, nothing-across, by-across}
 use borrow.Author.Needs.{needs}
 use Rattle.split.proofs.is_splittable.Statement.{statement}
 use Rattle.split.proofs.is_splittable.Tie as tie
@@ -24,7 +24,8 @@ side : (c : tie.Else1) → let a = start c .args in Side (a .list .now) (a .s)
 side c = rw (sym (c .before .is-side .ensures) ∙ not-false _ (c .if1 .left)) tt
 
 -- by what was said of its element
-own : (c : tie.After-is-triangle) {b : Bool} → let a = start (c .before .before) .args in c .is-triangle .result ≡ b → eqb (sides (a .list .now) (a .s / 8)) 3 ≡ b
+own : (c : tie.After-is-triangle) {b : Bool} → let a = start (c .before .before) .args in
+    c .is-triangle .result ≡ b → eqb (sides (a .list .now) (a .s / 8)) 3 ≡ b
 own c e =
     let list = start (c .before .before) .args .list .now in
     sym (ap (λ (f : ℕ). eqb (sides list f) 3) (c .before .element-of .ensures)) ∙ sym (c .is-triangle .ensures) ∙ e
@@ -43,7 +44,8 @@ read c = c .before .before
 abbrev begun : tie.Else3 → tie.Start
 begun c = start (sided (read c .before))
 
-known : (c : tie.Else3) → let a = begun c .args in (read c .entry-of .result ≡ partner (a .list .now) (a .s)) × (partner (a .list .now) (a .s) ≡ 0 → ⊥)
+known : (c : tie.Else3) → let a = begun c .args in
+    (read c .entry-of .result ≡ partner (a .list .now) (a .s)) × (partner (a .list .now) (a .s) ≡ 0 → ⊥)
 known c =
     let a = begun c .args in
     entry-partner (a .list .now) (a .s) (side (sided (read c .before))) (read c .entry-of .ensures) (of-side _ (c .before .is-border .ensures) (c .if3 .left))
@@ -92,8 +94,9 @@ element-of-requires-2 c κs = search needs
 is-triangle-requires-2 : tie.Need-is-triangle-requires-2
 is-triangle-requires-2 c κs =
     let a = begun (c .before) .args in
+    let L = a .list .now in
     let (e, d) = known (c .before) in
-    omega (arith, row-inside (a .list .now) (partner (a .list .now) (a .s)) (partner-opposed (a .list .now) (a .s) d .0), c .element-of2 .ensures, ap (λ (t : ℕ). t / 8) e)
+    omega (arith, row-inside L (partner L (a .s)) (partner-opposed L (a .s) d .0), c .element-of2 .ensures, ap (λ (t : ℕ). t / 8) e)
 
 returns-4 : tie.Need-returns-4
 returns-4 c =

@@ -11,9 +11,8 @@ use borrow.Author.Tests.{le-leb, lt-leb, not-true, not-false}
 use Rattle.rules.specs.Elements.{maxVertex, maxElement}
 use Rattle.rules.specs.Edits.{Lent, editSizes, editLengths}
 use Rattle.rules.specs.Split.{hasPoints}
-use Rattle.edits.specs.Holding.{lentSized, found-short, found-long}
-use Rattle.split.specs.Fronts.{Ready}
-use Rattle.split.specs.Splits.{counts-say}
+use Rattle.edits.specs.Holding.{lentSized, counts-say, found-short, found-long}
+use Rattle.edits.specs.Fronts.{Ready}
 use Rattle.split.specs.Calling.{without-points, with-points, refused-1, refused-2, finished}
 use borrow.Author.Needs.{needs}
 use Rattle.split.proofs.split.Statement.{statement}

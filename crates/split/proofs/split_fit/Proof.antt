@@ -10,8 +10,8 @@ use Rattle.rules.specs.Refusals.{gives}
 use Rattle.rules.specs.Edits.{Lent, withWork}
 use Rattle.answer.specs.Numbers.{numbers}
 use Rattle.edits.specs.Holding.{lentSized}
-use Rattle.split.specs.Fronts.{to-try}
-use Rattle.split.specs.Splits.{Splits}
+use Rattle.edits.specs.Fronts.{to-try}
+use Rattle.split.specs.Stages.{ToWrite}
 use Rattle.split.specs.Outcomes.{old-denied, admissible, new-denied, new-allowed, all-done}
 use borrow.Author.Needs.{needs}
 use Rattle.split.proofs.split_fit.Statement.{statement}
@@ -56,7 +56,7 @@ abbrev admitted : tie.After-known-told2 → tie.After-admit
 admitted c = c .before .before .before
 
 may : (c : tie.After-known-told2) → let k = accepted (admitted c) in let s = opened k in
-    Splits (withWork (lends s) (old k .try-old .last .1 .1 .0)) (points s) (s .args .code) (c .before .a .given .0 .0) (c .before .a .given .0 .1 .0)
+    ToWrite (withWork (lends s) (old k .try-old .last .1 .1 .0)) (points s) (s .args .code) (c .before .a .given .0 .0) (c .before .a .given .0 .1 .0)
 may c =
     let asked = admitted c in
     let k = accepted asked in

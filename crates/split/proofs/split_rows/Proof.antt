@@ -1,6 +1,5 @@
 -- `split::split_rows` meets its contract.
 -- Assumes nothing.
-use native.Mathlib.Omega.{arith}
 use Rattle.halfedge.specs.Codes.{of-border, of-side}
 use Rattle.split.specs.NewRows.{first-half, split-at-border, second-half, split-at-inner}
 use borrow.Author.Needs.{needs}

@@ -6,12 +6,11 @@ use Prim.Native.Nat.{_*_, _-_, _≤_}
 use native.Mathlib.Omega.{arith}
 use lib.ListN.{length, take}
 use borrow.Author.Tests.{not-true, not-false}
-use Rattle.lists.specs.TestLaws.{means-both, means-le}
 use Rattle.rules.specs.Elements.{maxVertex, maxElement}
-use Rattle.rules.specs.Edits.{Edited, Lent, countsFit, hasRoom, editSizes, editLengths}
+use Rattle.rules.specs.Edits.{Edited, Lent, hasRoom, editSizes, editLengths}
 use Rattle.rules.specs.Swap.{swap}
 use Rattle.theory.specs.Columns.{three-or-four, few-entries}
-use Rattle.edits.specs.Holding.{lentEdit, holds, Held, found-short, found-long}
+use Rattle.edits.specs.Holding.{lentEdit, counts-say, holds, Held, found-short, found-long}
 use Rattle.edits.specs.Leaving.{unsized, unlengthened}
 use Rattle.swap.specs.Calling.{checked-at, whole}
 use borrow.Author.Needs.{needs}
@@ -36,8 +35,8 @@ sized : (c : tie.Else1) → editSizes (lent (begun (c .before))) ≡ true
 sized c = sizes (c .before) ∙ not-false _ (c .if1 .left)
 
 within : (c : tie.Else1) → let a = begun (c .before) .args in (a .n ≤ maxVertex) × (a .m ≤ maxElement)
-unfolding countsFit editSizes
-within c = let a = begun (c .before) .args in means-both (means-le (a .n) maxVertex) (means-le (a .m) maxElement) .says (rw (sized c) tt)
+unfolding editSizes
+within c = let a = begun (c .before) .args in counts-say (a .n) (a .m) (sized c)
 
 -- check 2
 abbrev past : tie.After-columns-held → tie.Else1

@@ -1,17 +1,16 @@
--- `split::build_front` meets its contract.
+-- `edits::build_front` meets its contract.
 -- Assumes nothing.
-use mathlib.Core.Path.{_≡_, _∙_}
+use mathlib.Core.Path.{_≡_}
 use Prim.Native.Nat.{_*_, _-_, _≤_}
 use native.Mathlib.Omega.{arith}
 use lib.ListN.{length}
-use Rattle.rules.specs.Elements.{maxElement}
 use Rattle.rules.specs.Edits.{Lent}
 use Rattle.theory.specs.Columns.{three-or-four, few-entries}
 use Rattle.edits.specs.Holding.{lentEdit}
-use Rattle.split.specs.Fronts.{checked-at, fronted}
+use Rattle.edits.specs.Fronts.{checked-at, fronted}
 use borrow.Author.Needs.{needs}
-use Rattle.split.proofs.build_front.Statement.{statement}
-use Rattle.split.proofs.build_front.Tie as tie
+use Rattle.edits.proofs.build_front.Statement.{statement}
+use Rattle.edits.proofs.build_front.Tie as tie
 
 abbrev start : tie.After-wide3 → tie.Start
 start c = c .before .before .before .before .before .before .before .before

@@ -1,9 +1,9 @@
--- `split::try_old` meets its contract.
+-- `edits::try_old` meets its contract.
 -- Assumes nothing.
 use Rattle.build.specs.Building.{front-fits, sized, scratched}
 use borrow.Author.Needs.{needs}
-use Rattle.split.proofs.try_old.Statement.{statement}
-use Rattle.split.proofs.try_old.Tie as tie
+use Rattle.edits.proofs.try_old.Statement.{statement}
+use Rattle.edits.proofs.try_old.Tie as tie
 
 abbrev start : tie.After-wide → tie.Start
 start c = c .before .before .before

@@ -1,62 +1,21 @@
--- The list that is held stands at the front of the one that is lent: what is read of a side in the one is read in the other.
+-- What is held stands at the fronts of the buffers that are lent: checked there, and written there.
 -- Assumes nothing.
 use mathlib.Core.Path.{_≡_, ap, sym, _∙_}
-use mathlib.Core.List.{List, _++_}
-use Prim.Native.Nat.{ℕ, _+_, _*_, _-_, _/_, _%_, _≤_}
+use mathlib.Core.List.{List, _++_, append-nil}
+use Prim.Native.Nat.{ℕ, _+_, _*_, _-_, _≤_}
 use native.Mathlib.Omega.{arith}
-use lib.ListN.{length, take, drop, take-append-drop}
-use lib.Seq.{length-take-le, getD-take}
-use Rattle.lists.specs.Parts.{part-take}
-use Rattle.rules.specs.Elements.{maxVertex, maxElement, elements, row, sidesBy, sides, Side, slot, origin, nextNumber, next, destination}
+use lib.ListN.{length, take, drop, replicate, take-append-drop}
+use lib.Seq.{length-take-le}
+use Rattle.rules.specs.Elements.{maxVertex, maxElement, elements}
 use Rattle.rules.specs.Tables.{b2e, columns, e2e, v2e}
 use Rattle.rules.specs.Refusals.{Answer, gives, refused, listAnswer, roomCheck, after, onto}
-use Rattle.rules.specs.Edits.{Lent}
-use Rattle.theory.specs.Sides.{side-facts, side-of, slot-below}
-use Rattle.theory.specs.Steps.{next-side}
+use Rattle.rules.specs.Edits.{Lent, overOld}
 use Rattle.theory.specs.FitRows.{means-sizes}
 use Rattle.theory.specs.Entries.{length-v2e}
 use Rattle.theory.specs.Columns.{length-e2e}
 use Rattle.build.specs.Building.{Built, Checked}
 use Rattle.edits.specs.Holding.{Held}
-
-module _ (m : ℕ) (list : List ℕ) (inside : 4 * m ≤ length list) where
-  abbrev L : List ℕ
-  L = take (4 * m) list
-
-  pub held-length : length L ≡ 4 * m
-  held-length = length-take-le (4 * m) list inside
-
-  pub held-elements : elements L ≡ m
-  held-elements = omega (arith, held-length)
-
-  pub held-row : (f : ℕ) → 1 ≤ f → f ≤ m → row L f ≡ row list f
-  held-row f a b = part-take (4 * (f - 1)) 4 (4 * m) list (omega arith) inside
-
-  held-sides : (f : ℕ) → 1 ≤ f → f ≤ m → sides L f ≡ sides list f
-  held-sides f a b = ap sidesBy (getD-take (4 * m) list (4 * (f - 1) + 3) 0 (omega arith))
-
-  module _ (s : ℕ) (a : Side L s) where
-    pub held-inside : (1 ≤ s / 8) × (s / 8 ≤ m)
-    held-inside = let i = side-facts L s a in (i .element-from, omega (arith, i .element-to, held-elements))
-
-    same-sides : sides L (s / 8) ≡ sides list (s / 8)
-    same-sides = held-sides (s / 8) (held-inside .0) (held-inside .1)
-
-    pub held-side : Side list s
-    held-side =
-        let i = side-facts L s a in
-        side-of list s (i .element-from) (omega (arith, held-inside)) (i .number-from) (omega (arith, i .number-to, same-sides))
-
-    pub held-origin : origin L s ≡ origin list s
-    unfolding origin
-    held-origin = getD-take (4 * m) list (slot s) 0 (omega (arith, slot-below L s a, held-length))
-
-    pub held-next : next L s ≡ next list s
-    unfolding next
-    held-next = ap (λ (k : ℕ). 8 * (s / 8) + nextNumber k (s % 8)) same-sides
-
-  pub held-destination : (s : ℕ) → Side L s → destination L s ≡ destination list s
-  held-destination s a = held-origin (next L s) (next-side L s a) ∙ ap (origin list) (held-next s a)
+use Rattle.edits.specs.HeldRows.{held-length, held-elements}
 
 -- checks 1 and 2 found nothing; the list that is held has c columns
 pub record Ready (w : Lent) (c : ℕ) : Type 0 where
@@ -117,8 +76,10 @@ after-front (refused r i j) k X buffer e f = ap (λ (Y : List ℕ). Y ++ drop k 
 
 -- the tables were built in the fronts, which end at q and r, of the rows to p
 module _ (w : Lent) {c : ℕ} (x : Ready w c) {p q r : ℕ} (rows : p ≡ 4 * w .m) (vertices : q ≡ w .n) (opposites : r ≡ c * w .m) where
-  pub fronted : {a : Answer} {V2e E2e B2e : List ℕ} → Built (w .n) (take p (w .list)) a (take q (w .vertices)) (take r (w .opposites)) (w .border) V2e E2e B2e
-      → Fronted (w .n) (take (4 * w .m) (w .list)) a (w .vertices) (w .opposites) (w .border) (V2e ++ drop q (w .vertices)) (E2e ++ drop r (w .opposites)) B2e
+  pub fronted : {a : Answer} {V2e E2e B2e : List ℕ}
+      → Built (w .n) (take p (w .list)) a (take q (w .vertices)) (take r (w .opposites)) (w .border) V2e E2e B2e
+      → Fronted (w .n) (take (4 * w .m) (w .list)) a (w .vertices) (w .opposites) (w .border) (V2e ++ drop q (w .vertices))
+      (E2e ++ drop r (w .opposites)) B2e
   fronted {a} {V2e} {E2e} {B2e} b =
       let L = take (4 * w .m) (w .list) in
       let y : Built (w .n) L a (take q (w .vertices)) (take r (w .opposites)) (w .border) V2e E2e B2e = rw rows at b in
@@ -130,3 +91,10 @@ module _ (w : Lent) {c : ℕ} (x : Ready w c) {p q r : ℕ} (rows : p ≡ 4 * w 
             after-front a r (e2e L) (w .opposites) (length-e2e L ∙ (λ i. sym (x .long .columned) i * size i) ∙ sym opposites) (y .opposites);
         border = y .border;
       }
+
+-- what is at least as long as what was there leaves no 0 after it
+pub over-longer : (old : ℕ) (xs buffer : List ℕ) → old ≤ length xs → overOld old xs buffer ≡ onto xs buffer
+unfolding overOld
+over-longer old xs buffer h =
+    let z : old - length xs ≡ 0 = omega arith in
+    ap (λ (k : ℕ). onto (xs ++ replicate k 0) buffer) z ∙ ap (λ (ys : List ℕ). onto ys buffer) (append-nil xs)
