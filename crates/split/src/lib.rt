@@ -190,7 +190,9 @@ fn write(
     let n = size[0];
     let m = size[1];
     let v = n + 1;
-    place_midpoint(points, n, origin_of(list, s), destination_of(list, s));
+    let a = origin_of(list, s);
+    let b = destination_of(list, s);
+    place_midpoint(points, n, a, b);
     split_rows(m, list, s, t, v);
     *size = [v, elements];
     build_front(v, elements, columns, list, v2e, e2e, b2e, work)

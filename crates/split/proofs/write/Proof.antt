@@ -9,8 +9,8 @@ use borrow.Author.Needs.{needs}
 use Rattle.split.proofs.write.Statement.{statement}
 use Rattle.split.proofs.write.Tie as tie
 
-abbrev start : tie.After-origin-of-arg → tie.Start
-start c = c .before .before .before .before .before .before .before .before .before .before
+abbrev start : tie.After-m → tie.Start
+start c = c .before .before .before .before .before .before .before .before
 
 -- what is lent
 abbrev lends : tie.Start → Lent
@@ -20,17 +20,20 @@ abbrev points : tie.Start → List Float
 points c = c .args .points .now
 
 -- the ends are read, the midpoint placed, and the rows written
-abbrev read : tie.After-destination-of → tie.Start
-read c = start (c .before .before .before)
+abbrev ends : tie.After-destination-of → tie.Start
+ends c = start (c .before .before .before .before)
 
-abbrev placed : tie.After-split-rows-arg → tie.After-place-midpoint
-placed c = c .before .before .before
+abbrev at-midpoint : tie.After-split-rows-arg → tie.After-place-midpoint
+at-midpoint c = c .before .before .before
+
+abbrev read : tie.After-split-rows-arg → tie.After-destination-of
+read c = at-midpoint c .before .before
 
 abbrev rows : tie.After-slice-known8 → tie.After-split-rows
 rows c = c .before .before
 
 abbrev begun : tie.After-slice-known8 → tie.Start
-begun c = read (placed (rows c .before) .before)
+begun c = ends (read (rows c .before))
 
 element-copy-out-n : tie.Need-element-copy-out-n
 element-copy-out-n c = search needs
@@ -39,20 +42,21 @@ element-copy-out-m : tie.Need-element-copy-out-m
 element-copy-out-m c = search needs
 
 add-v : tie.Need-add-v
-add-v c = let h = c .before .before .before .before .before .before .before .before .pre .0 .holds .vertices in search needs
+add-v c = let h = start c .pre .0 .holds .vertices in search needs
 
 origin-of-requires : tie.Need-origin-of-requires
-origin-of-requires c κs = let s = start c in side-there (lends s) (points s) (s .pre .0)
+origin-of-requires c κs = let s = start (c .before) in side-there (lends s) (points s) (s .pre .0)
 
 destination-of-requires : tie.Need-destination-of-requires
-destination-of-requires c κs = let s = start (c .before .before) in side-there (lends s) (points s) (s .pre .0)
+destination-of-requires c κs = let s = start (c .before .before .before) in side-there (lends s) (points s) (s .pre .0)
 
 place-midpoint-requires : tie.Need-place-midpoint-requires
 place-midpoint-requires c κs =
-    let s = read c in ends-there (lends s) (points s) (s .pre .0) (c .before .before .origin-of .ensures) (c .destination-of .ensures)
+    let e = c .before in
+    let s = ends e in ends-there (lends s) (points s) (s .pre .0) (e .before .before .origin-of .ensures) (e .destination-of .ensures)
 
 split-rows-requires : tie.Need-split-rows-requires
-split-rows-requires c κs = let s = read (placed c .before) in to-split (lends s) (points s) (s .pre .0)
+split-rows-requires c κs = let s = ends (read c) in to-split (lends s) (points s) (s .pre .0)
 
 build-front-requires : tie.Need-build-front-requires
 build-front-requires c κs =
@@ -82,9 +86,9 @@ returns c =
     let done = c .before .before .before .before .before .before .before .before in
     let l = done .before .before .before .before .before .before .before in
     let s = begun l in
-    let at = placed (rows l .before) in
-    let ends = at .before in
-    let half = mid (lends s) (points s) (s .pre .0) (ends .before .before .origin-of .ensures) (ends .destination-of .ensures) (at .place-midpoint .ensures) in
+    let o = rows l .before in
+    let e = read o in
+    let half = mid (lends s) (points s) (s .pre .0) (e .before .before .origin-of .ensures) (e .destination-of .ensures) (at-midpoint o .place-midpoint .ensures) in
     let (built, long) = done .build-front .ensures in
     (all-written (lends s) (points s) (s .pre .0) (rows l .split-rows .ensures) built half, long)
 
