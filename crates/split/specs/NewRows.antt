@@ -7,26 +7,26 @@ use mathlib.Core.List.{List, [], _∷_, _++_, append-assoc}
 use Prim.Native.Nat.{ℕ, suc, _+_, _*_, _-_, _/_, _%_, _≤_, _<_}
 use native.Mathlib.Omega.{arith}
 use lib.Dec.{eqb}
-use lib.ListN.{length, take, drop, set}
-use lib.Seq.{set-append-left, take-set-lt, drop-set-add}
+use lib.ListN.{length, take, drop, set, length-set, take-append-drop}
+use lib.Seq.{length-take-le, set-append-left, take-set-lt, drop-set-lt, drop-set-add, drop-drop}
 use Rattle.lists.specs.TestLaws.{true-of, false-of, means-not, means-eq, zero-or}
 use Rattle.lists.specs.Search.{at}
 use Rattle.lists.specs.Parts.{length-part}
-use Rattle.rules.specs.Elements.{maxElement, elements, row, number, Side, slot, next}
+use Rattle.rules.specs.Elements.{maxElement, elements, row, sides, number, slot, nextNumber, next}
 use Rattle.rules.specs.Tables.{partner, wide}
 use Rattle.rules.specs.Refusals.{onto}
 use Rattle.rules.specs.Edits.{withRow}
 use Rattle.rules.specs.Split.{withCorner, halved, splitAt}
 use Rattle.theory.specs.Sides.{side-facts, slot-below}
-use Rattle.theory.specs.Steps.{next-side}
+use Rattle.theory.specs.Steps.{next-numbered, next-side}
 use Rattle.theory.specs.FitRows.{Fit}
 use Rattle.theory.specs.Edits.{onto-front, onto-length, past-onto}
 use Rattle.theory.specs.Halving.{Halvable, halved-length}
 use Rattle.theory.specs.Splitting.{Splittable, split-border, split-inner, first, second, split-size-border, split-size-inner}
-use Rattle.halfedge.specs.Rows.{rowOf}
+use Rattle.halfedge.specs.Rows.{rowOf, nextSide, row-turned}
 use Rattle.edits.specs.RowPut.{four-is}
 use Rattle.edits.specs.Trying.{entry-border, entry-partner}
-use Rattle.edits.specs.HeldRows.{held-length, held-elements, held-row, held-inside, held-side, held-next}
+use Rattle.edits.specs.HeldRows.{held-length, held-elements, held-row, held-inside}
 
 -- an entry stored past the first of two lists
 set-past : (xs ys : List ℕ) (i v : ℕ) → set (xs ++ ys) (length xs + i) v ≡ xs ++ set ys i v
@@ -34,6 +34,34 @@ set-past [] ys i v = ap (λ (k : ℕ). set ys k v) (omega arith)
 set-past (x ∷ xs) ys i v =
     let e : length (x ∷ xs) + i ≡ suc (length xs + i) = omega arith in
     ap (λ (k : ℕ). set (x ∷ (xs ++ ys)) k v) e ∙ ap (λ (r : List ℕ). x ∷ r) (set-past xs ys i v)
+
+-- a row with v for one of its entries, put in its place
+row-stored : (f : ℕ) (L : List ℕ) (k v : ℕ) → 1 ≤ f → 4 * f ≤ length L → k < 4 → withRow f (set (row L f) k v) L ≡ set L (4 * (f - 1) + k) v
+unfolding withRow
+row-stored f L k v from to h =
+    let a = 4 * (f - 1) in
+    let R = row L f in
+    let D = drop (4 * f) L in
+    let long : length (take a L) ≡ a = length-take-le a L (omega arith) in
+    let four : length R ≡ 4 = length-part a 4 L (omega arith) in
+    let end : a + 4 ≡ 4 * f = omega arith in
+    let whole : take a L ++ (R ++ D) ≡ L =
+    ap (λ (X : List ℕ). take a L ++ (R ++ X)) (ap (λ (i : ℕ). drop i L) (sym end) ∙ sym (drop-drop 4 a L))
+    ∙ ap (λ (X : List ℕ). take a L ++ X) (take-append-drop 4 (drop a L))
+    ∙ take-append-drop a L in
+    ap (λ (X : List ℕ). take a L ++ X) (sym (set-append-left R D k v (omega arith)))
+    ∙ sym (set-past (take a L) (R ++ D) k v)
+    ∙ ap (λ (i : ℕ). set (take a L ++ (R ++ D)) (i + k) v) long
+    ∙ ap (λ (X : List ℕ). set X (a + k) v) whole
+
+-- a row put after m others, where v was stored among these
+row-after : (m : ℕ) (r L : List ℕ) (b v : ℕ) → b < 4 * m → withRow (m + 1) r (set L b v) ≡ set (take (4 * m) L) b v ++ (r ++ drop (4 * (m + 1)) L)
+unfolding withRow
+row-after m r L b v h =
+    let start : m + 1 - 1 ≡ m = omega arith in
+    ap (λ (k : ℕ). take (4 * k) (set L b v) ++ (r ++ drop (4 * (m + 1)) (set L b v))) start
+    ∙ ap (λ (X : List ℕ). X ++ (r ++ drop (4 * (m + 1)) (set L b v))) (take-set-lt (4 * m) L b v h)
+    ∙ ap (λ (X : List ℕ). set (take (4 * m) L) b v ++ (r ++ X)) (drop-set-lt (4 * (m + 1)) L b v (omega arith))
 
 -- what is put over a front that is no longer covers it
 onto-twice : (xs ys buffer : List ℕ) → length xs ≤ length ys → onto ys (onto xs buffer) ≡ onto ys buffer
@@ -67,25 +95,28 @@ module _ {m : ℕ} {list : List ℕ} {s : ℕ} (x : ToHalve m list s) where
   row-long =
       length-part (4 * (f - 1)) 4 L (omega (arith, held-inside m list inside s (x .halvable .side), held-length m list inside))
 
-  pub side-there : Side list s
-  side-there = held-side m list inside s (x .halvable .side)
-
   pub number-there : (1 ≤ s % 8) × (s % 8 ≤ 4)
   number-there = let i = side-facts L s (x .halvable .side) in (i .number-from, i .number-four)
 
-  -- where v is stored: in the new row, and in the old one
-  new-slot : slot (8 * (m + 1) + s % 8) ≡ 4 * m + (s % 8 - 1)
+  -- where the destination of s stands: in the row of s, by its next number
+  next-slot : slot (next L s) ≡ 4 * (f - 1) + (nextNumber (sides L f) (s % 8) - 1)
   unfolding slot
-  new-slot = omega (arith, side-facts L s (x .halvable .side))
+  next-slot = let i = next-numbered L s (x .halvable .side) in omega (arith, i .same, i .index)
 
-  old-slot : slot (next list s) < 4 * m
-  old-slot =
+  -- the number of the next side, by the row that was read
+  pub next-read : {r : List ℕ} {i j : ℕ} → r ≡ rowOf (row list f) → i ≡ s % 8 → j ≡ nextSide r i
+      → (j ≡ nextNumber (sides L f) (s % 8)) × ((1 ≤ j) × (j ≤ 4))
+  next-read {r} {i} {j} read index is =
       let a = x .halvable .side in
-      let e = ap slot (held-next m list inside s a) in
-      omega (arith, slot-below L (next L s) (next-side L s a), held-length m list inside)
-
-  pub slots-inside : (slot (8 * (m + 1) + s % 8) < length list) × (slot (next list s) < length list)
-  slots-inside = omega (arith, new-slot, old-slot, number-there, x .long)
+      let k = side-facts L s a in
+      let (from, to) = held-inside m list inside s a in
+      let n = next-numbered L s a in
+      let h = side-facts L (next L s) (n .side) in
+      let e : j ≡ nextNumber (sides L f) (s % 8) =
+      is ∙ (λ t. nextSide (read t) (index t))
+      ∙ ap (λ (X : List ℕ). nextSide (rowOf X) (s % 8)) (sym (held-row m list inside f from to))
+      ∙ row-turned L f nextNumber (s % 8) (k .number-from) (k .number-to) in
+      (e, (omega (arith, n .index, h .number-from), omega (arith, n .index, h .number-four)))
 
   module _ (v : ℕ) where
     -- the row that is appended, by the old one
@@ -95,29 +126,35 @@ module _ {m : ℕ} {list : List ℕ} {s : ℕ} (x : ToHalve m list s) where
         ap (take 4) (drop-set-add (4 * (f - 1)) L (s % 8 - 1) v)
         ∙ take-set-lt 4 (drop (4 * (f - 1)) L) (s % 8 - 1) v (omega (arith, side-facts L s (x .halvable .side)))
 
-    -- the old row, as it was read, was put after the others, and v stored in both
-    pub halves : {r M : List ℕ} {a b : ℕ} → r ≡ rowOf (row list f) → M ≡ withRow (m + 1) (rowOf r) list
-        → a ≡ slot (8 * (m + 1) + s % 8) → b ≡ slot (next list s) → set (set M a v) b v ≡ onto (halved L s v) list
-    unfolding withRow onto halved withCorner
-    halves {r} {M} {a} {b} read put at-a at-b =
+    -- the row r was read, and put again with v for the destination of s, and after the others with v for its origin
+    pub halves : {r p q M N : List ℕ} {i j : ℕ} → r ≡ rowOf (row list f) → i ≡ s % 8 → j ≡ nextSide r i → p ≡ set r (j - 1) v → q ≡ set r (i - 1) v
+        → M ≡ withRow f (rowOf p) list → N ≡ withRow (m + 1) (rowOf q) M → N ≡ onto (halved L s v) list
+    unfolding onto halved withCorner
+    halves {r} {p} {q} {M} {N} {i} {j} read index next-is p-is q-is put put-last =
         let side = x .halvable .side in
-        let i = side-facts L s side in
-        let long = held-length m list inside in
         let (from, to) = held-inside m list inside s side in
-        let old : rowOf r ≡ row L f = ap rowOf read ∙ ap rowOf (sym (held-row m list inside f from to)) ∙ four-is (row L f) row-long in
-        let start : m + 1 - 1 ≡ m = omega arith in
-        let rows : M ≡ L ++ (row L f ++ rest) = put ∙ (λ k. take (4 * start k) list ++ (old k ++ rest)) in
-        let new : set (L ++ (row L f ++ rest)) a v ≡ L ++ (row (withCorner L s v) f ++ rest) =
-        ap (λ (k : ℕ). set (L ++ (row L f ++ rest)) k v) (omega (arith, new-slot))
-        ∙ set-past L (row L f ++ rest) (s % 8 - 1) v
-        ∙ ap (λ (X : List ℕ). L ++ X)
-        (set-append-left (row L f) rest (s % 8 - 1) v (omega (arith, row-long)) ∙ ap (λ (X : List ℕ). X ++ rest) (sym row-with)) in
-        let there : b ≡ slot (next L s) = at-b ∙ ap slot (sym (held-next m list inside s side)) in
-        let end : 4 * (m + 1) ≡ length (halved L s v) = omega (arith, halved-length v (x .halvable)) in
-        ap (λ (X : List ℕ). set (set X a v) b v) rows
-        ∙ ap (λ (X : List ℕ). set X b v) new
-        ∙ set-append-left L (row (withCorner L s v) f ++ rest) b v (omega (arith, old-slot))
-        ∙ ap (λ (k : ℕ). set L k v ++ (row (withCorner L s v) f ++ rest)) there
+        let (number, bounds) = next-read read index next-is in
+        let same : r ≡ row L f = read ∙ ap rowOf (sym (held-row m list inside f from to)) ∙ four-is (row L f) row-long in
+        let four : length r ≡ 4 = ap length same ∙ row-long in
+        let near : rowOf p ≡ set (row list f) (j - 1) v =
+        ap rowOf p-is ∙ four-is (set r (j - 1) v) (length-set r (j - 1) v ∙ four) ∙ ap (λ (X : List ℕ). set X (j - 1) v) (same ∙ held-row m list inside f from to) in
+        let last : rowOf q ≡ row (withCorner L s v) f =
+        ap rowOf q-is
+        ∙ four-is (set r (i - 1) v) (length-set r (i - 1) v ∙ four)
+        ∙ (λ k. set (same k) (index k - 1) v)
+        ∙ sym row-with in
+        let place : 4 * (f - 1) + (j - 1) ≡ slot (next L s) = omega (arith, next-slot, number) in
+        let b = slot (next L s) in
+        let below : b < 4 * m = omega (arith, slot-below L (next L s) (next-side L s side), held-length m list inside) in
+        let first : M ≡ set list b v =
+        put
+        ∙ ap (λ (X : List ℕ). withRow f X list) near
+        ∙ row-stored f list (j - 1) v (row-there .0) (row-there .1) (omega (arith, bounds))
+        ∙ ap (λ (k : ℕ). set list k v) place in
+        let end : 4 * (m + 1) ≡ length (halved L s v) = omega (arith, halved-length v (x .halvable), held-length m list inside) in
+        put-last
+        ∙ (λ k. withRow (m + 1) (last k) (first k))
+        ∙ row-after m (row (withCorner L s v) f) list b v below
         ∙ sym (append-assoc (withCorner L (next L s) v) (row (withCorner L s v) f) rest)
         ∙ ap (λ (k : ℕ). halved L s v ++ drop k list) end
 

@@ -2,8 +2,8 @@
 ghost use mathlib.Core.Path.{_≡_};
 ghost use mathlib.Core.Logic.{_⊎_};
 ghost use mathlib.Core.List.{[]};
-ghost use Prim.Native.Nat.{_+_, _*_, _≤_};
-ghost use lib.ListN.{length, take, getD};
+ghost use Prim.Native.Nat.{_+_, _*_, _-_, _≤_};
+ghost use lib.ListN.{length, take, getD, set};
 ghost use Rattle.rules.specs.Tables.{columns as columnsIn};
 ghost use Rattle.rules.specs.Refusals.{onto};
 ghost use Rattle.rules.specs.Split.{halved, splitAt, isSplittable, splitAnswer, splitLeaves, splitPoints};
@@ -30,16 +30,24 @@ use edits::put_row;
 use edits::try_old;
 use halfedge::element_of;
 use halfedge::is_border;
+use halfedge::next_side;
 use halfedge::number_of;
-use halfedge::side_code;
-use halfedge::slot_of;
 use halfedge::wide;
 use points::place_midpoint;
 use sides::destination_of;
 use sides::is_side;
-use sides::next_code;
 use sides::origin_of;
 use sides::row_at;
+
+// The row with v for corner i.
+fn with_corner(row: [u32; 4], i: u32, v: u32) -> [u32; 4]
+    requires { ⌜ (1 ≤ i) × (i ≤ 4) ⌝ }
+    ensures { λ r. ⌜ r ≡ set row (i - 1) v ⌝ }
+{
+    let mut new = row;
+    new[wide(i - 1)] = v;
+    new
+}
 
 // The triangle of side s, in a list that holds m rows, halved: v takes the place of its destination, and the old row, with v for its origin,
 // comes after the others.
@@ -47,13 +55,11 @@ fn halve(m: u32, list: &mut [u32], s: u32, v: u32)
     requires { ⌜ ToHalve m (now list) s ⌝ }
     ensures { λ r. ⌜ now (list .exit) ≡ onto (halved (take (4 * m) (now (list .entry))) s v) (now (list .entry)) ⌝ }
 {
-    let h = m + 1;
-    let row = row_at(list, element_of(s));
-    let a = slot_of(side_code(h, number_of(s)));
-    let b = slot_of(next_code(list, s));
-    put_row(h, row, list);
-    list[a] = v;
-    list[b] = v;
+    let f = element_of(s);
+    let i = number_of(s);
+    let row = row_at(list, f);
+    put_row(f, with_corner(row, next_side(row, i), v), list);
+    put_row(m + 1, with_corner(row, i, v), list);
 }
 
 // The vertex v put on side s of a list that holds m rows; t is the entry of s in E2e, its partner or a border half-edge.

@@ -1,125 +1,93 @@
 -- `split::halve` meets its contract.
 -- Assumes nothing.
 use mathlib.Core.Path.{_≡_, ap, _∙_}
-use Prim.Native.Nat.{ℕ, _+_, _*_, _%_, _<_}
+use Prim.Native.Nat.{ℕ, _/_, _%_}
 use native.Mathlib.Omega.{arith}
-use lib.ListN.{length, length-set}
-use Rattle.rules.specs.Elements.{row, slot, next}
-use Rattle.theory.specs.Sides.{side-from}
-use Rattle.theory.specs.Steps.{next-side}
+use Rattle.rules.specs.Elements.{row}
+use Rattle.rules.specs.Edits.{withRow}
 use Rattle.halfedge.specs.Rows.{rowOf}
-use Rattle.split.specs.NewRows.{row-there, side-there, number-there, slots-inside, halves}
+use Rattle.split.specs.NewRows.{row-there, number-there, next-read, halves}
 use borrow.Author.Needs.{needs}
 use Rattle.split.proofs.halve.Statement.{statement}
 use Rattle.split.proofs.halve.Tie as tie
 
--- the row is read, then the two places are known, and the row is put after the others
-abbrev read : tie.After-row-at → tie.Start
-read c = c .before .before .before .before
+-- the side's element and number are told, its row is read, and the next side's number told; then the one row is put, and the other
+abbrev told : tie.After-row-at → tie.After-number-of
+told c = c .before .before
 
-abbrev found : tie.After-slot-of → tie.Start
-found c = read (c .before .before .before)
+abbrev start : tie.After-row-at → tie.Start
+start c = told c .before .before .before
 
-abbrev both-found : tie.After-slot-of2 → tie.After-slot-of
-both-found c = c .before .before .before
+abbrev first : tie.After-slice-known2 → tie.After-next-side
+first c = c .before .before .before .before .before
 
-abbrev placed : tie.After-slice-known2 → tie.After-slot-of2
-placed c = c .before .before .before .before
+abbrev last : tie.After-slice-known3 → tie.After-with-corner2
+last c = c .before .before .before .before
 
-abbrev begun : tie.After-slice-known2 → tie.Start
-begun c = found (both-found (placed c))
+element-is : (c : tie.After-row-at) → told c .before .element-of .result ≡ start c .args .s / 8
+element-is c = told c .before .element-of .ensures
 
--- in the new row
-first : (c : tie.After-slot-of) → let a = found c .args in c .slot-of .result ≡ slot (8 * (a .m + 1) + a .s % 8)
-first c =
-    c .slot-of .ensures
-    ∙ ap slot (c .before .side-code .ensures ∙ ap (λ (i : ℕ). 8 * (found c .args .m + 1) + i) (c .before .before .number-of .ensures))
+number-is : (c : tie.After-row-at) → told c .number-of .result ≡ start c .args .s % 8
+number-is c = told c .number-of .ensures
 
--- and in the old one
-second : (c : tie.After-slot-of2) → let a = found (both-found c) .args in c .slot-of2 .result ≡ slot (next (a .list .now) (a .s))
-second c = c .slot-of2 .ensures ∙ ap slot (c .before .next-code .ensures)
-
--- both are in the list
-inside : (c : tie.After-slice-known2) →
-    let l = length (begun c .args .list .now) in (both-found (placed c) .slot-of .result < l) × (placed c .slot-of2 .result < l)
-inside c = omega (arith, slots-inside (begun c .pre), first (both-found (placed c)), second (placed c))
-
-add-h : tie.Need-add-h
-add-h c = let h = c .before .pre .size in search needs
+row-is : (c : tie.After-row-at) → c .row-at .result ≡ rowOf (row (start c .args .list .now) (start c .args .s / 8))
+row-is c = c .row-at .ensures ∙ ap (λ (f : ℕ). rowOf (row (start c .args .list .now) f)) (element-is c)
 
 element-of-requires : tie.Need-element-of-requires
 element-of-requires c κs = search needs
 
-row-at-requires : tie.Need-row-at-requires
-row-at-requires c κs = omega (arith, row-there (c .before .before .before .pre), c .element-of .ensures)
-
 number-of-requires : tie.Need-number-of-requires
 number-of-requires c κs = search needs
 
-side-code-requires : tie.Need-side-code-requires
-side-code-requires c κs =
-    let s = read (c .before) in omega (arith, s .pre .size, number-there (s .pre), c .number-of .ensures)
+row-at-requires : tie.Need-row-at-requires
+row-at-requires c κs =
+    let s = c .before .before .before .before in omega (arith, row-there (s .pre), c .before .before .element-of .ensures)
 
-slot-of-requires : tie.Need-slot-of-requires
-slot-of-requires c κs =
-    let s = read (c .before .before) in omega (arith, number-there (s .pre), c .side-code .ensures, c .before .number-of .ensures)
+next-side-requires : tie.Need-next-side-requires
+next-side-requires c κs = search needs
 
-next-code-requires : tie.Need-next-code-requires
-next-code-requires c κs = side-there (found (c .before) .pre)
-
-slot-of-requires-2 : tie.Need-slot-of-requires-2
-slot-of-requires-2 c κs =
-    let s = found (c .before .before) in
-    let list = s .args .list .now in
-    rw (c .next-code .ensures) (side-from list (next list (s .args .s)) (next-side list (s .args .s) (side-there (s .pre))))
+with-corner-requires : tie.Need-with-corner-requires
+with-corner-requires c κs = let r = c .before in next-read (start r .pre) (row-is r) (number-is r) (c .next-side .ensures) .1
 
 put-row-requires : tie.Need-put-row-requires
-put-row-requires c κs = let s = found (both-found (c .before)) in omega (arith, s .pre .long)
+put-row-requires c κs = let r = c .before .before .before in omega (arith, row-there (start r .pre), element-is r)
 
-mul-list : tie.Need-mul-list
-mul-list c = let h = inside c in search needs
+add-put-row : tie.Need-add-put-row
+add-put-row c = search needs
 
-slice-write-list : tie.Need-slice-write-list
-slice-write-list c =
-    let same : length (c .before .before .put-row .last .1 .1 .0) ≡ length (begun c .args .list .now) = search needs in omega (arith, inside c)
+with-corner-requires-2 : tie.Need-with-corner-requires-2
+with-corner-requires-2 c κs = let r = first c .before in omega (arith, number-there (start r .pre), number-is r)
 
-mul-list-2 : tie.Need-mul-list-2
-mul-list-2 c = let h = inside c in search needs
-
-slice-write-list-2 : tie.Need-slice-write-list-2
-slice-write-list-2 c =
-    let same : length (c .before .before .put-row .last .1 .1 .0) ≡ length (begun c .args .list .now) = search needs in
-    simp length-set (omega (arith, inside c))
+put-row-requires-2 : tie.Need-put-row-requires-2
+put-row-requires-2 c κs = search needs
 
 same-length : tie.Need-same-length
 same-length c = search needs
 
 returns : tie.Need-returns
 returns c =
-    let s = begun c in
-    let two = placed c in
-    let one = both-found two in
-    let at-row = one .before .before .before in
+    let two = last c in
+    let one = two .before in
+    let n = first one in
+    let r = n .before in
+    let s = start r in
+    let put = one .before .before in
     let list = s .args .list .now in
-    halves (s .pre) (s .args .v) (at-row .row-at .ensures ∙ ap (λ (f : ℕ). rowOf (row list f)) (at-row .before .element-of .ensures))
-    (c .before .before .put-row .ensures) (first one) (second two)
+    halves (s .pre) (s .args .v) (row-is r) (number-is r) (n .next-side .ensures) (put .before .before .with-corner .ensures) (two .with-corner2 .ensures)
+    (put .put-row .ensures ∙ ap (λ (f : ℕ). withRow f (rowOf (put .before .before .with-corner .result)) list) (element-is r)) (c .before .before .put-row2 .ensures)
 
 pub halve-spec : {M : Type 1} → statement M
 halve-spec =
     tie.close
     (tie.spec
-    add-h
     element-of-requires
-    row-at-requires
     number-of-requires
-    side-code-requires
-    slot-of-requires
-    next-code-requires
-    slot-of-requires-2
+    row-at-requires
+    next-side-requires
+    with-corner-requires
     put-row-requires
-    mul-list
-    slice-write-list
-    mul-list-2
-    slice-write-list-2
+    add-put-row
+    with-corner-requires-2
+    put-row-requires-2
     same-length
     returns)
