@@ -58,7 +58,8 @@ fn halve(m: u32, list: &mut [u32], s: u32, v: u32)
     let f = element_of(s);
     let i = number_of(s);
     let row = row_at(list, f);
-    put_row(f, with_corner(row, next_side(row, i), v), list);
+    let j = next_side(row, i);
+    put_row(f, with_corner(row, j, v), list);
     put_row(m + 1, with_corner(row, i, v), list);
 }
 
