@@ -2,16 +2,16 @@
 -- Assumes nothing.
 use mathlib.Core.Path.{_≡_, refl, ap, sym, _∙_}
 use mathlib.Core.Bool.{Bool, true, false}
-use mathlib.Core.List.{List, []}
+use mathlib.Core.List.{List}
 use Prim.Native.Nat.{ℕ}
 use lib.Ieee.{Float}
 use lib.ListN.{length, replicate}
 use Rattle.lists.specs.Tests.{both}
-use Rattle.rules.specs.Refusals.{Answer, gives, refused, after}
-use Rattle.rules.specs.Edits.{Edited, becomes, refuses, Lent, withWork, hasRoom, editSizes, editLengths, editAnswer, written, editLeaves}
+use Rattle.rules.specs.Refusals.{Answer, refused, after}
+use Rattle.rules.specs.Edits.{Lent, withWork, hasRoom, editSizes, editLengths, editAnswer, editLeaves}
 use Rattle.rules.specs.Split.{hasPoints, split, splitAnswer, splitLeaves, splitPoints}
 use Rattle.theory.specs.Calls as calls
-use Rattle.edits.specs.Leaving.{rest, leavesBy, unsized, unlengthened}
+use Rattle.edits.specs.Leaving.{after-refusal, work-apart, rest, leavesBy, unsized, unlengthened}
 use Rattle.edits.specs.Holding.{holds}
 use Rattle.split.specs.Stages.{placed, Outcome}
 
@@ -38,25 +38,13 @@ module _ (w : Lent) (P : List Float) (s : ℕ) where
 
   -- a refusal
   stays : {a : Answer} {r i j : ℕ} → a ≡ refused r i j → (a ≡ splitAnswer w P s) × (w ≡ splitLeaves w P s) → Whole a w P
-  unfolding after
-  stays f (e, l) = (
-    e,
-    (l, points-by e (sym (ap (λ (y : Answer). after y (placed w P s) P) f))),
-  )
+  stays f (e, l) = (e, (l, points-by e (sym (after-refusal (placed w P s) P f))))
 
   pub refused-1 : {a : Answer} → editSizes w ≡ false → a ≡ refused 1 0 0 → Whole a w P
   refused-1 e f = stays f (unsized w (hasPoints (w .n) P) (split w P s) e f)
 
   pub refused-2 : {a : Answer} → editSizes w ≡ true → editLengths w (hasPoints (w .n) P) ≡ false → a ≡ refused 2 0 0 → Whole a w P
   refused-2 e d f = stays f (unlengthened w (hasPoints (w .n) P) (split w P s) e d f)
-
-  -- the work buffer, which was left out, is what it is in the end
-  worked : (x : Edited) (a : Answer) (work : List ℕ)
-      → withWork (after a (written (withWork w []) x) (withWork w [])) work ≡ withWork (after a (written w x) w) work
-  unfolding after written
-  worked (becomes n L) (gives i j) work = refl
-  worked (refuses r) (gives i j) work = refl
-  worked x (refused r i j) work = refl
 
   -- it was cleared
   pub finished : {a : Answer} {w′ : Lent} {P′ : List Float} {work : List ℕ} {l : ℕ}
@@ -69,4 +57,4 @@ module _ (w : Lent) (P : List Float) (s : ℕ) where
       let (e, f) =
       calls.cleared (leavesBy w others edit) (editSizes w) (editLengths w others) (rest w others edit) (w .work) fit (x .left .answer)
       (z ∙ ap (λ (k : ℕ). replicate k 0) same) in
-      (e, (ap (λ (u : Lent). withWork u work) (x .left .leaves) ∙ worked edit a work ∙ f, points-by e (x .points)))
+      (e, (ap (λ (u : Lent). withWork u work) (x .left .leaves) ∙ work-apart w edit a work ∙ f, points-by e (x .points)))

@@ -16,7 +16,7 @@ use Rattle.rules.specs.Split.{isSplittable, hasPoints, canHold, split}
 use Rattle.theory.specs.Answers.{gives-refused, given-accepted}
 use Rattle.theory.specs.SplitTests.{vertex, new}
 use Rattle.build.specs.Building.{Scratched}
-use Rattle.edits.specs.Leaving.{rest, refused-left, old-refused, new-tried}
+use Rattle.edits.specs.Leaving.{after-refusal, after-answer, rest, refused-left, old-refused, new-tried}
 use Rattle.edits.specs.Trying.{number, tabled}
 use Rattle.edits.specs.Fronts.{Ready, checked-front}
 use Rattle.split.specs.Stages.{Admissible, ToWrite, Admitted, denied, allowed, placed, Written, Outcome}
@@ -59,8 +59,7 @@ module _ (w : Lent) (P : List Float) (s : ℕ) {c : ℕ} (x : Ready w c) {p : �
 
   -- a refusal leaves the points, too
   points-stay : {a : Answer} {r i j : ℕ} → a ≡ refused r i j → P ≡ after a (placed w P s) P
-  unfolding after
-  points-stay e = sym (ap (λ (y : Answer). after y (placed w P s) P) e)
+  points-stay e = sym (after-refusal (placed w P s) P e)
 
   -- the old list is refused
   pub old-denied : {r i j : ℕ} → t ≡ refused r i j → Outcome w P s t w₀ P × (length W ≡ length (w .work))
@@ -116,7 +115,6 @@ module _ (w : Lent) (P : List Float) (s : ℕ) {c : ℕ} (x : Ready w c) {p : �
         let second : j ≡ m′ = cc in rw (first, second) y
 
     pub all-done : {i j : ℕ} → ToWrite w₁ P s i j → {a : Answer} {w′ : Lent} {P′ : List Float} → Written w₀ P s a w′ P′ → Outcome w P s a w′ P′
-    unfolding after
     all-done y z =
         let new-list = becomes (vertex w s) (new w s) in
         record {
@@ -124,7 +122,7 @@ module _ (w : Lent) (P : List Float) (s : ℕ) {c : ℕ} (x : Ready w c) {p : �
               new-tried (w .n) (held w) (split w P s) (length (w .border)) (scratch .stated) counts (sym same-edit ∙ y .edit)
               (record {
                 answer = z .stated;
-                leaves = z .leaves ∙ sym (ap (λ (u : Answer). after u (written w₀ new-list) w₀) (z .answer));
+                leaves = z .leaves ∙ sym (after-answer (written w₀ new-list) w₀ (z .answer));
               });
-          points = z .points ∙ sym (ap (λ (u : Answer). after u (placed w P s) P) (z .answer));
+          points = z .points ∙ sym (after-answer (placed w P s) P (z .answer));
         }

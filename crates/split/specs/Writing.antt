@@ -10,7 +10,7 @@ use lib.ListN.{length, take}
 use Rattle.lists.specs.TestLaws.{true-of}
 use Rattle.rules.specs.Elements.{Side, origin, next, destination}
 use Rattle.rules.specs.Tables.{borders, edges, columns, e2e, v2e}
-use Rattle.rules.specs.Refusals.{Answer, gives, roomCheck, after, onto}
+use Rattle.rules.specs.Refusals.{Answer, gives, roomCheck, onto}
 use Rattle.rules.specs.Edits.{Lent, withWork, held, written}
 use Rattle.rules.specs.Split.{midpoint, withPoint}
 use Rattle.theory.specs.Steps.{next-side}
@@ -23,6 +23,7 @@ use Rattle.theory.specs.Splitting.{split-fours, same-columns}
 use Rattle.theory.specs.SplitAnswers.{split-answer}
 use Rattle.theory.specs.SplitTests.{vertex, new}
 use Rattle.edits.specs.Holding.{lentEdit, holds, means-holds}
+use Rattle.edits.specs.Leaving.{after-answer}
 use Rattle.edits.specs.HeldRows.{held-elements, held-side, held-origin, held-destination}
 use Rattle.edits.specs.Fronts.{Ready, Fronted, over-longer}
 use Rattle.split.specs.NewRows.{ToSplit, grown}
@@ -121,10 +122,6 @@ module _ (w : Lent) (P : List Float) {s t m′ : ℕ} (x : ToWrite w P s t m′)
           ∙ ap (roomCheck (length (w .border))) accepted
           ∙ room-enough (length (w .border)) (borders L′) (edges L′) (x .room)
 
-      put-new : (new old : List ℕ) {X : List ℕ} → X ≡ after a new old → X ≡ new
-      unfolding after
-      put-new new old h = h ∙ ap (λ (y : Answer). after y new old) answered
-
       pub all-written : {P′ : List Float} → P′ ≡ placed w P s
           → Written (withWork w []) P s a (lentEdit v m′ list V2e E2e B2e []) P′
       unfolding written
@@ -133,9 +130,9 @@ module _ (w : Lent) (P : List Float) {s t m′ : ℕ} (x : ToWrite w P s t m′)
           let wider : columns L * w .m ≤ length (e2e L′) =
           rw (length-e2e L′, columned, sym (x .counted)) (more-entries (columns L) (three-or-four L) more) in
           let l = is ∙ sym (over-longer (4 * w .m) L′ (w .list) (omega (arith, long, more))) in
-          let vs = put-new _ _ (tables .vertices) ∙ sym (over-longer (w .n) (v2e v L′) (w .vertices) (omega (arith, length-v2e L′ v))) in
-          let os = put-new _ _ (tables .opposites) ∙ sym (over-longer (columns L * w .m) (e2e L′) (w .opposites) wider) in
-          let bs = put-new _ _ (tables .border) in
+          let vs = tables .vertices ∙ after-answer _ _ answered ∙ sym (over-longer (w .n) (v2e v L′) (w .vertices) (omega (arith, length-v2e L′ v))) in
+          let os = tables .opposites ∙ after-answer _ _ answered ∙ sym (over-longer (columns L * w .m) (e2e L′) (w .opposites) wider) in
+          let bs = tables .border ∙ after-answer _ _ answered in
           record {
             stated = tables .answer;
             answer = answered;

@@ -13,7 +13,7 @@ use Rattle.lists.specs.TestLaws.{Test, pass, fail, test, true-of, false-of, mea
 use Rattle.lists.specs.Search.{at}
 use Rattle.rules.specs.Elements.{elements, row, sides, isSide, Side, slot, origin, previousNumber, previous}
 use Rattle.rules.specs.Tables.{partner, isBorder, columns, wide, v2e, e2e}
-use Rattle.rules.specs.Refusals.{Answer, gives, refused, listAnswer, roomCheck, after}
+use Rattle.rules.specs.Refusals.{Answer, gives, refused, listAnswer, roomCheck}
 use Rattle.rules.specs.Edits.{becomes, refuses, overOld, withRow, written, isThere}
 use Rattle.rules.specs.Swap.{third, flipped, swapped, isSwappable, swap}
 use Rattle.theory.specs.Sides.{side-facts}
@@ -29,7 +29,7 @@ use Rattle.halfedge.specs.Rows.{rowOf, cornerOf, previousSide, row-at, row-corn
 use Rattle.buffers.specs.Whole.{onto-full}
 use Rattle.build.specs.Building.{Built, Checked, Scratched}
 use Rattle.edits.specs.Holding.{lentEdit}
-use Rattle.edits.specs.Leaving.{tight, Left, accepted-fit}
+use Rattle.edits.specs.Leaving.{tight, after-refusal, after-answer, Left, accepted-fit}
 
 -- what is read of side s in the row of its element: its origin, and the corner before
 module _ (L : List ℕ) (s : ℕ) (a : Side L s) where
@@ -112,15 +112,6 @@ module _ {L : List ℕ} {s t : ℕ} (x : Flips L s t) where
 pub over-full : (old : ℕ) (xs buffer : List ℕ) → length xs ≡ old → length xs ≡ length buffer → overOld old xs buffer ≡ xs
 over-full old xs buffer e f = over-same old xs buffer e ∙ onto-full xs buffer f
 
--- by a known answer
-old-by : {a : Answer} {r p q : ℕ} (new old : List ℕ) {X : List ℕ} → a ≡ refused r p q → X ≡ after a new old → X ≡ old
-unfolding after
-old-by new old e h = h ∙ ap (λ (y : Answer). after y new old) e
-
-new-by : {a : Answer} {k e : ℕ} (new old : List ℕ) {X : List ℕ} → a ≡ gives k e → X ≡ after a new old → X ≡ new
-unfolding after
-new-by new old g h = h ∙ ap (λ (y : Answer). after y new old) g
-
 -- the lists and lengths of a swap
 pub record ToSwap (n : ℕ) (L V2e E2e work : List ℕ) (s t : ℕ) : Type 0 where
   pub checked : Checked n L V2e E2e work
@@ -159,33 +150,29 @@ module _ {n : ℕ} {L V2e E2e work : List ℕ} {s t : ℕ} (x : ToSwap n L V2e E
     LeftHere L₂ = Left (roomCheck (length B2e) (listAnswer n L′)) a (tight n L V2e E2e B2e) (becomes n L′) (tight n L₂ V2e′ E2e′ B2e′)
 
     pub late : {r p q : ℕ} {L₂ : List ℕ} → a ≡ refused r p q → L₂ ≡ L → LeftHere L₂
-    unfolding after
     late e f =
-        let v = old-by _ _ e (b .vertices) in
-        let o = old-by _ _ e (b .opposites) in
-        let d = old-by _ _ e (b .border) in
-        record {
-          answer = b .answer;
-          leaves = (λ k. tight n (f k) (v k) (o k) (d k)) ∙ sym (ap (λ (y : Answer). after y (written (tight n L V2e E2e B2e) (becomes n L′)) (tight n L V2e E2e B2e)) e);
-        }
+        let v = b .vertices ∙ after-refusal _ _ e in
+        let o = b .opposites ∙ after-refusal _ _ e in
+        let d = b .border ∙ after-refusal _ _ e in
+        let w = tight n L V2e E2e B2e in
+        record { answer = b .answer; leaves = (λ k. tight n (f k) (v k) (o k) (d k)) ∙ sym (after-refusal (written w (becomes n L′)) w e) }
 
     pub done : {k e : ℕ} → a ≡ gives k e → LeftHere L₁
-    unfolding after written
+    unfolding written
     done g =
         let c = checked-new in
         let all : take (4 * elements L) L ≡ L = take-all (4 * elements L) L (omega (arith, x .checked .fours)) in
         let wide : length (e2e L′) ≡ columns (take (4 * elements L) L) * elements L =
         length-e2e L′ ∙ sym (c .e2e-long) ∙ x .checked .e2e-long ∙ ap (λ (X : List ℕ). columns X * elements L) (sym all) in
         let l = is ∙ sym (over-full (4 * elements L) L′ L (omega (arith, same .long, x .checked .fours)) (same .long)) in
-        let v = new-by _ _ g (b .vertices) ∙ sym (over-full n (v2e n L′) V2e (length-v2e L′ n) (length-v2e L′ n ∙ sym (c .v2e-long))) in
-        let o = new-by _ _ g (b .opposites) ∙ sym (over-full (columns (take (4 * elements L) L) * elements L) (e2e L′) E2e wide (length-e2e L′ ∙ sym (c .e2e-long))) in
-        let d = new-by _ _ g (b .border) in
+        let v = b .vertices ∙ after-answer _ _ g ∙ sym (over-full n (v2e n L′) V2e (length-v2e L′ n) (length-v2e L′ n ∙ sym (c .v2e-long))) in
+        let o = b .opposites ∙ after-answer _ _ g ∙ sym (over-full (columns (take (4 * elements L) L) * elements L) (e2e L′) E2e wide (length-e2e L′ ∙ sym (c .e2e-long))) in
+        let d = b .border ∙ after-answer _ _ g in
         let m = ap elements is in
+        let w = tight n L V2e E2e B2e in
         record {
           answer = b .answer;
-          leaves =
-              (λ k. lentEdit n (m k) (l k) (v k) (o k) (d k) [])
-              ∙ sym (ap (λ (y : Answer). after y (written (tight n L V2e E2e B2e) (becomes n L′)) (tight n L V2e E2e B2e)) g);
+          leaves = (λ k. lentEdit n (m k) (l k) (v k) (o k) (d k) []) ∙ sym (after-answer (written w (becomes n L′)) w g);
         }
 
 -- what the tests say of side s: no side, a border side, or by its two elements
