@@ -206,16 +206,16 @@ module _ {L : List ℕ} {r : ℕ} (v : ℕ) (y : Halvable L r) where
             side = d;
             from = origin-twin;
             to =
-              ap (origin M) n
-              ∙ origin-copied (r % 8 % 3 + 1) (omega arith) (omega arith) (λ z. omega arith)
-              ∙ ap (origin L) (sym next-is)
-              ∙ x .runs .to;
+                ap (origin M) n
+                ∙ origin-copied (r % 8 % 3 + 1) (omega arith) (omega arith) (λ z. omega arith)
+                ∙ ap (origin L) (sym next-is)
+                ∙ x .runs .to;
           };
           third =
-            ap (origin M) p
-            ∙ origin-copied ((r % 8 + 1) % 3 + 1) (omega arith) (omega arith) (λ z. omega arith)
-            ∙ ap (origin L) (sym previous-is)
-            ∙ x .third;
+              ap (origin M) p
+              ∙ origin-copied ((r % 8 + 1) % 3 + 1) (omega arith) (omega arith) (λ z. omega arith)
+              ∙ ap (origin L) (sym previous-is)
+              ∙ x .third;
           triangle = three;
         }
 

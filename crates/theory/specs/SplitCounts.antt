@@ -70,10 +70,13 @@ module _ {L : List ℕ} {r : ℕ} (v : ℕ) (y : Halvable L r) where
       let k = length L in
       let long : length M ≡ suc (suc (suc (suc k))) = omega (arith, halved-length v y) in
       let sum : count there (suc (suc (suc (suc k)))) ≡ count there k + 3 =
-      omega (arith, count-pass there k (new-side 1 k (omega arith) (omega arith) (omega arith)),
-      count-pass there (suc k) (new-side 2 (suc k) (omega arith) (omega arith) (omega arith)),
-      count-pass there (suc (suc k)) (new-side 3 (suc (suc k)) (omega arith) (omega arith) (omega arith)),
-      count-fail there (suc (suc (suc k))) (no-fourth (suc (suc (suc k))) (omega arith))) in
+      omega (
+        arith,
+        count-pass there k (new-side 1 k (omega arith) (omega arith) (omega arith)),
+        count-pass there (suc k) (new-side 2 (suc k) (omega arith) (omega arith) (omega arith)),
+        count-pass there (suc (suc k)) (new-side 3 (suc (suc k)) (omega arith) (omega arith) (omega arith)),
+        count-fail there (suc (suc (suc k))) (no-fourth (suc (suc (suc k))) (omega arith)),
+      ) in
       ap (count there) long ∙ sum ∙ ap (λ (c : ℕ). c + 3) (count-same there (sideWith L all) k old-side)
 
 module _ {n : ℕ} {L L′ : List ℕ} {s : ℕ} (old : Good n L) (meeting : Conformal L) (x : Refined n L L′ s) where
