@@ -1,15 +1,15 @@
 -- What is held stands at the fronts of the buffers that are lent: checked there, and written there.
 -- Assumes nothing.
 use mathlib.Core.Path.{_≡_, ap, sym, _∙_}
-use mathlib.Core.List.{List, _++_, append-nil}
-use Prim.Native.Nat.{ℕ, _+_, _*_, _-_, _≤_}
+use mathlib.Core.List.{List, _++_}
+use Prim.Native.Nat.{ℕ, _+_, _*_, _≤_}
 use native.Mathlib.Omega.{arith}
-use lib.ListN.{length, take, drop, replicate, take-append-drop}
+use lib.ListN.{length, take, drop, take-append-drop}
 use lib.Seq.{length-take-le}
 use Rattle.rules.specs.Elements.{maxVertex, maxElement, elements}
 use Rattle.rules.specs.Tables.{b2e, columns, e2e, v2e}
 use Rattle.rules.specs.Refusals.{Answer, gives, refused, listAnswer, roomCheck, after, onto}
-use Rattle.rules.specs.Edits.{Lent, overOld}
+use Rattle.rules.specs.Edits.{Lent}
 use Rattle.theory.specs.FitRows.{means-sizes}
 use Rattle.theory.specs.Entries.{length-v2e}
 use Rattle.theory.specs.Columns.{length-e2e}
@@ -91,10 +91,3 @@ module _ (w : Lent) {c : ℕ} (x : Ready w c) {p q r : ℕ} (rows : p ≡ 4 * w 
             after-front a r (e2e L) (w .opposites) (length-e2e L ∙ (λ i. sym (x .long .columned) i * size i) ∙ sym opposites) (y .opposites);
         border = y .border;
       }
-
--- what is at least as long as what was there leaves no 0 after it
-pub over-longer : (old : ℕ) (xs buffer : List ℕ) → old ≤ length xs → overOld old xs buffer ≡ onto xs buffer
-unfolding overOld
-over-longer old xs buffer h =
-    let z : old - length xs ≡ 0 = omega arith in
-    ap (λ (k : ℕ). onto (xs ++ replicate k 0) buffer) z ∙ ap (λ (ys : List ℕ). onto ys buffer) (append-nil xs)

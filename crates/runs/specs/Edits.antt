@@ -2,7 +2,7 @@
 -- the tables that build gives of it, so recovery covers edited housings too". x is what the edit makes of the list that is held.
 -- Assumes nothing.
 use mathlib.Core.Path.{_≡_, refl, ap, sym, subst, _∙_}
-use mathlib.Core.Bool.{Bool}
+use mathlib.Core.Bool.{Bool, true, false}
 use mathlib.Core.Logic.{_⊎_, inl, inr}
 use mathlib.Core.List.{List}
 use Prim.Native.Nat.{ℕ, _+_, _*_, _/_, _%_, _≤_}
@@ -25,12 +25,13 @@ use Rattle.theory.specs.FitRows.{means-sizes}
 use Rattle.theory.specs.Entries.{length-b2e, length-v2e}
 use Rattle.theory.specs.Columns.{length-e2e}
 use Rattle.theory.specs.Orders.{good}
-use Rattle.theory.specs.Answers.{past-lengths, room-enough, room-short, accepted-answer}
+use Rattle.theory.specs.Answers.{past-lengths, room-enough, room-short, accepted-answer, list-never}
 use Rattle.theory.specs.Edits.{past-old, past-new, onto-front, onto-length, past-onto, over-front, over-length, past-over}
 use Rattle.theory.specs.Built.{built}
 use Rattle.edits.specs.Holding.{means-holds}
 use Rattle.runs.specs.Runs.{BuildRun, RecoverRun, EditRun, LeftBy}
-use Rattle.runs.specs.RoundTrip.{tables-come-back}
+use Rattle.runs.specs.Demand3.{list-counted}
+use Rattle.runs.specs.RoundTrip.{tables-come-back, room-for-all}
 use Rattle.runs.specs.OnBuilt.{built-left}
 
 -- a side, or one of the border half-edges
@@ -172,6 +173,26 @@ module _ {others : Bool} (x : Edited) (w : Lent) (a : Answer) (w′ : Lent) (run
           new-answer e
           ∙ ap (roomCheck (length (w .border))) (accepted-answer n′ L′ (new .rows) new)
           ∙ room-enough (length (w .border)) (borders L′) (edges L′) room
+
+  -- 9 never comes where the edit doesn't refuse by it and B2e has an entry for each vertex of the new list
+  pub never-nine : ((r : ℕ) → x ≡ refuses r → r ≡ 9 → ⊥)
+      → ((n′ : ℕ) (L′ : List ℕ) → Accepted (w .n) L → x ≡ becomes n′ L′ → T (sizesFit n′ L′) × (n′ ≤ length (w .border))) → (p q : ℕ) → a ≡ refused 9 p q → ⊥
+  unfolding editAnswer lengthChecks onceAccepted newAnswer
+  never-nine own fit p q g = go (editSizes w) (editLengths w others) refl refl (sym (run .answer) ∙ g)
+    where
+      new : Accepted (w .n) L → (z : Edited) → x ≡ z → newAnswer (length (w .border)) z ≡ refused 9 p q → ⊥
+      new old (refuses r) e f = own r e cc
+      new old (becomes n′ L′) e f = let (sizes, long) = fit n′ L′ old e in room-for-all n′ L′ (length (w .border)) sizes long p q f
+
+      past : T (sizesFit (w .n) L) → (y : Answer) → listAnswer (w .n) L ≡ y → onceAccepted y (newAnswer (length (w .border)) x) ≡ refused 9 p q → ⊥
+      past sizes (refused r i j) e f = list-never (w .n) L 9 (λ r from to d e. e) p q (e ∙ f)
+      past sizes (gives k e) o f = new (list-counted (w .n) L sizes k e o .0) x refl f
+
+      go : (sizes lengths : Bool) → editSizes w ≡ sizes → editLengths w others ≡ lengths
+          → lengthChecks sizes lengths (onceAccepted (listAnswer (w .n) L) (newAnswer (length (w .border)) x)) ≡ refused 9 p q → ⊥
+      go true true s l f = past (held-sizes w others (rw s tt) (rw l tt)) (listAnswer (w .n) L) refl f
+      go true false s l f = let z : _≡_ {A = ℕ} 2 9 = cc in omega arith
+      go false l s m f = let z : _≡_ {A = ℕ} 1 9 = cc in omega arith
 
   -- after an answer with the list L′, which is accepted
   module _ {k e n′ : ℕ} {L′ : List ℕ} (gave : a ≡ gives k e) (edited : x ≡ becomes n′ L′) (new : Accepted n′ L′) (number : k ≡ borders L′) where

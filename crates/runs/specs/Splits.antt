@@ -13,23 +13,32 @@ use lib.ListN.{length}
 use Rattle.lists.specs.TestLaws.{true-of, false-of, means-not}
 use Rattle.lists.specs.SearchLaws.{le-or-lt}
 use Rattle.rules.specs.Elements.{elements, origin, destination}
-use Rattle.rules.specs.Pairing.{Accepted}
+use Rattle.rules.specs.Pairing.{Accepted, sizesFit}
 use Rattle.rules.specs.Tables.{partner, borders, columns, edges}
 use Rattle.rules.specs.Refusals.{Answer, gives, refused, listAnswer, roomCheck, after}
 use Rattle.rules.specs.Queries.{Mesh}
 use Rattle.rules.specs.Edits.{becomes, refuses, Lent, held, isThere, editSizes, editLengths}
 use Rattle.rules.specs.Split.{isSplittable, hasPoints, canHold, split, midpoint, withPoint, splitPoints}
+use Rattle.theory.specs.FitRows.{means-sizes}
 use Rattle.theory.specs.Answers.{room-enough, room-short, gives-refused}
 use Rattle.theory.specs.Orders.{Good, good}
 use Rattle.theory.specs.Splitting.{Splittable, means-splittable, split-fours}
 use Rattle.theory.specs.Splitting.{same-columns as columns-stay}
 use Rattle.theory.specs.SplitAnswers.{split-accepted, split-answer}
 use Rattle.theory.specs.SplitCounts.{Grown, grown-inner, grown-border}
-use Rattle.theory.specs.SplitTests.{Holds, means-hold, vertex, new, gone, unfit, full, splits, becomes-split}
+use Rattle.theory.specs.SplitTests.{Holds, means-hold, vertex, new, gone, unfit, full, splits, refuses-by, becomes-split}
 use Rattle.runs.specs.Runs.{RecoverRun, SplitRun, LeftBy}
 use Rattle.runs.specs.Demand3.{list-counted}
 use Rattle.runs.specs.Edits as edits
 use Rattle.runs.specs.Edits.{There, means-there, meshIn}
+
+-- a list that comes of an accepted one has fit sizes
+pub split-sizes : (w : Lent) (P : List Float) (s : ℕ) {n : ℕ} {L : List ℕ} → Accepted (w .n) (held w) → split w P s ≡ becomes n L → T (sizesFit n L)
+split-sizes w P s old e =
+    let x = becomes-split w P s e in
+    let fours = split-fours (w .n) (held w) (good (w .n) (held w) old .fit) s (x .splittable) (vertex w s) in
+    let sizes = means-sizes (vertex w s) (new w s) .shows (x .holds .vertices, (x .holds .size, fours)) in
+    rw (x .same-list, x .same-n) at sizes
 
 module _ (w : Lent) (P : List Float) (s : ℕ) (a : Answer) (w′ : Lent) (P′ : List Float) (run : SplitRun w P s a w′ P′) where
   abbrev n : ℕ
@@ -91,6 +100,16 @@ module _ (w : Lent) (P : List Float) (s : ℕ) (a : Answer) (w′ : Lent) (P′ 
           | inl room ↦ absurd (gives-refused (sym (gives-counts room) ∙ e))
           | inr short ↦ let f = sym (gives-9 short) ∙ e in cc
         ]
+
+  -- n + 1 entries of B2e are always enough
+  pub never-nine : n + 1 ≤ length (w .border) → (p q : ℕ) → a ≡ refused 9 p q → ⊥
+  never-nine long = edits.never-nine (split w P s) w a w′ (run .edit) own sized
+    where
+      own : (r : ℕ) → split w P s ≡ refuses r → r ≡ 9 → ⊥
+      own r e z = elim (refuses-by w P s e) [ inl i ↦ omega arith | inr j ↦ elim j [ inl i ↦ omega arith | inr i ↦ omega arith ] ]
+
+      sized : (n′ : ℕ) (M : List ℕ) → Accepted n L → split w P s ≡ becomes n′ M → T (sizesFit n′ M) × (n′ ≤ length (w .border))
+      sized n′ M old e = (split-sizes w P s old e, omega (arith, becomes-split w P s e .same-n))
 
   -- an answer, exactly where none of the refusals is due
   pub record Answered (k e : ℕ) : Type 0 where

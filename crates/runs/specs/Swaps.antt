@@ -1,34 +1,32 @@
 -- Document 02, point 1, as theorems about runs of swap: "It is refused, list and tables unchanged, exactly when the old or new list is refused by
 -- build, the half-edge named isn't there (11), or by number 15." What every edit promises stands in `Edits`.
 -- Assumes nothing.
-use mathlib.Core.Path.{_≡_, refl, ap, sym, _∙_}
-use mathlib.Core.Bool.{Bool, true, false}
+use mathlib.Core.Path.{_≡_, ap, sym, _∙_}
+use mathlib.Core.Bool.{true}
 use mathlib.Core.Logic.{_⊎_, inl, inr, _↔_}
 use mathlib.Core.List.{List}
 use Prim.Native.Nat.{ℕ, _+_, _*_, _/_, _%_, _≤_}
 use native.Mathlib.Omega.{arith}
 use lib.Dec.{T}
 use lib.ListN.{length}
-use Rattle.lists.specs.TestLaws.{Test, pass, fail, test, decide, true-of, false-of, means-not, means-eq}
+use Rattle.lists.specs.TestLaws.{decide, true-of, false-of, means-not, means-eq}
 use Rattle.rules.specs.Elements.{elements}
 use Rattle.rules.specs.Pairing.{Accepted, sizesFit}
 use Rattle.rules.specs.Tables.{partner, borders, columns, edges}
-use Rattle.rules.specs.Refusals.{Answer, gives, refused, Buffers, crowdedSide, listAnswer, buildLengths, lengthChecks, roomCheck}
+use Rattle.rules.specs.Refusals.{Answer, gives, refused, Buffers, crowdedSide, listAnswer, buildLengths, roomCheck}
 use Rattle.rules.specs.Queries.{Mesh}
-use Rattle.rules.specs.Edits.{Edited, becomes, Lent, held, isThere, onceAccepted, newAnswer, editSizes, editLengths, editAnswer, editLeaves}
+use Rattle.rules.specs.Edits.{Edited, becomes, Lent, held, isThere, editSizes, editLengths, editAnswer, editLeaves}
 use Rattle.rules.specs.Swap.{third, swapped, isSwappable, swap}
 use Rattle.theory.specs.FitRows.{means-sizes}
-use Rattle.theory.specs.Answers.{list-never}
 use Rattle.theory.specs.Orders.{Good, good}
 use Rattle.theory.specs.Replacing.{Replaced, same-size, same-columns}
 use Rattle.theory.specs.Counts.{same-borders, same-edges}
 use Rattle.theory.specs.Swapping.{Diagonal, means-swappable, swapped-replaced}
 use Rattle.theory.specs.SwapBack.{other-diagonal, swapped-alike, crossed}
 use Rattle.theory.specs.SwapRefusals.{Unjoined, swapped-crowded, swapped-clashes}
-use Rattle.swap.specs.Swaps.{gone, unfit, swaps, becomes-swapped}
+use Rattle.swap.specs.Swaps.{gone, unfit, swaps, refuses-by, becomes-swapped}
 use Rattle.runs.specs.Runs.{BuildRun, RecoverRun, SwapRun, LeftBy}
 use Rattle.runs.specs.Demand3.{list-counted}
-use Rattle.runs.specs.RoundTrip.{room-for-all}
 use Rattle.runs.specs.Edits as edits
 use Rattle.runs.specs.Edits.{There, means-there, meshIn}
 
@@ -109,26 +107,13 @@ module _ (w : Lent) (s : ℕ) (a : Answer) (w′ : Lent) (run : SwapRun w s a w�
 
   -- n entries of B2e are always enough
   pub never-nine : n ≤ length (w .border) → (p q : ℕ) → a ≡ refused 9 p q → ⊥
-  unfolding editAnswer lengthChecks onceAccepted newAnswer
-  never-nine long p q g = go (editSizes w) (editLengths w true) refl refl (sym (run .answer) ∙ g)
+  never-nine long = edits.never-nine x w a w′ run (λ r e z. elim (refuses-by n L s e) [ inl i ↦ omega arith | inr i ↦ omega arith ]) sized
     where
-      new : Accepted n L → Test (isThere L s) → Test (isSwappable L s) → newAnswer (length (w .border)) x ≡ refused 9 p q → ⊥
-      new old (fail t f) c e = let h = sym (ap (newAnswer (length (w .border))) (gone n L s f)) ∙ e in let z : _≡_ {A = ℕ} 11 9 = cc in omega arith
-      new old (pass t f) (fail u i) e =
-          let h = sym (ap (newAnswer (length (w .border))) (unfit n L s f i)) ∙ e in let z : _≡_ {A = ℕ} 15 9 = cc in omega arith
-      new old (pass t f) (pass u i) e =
-          let d = means-swappable L s .says u in
-          room-for-all n L′ (length (w .border)) (new-sizes n L s old d) long p q (sym (ap (newAnswer (length (w .border))) (swaps n L s f i)) ∙ e)
-
-      past : T (sizesFit n L) → (y : Answer) → listAnswer n L ≡ y → onceAccepted y (newAnswer (length (w .border)) x) ≡ refused 9 p q → ⊥
-      past fit (refused r i j) e f = list-never n L 9 (λ r from to d e. e) p q (e ∙ f)
-      past fit (gives k e) o f = new (list-counted n L fit k e o .0) (test (isThere L s)) (test (isSwappable L s)) f
-
-      go : (sizes lengths : Bool) → editSizes w ≡ sizes → editLengths w true ≡ lengths
-          → lengthChecks sizes lengths (onceAccepted (listAnswer n L) (newAnswer (length (w .border)) x)) ≡ refused 9 p q → ⊥
-      go true true s l f = past (edits.held-sizes w true (rw s tt) (rw l tt)) (listAnswer n L) refl f
-      go true false s l f = let z : _≡_ {A = ℕ} 2 9 = cc in omega arith
-      go false l s m f = let z : _≡_ {A = ℕ} 1 9 = cc in omega arith
+      sized : (n′ : ℕ) (M : List ℕ) → Accepted n L → x ≡ becomes n′ M → T (sizesFit n′ M) × (n′ ≤ length (w .border))
+      sized n′ M old e =
+          let (d, vertices, same) = becomes-swapped n L s e in
+          let both : T (sizesFit n L′) × (n ≤ length (w .border)) = (new-sizes n L s old d, long) in
+          rw (same, vertices) at both
 
   -- an answer, exactly where none of the refusals is due
   pub record Swaps (k e : ℕ) : Type 0 where

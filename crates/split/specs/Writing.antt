@@ -18,14 +18,14 @@ use Rattle.theory.specs.FitRows.{Fit, means-fit}
 use Rattle.theory.specs.Entries.{length-v2e}
 use Rattle.theory.specs.Columns.{three-or-four, length-e2e}
 use Rattle.theory.specs.Answers.{room-enough}
-use Rattle.theory.specs.Edits.{onto-front, onto-length}
+use Rattle.theory.specs.Edits.{onto-front, onto-length, over-longer}
 use Rattle.theory.specs.Splitting.{split-fours, same-columns}
 use Rattle.theory.specs.SplitAnswers.{split-answer}
 use Rattle.theory.specs.SplitTests.{vertex, new}
 use Rattle.edits.specs.Holding.{lentEdit, holds, means-holds}
 use Rattle.edits.specs.Leaving.{after-answer}
 use Rattle.edits.specs.HeldRows.{held-elements, held-side, held-origin, held-destination}
-use Rattle.edits.specs.Fronts.{Ready, Fronted, over-longer}
+use Rattle.edits.specs.Fronts.{Ready, Fronted}
 use Rattle.split.specs.NewRows.{ToSplit, grown}
 use Rattle.split.specs.Stages.{ToWrite, placed, Written}
 

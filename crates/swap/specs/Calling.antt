@@ -16,7 +16,7 @@ use Rattle.theory.specs.FitRows.{Fit}
 use Rattle.theory.specs.Entries.{length-v2e}
 use Rattle.theory.specs.Columns.{length-e2e}
 use Rattle.theory.specs.Calls as calls
-use Rattle.theory.specs.Edits.{past-old, over-same}
+use Rattle.theory.specs.Edits.{past-old, over-longer}
 use Rattle.theory.specs.Replacing.{same-columns}
 use Rattle.theory.specs.Swapping.{swapped-replaced}
 use Rattle.build.specs.Building.{Checked}
@@ -33,7 +33,7 @@ unfolding onto
 front-over k k′ X buffer e f h =
     ap (λ (Y : List ℕ). Y ++ drop k buffer) (over-full k′ X (take k buffer) (e ∙ sym f) (e ∙ sym (length-take-le k buffer h)))
     ∙ ap (λ (i : ℕ). X ++ drop i buffer) (sym e)
-    ∙ sym (over-same k X buffer e)
+    ∙ sym (over-longer k X buffer (omega arith))
 
 -- where the edit gives a list, n stays, and so do the lengths
 pub record Stays (n : ℕ) (L : List ℕ) (n′ : ℕ) (L′ : List ℕ) : Type 0 where

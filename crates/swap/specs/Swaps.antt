@@ -2,6 +2,7 @@
 -- Assumes nothing.
 use mathlib.Core.Path.{_≡_, refl, ap, sym, _∙_}
 use mathlib.Core.Bool.{true, false}
+use mathlib.Core.Logic.{_⊎_, inl, inr}
 use mathlib.Core.List.{List, [], _∷_}
 use Prim.Native.Nat.{ℕ, _+_, _*_, _/_, _%_, _≤_}
 use native.Mathlib.Omega.{arith}
@@ -21,7 +22,7 @@ use Rattle.theory.specs.Steps.{previous-numbered}
 use Rattle.theory.specs.FitRows.{Fit, means-sizes}
 use Rattle.theory.specs.Entries.{length-v2e, means-border, wide-paired}
 use Rattle.theory.specs.Columns.{length-e2e}
-use Rattle.theory.specs.Edits.{over-same}
+use Rattle.theory.specs.Edits.{over-longer}
 use Rattle.theory.specs.Rows.{row-itself, rows-alike}
 use Rattle.theory.specs.Replacing.{Replaced, same-columns, same-size}
 use Rattle.theory.specs.Swapping.{Diagonal, means-swappable, across, swapped-replaced}
@@ -110,7 +111,7 @@ module _ {L : List ℕ} {s t : ℕ} (x : Flips L s t) where
 
 -- a buffer that holds as many entries as before, to its end
 pub over-full : (old : ℕ) (xs buffer : List ℕ) → length xs ≡ old → length xs ≡ length buffer → overOld old xs buffer ≡ xs
-over-full old xs buffer e f = over-same old xs buffer e ∙ onto-full xs buffer f
+over-full old xs buffer e f = over-longer old xs buffer (omega arith) ∙ onto-full xs buffer f
 
 -- the lists and lengths of a swap
 pub record ToSwap (n : ℕ) (L V2e E2e work : List ℕ) (s t : ℕ) : Type 0 where
@@ -201,7 +202,15 @@ module _ (n : ℕ) (L : List ℕ) (s : ℕ) where
   unfolding swap
   swaps e d = rw (e, d, swap)
 
-  -- a list comes only of a diagonal
+  -- it refuses by 11 or 15, and a list comes only of a diagonal
+  pub refuses-by : {r : ℕ} → swap n L s ≡ refuses r → (r ≡ 11) ⊎ (r ≡ 15)
+  refuses-by {r} e = go (test (isThere L s)) (test (isSwappable L s))
+    where
+      go : Test (isThere L s) → Test (isSwappable L s) → (r ≡ 11) ⊎ (r ≡ 15)
+      go (fail t f) c = let d = sym (gone f) ∙ e in inl cc
+      go (pass t f) (fail u g) = let d = sym (unfit f g) ∙ e in inr cc
+      go (pass t f) (pass u g) = let d = sym (swaps f g) ∙ e in let z : _≡_ {A = ℕ} 0 1 = cc in absurd (omega arith)
+
   pub becomes-swapped : {n′ : ℕ} {L′ : List ℕ} → swap n L s ≡ becomes n′ L′ → Diagonal L s × (n ≡ n′) × (swapped L s ≡ L′)
   becomes-swapped {n′} {L′} e = go (test (isThere L s)) (test (isSwappable L s))
     where

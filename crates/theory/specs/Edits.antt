@@ -58,10 +58,10 @@ module _ (old : ℕ) (xs buffer : List ℕ) where
   over-length h i =
       onto-length (xs ++ zeros) buffer (omega (arith, length-append xs zeros, length-replicate {A = ℕ} (old - length xs) 0))
 
-  -- where they are as many as the old ones, no 0 comes after them
-  pub over-same : length xs ≡ old → overOld old xs buffer ≡ onto xs buffer
+  -- where they are as many as the old ones, or more, no 0 comes after them
+  pub over-longer : old ≤ length xs → overOld old xs buffer ≡ onto xs buffer
   unfolding overOld
-  over-same e =
+  over-longer h =
       let z : old - length xs ≡ 0 = omega arith in
       ap (λ (k : ℕ). onto (xs ++ replicate k 0) buffer) z ∙ ap (λ (ys : List ℕ). onto ys buffer) (append-nil xs)
 

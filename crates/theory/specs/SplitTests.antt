@@ -2,6 +2,7 @@
 -- Assumes nothing.
 use mathlib.Core.Path.{_≡_, sym, _∙_}
 use mathlib.Core.Bool.{true, false}
+use mathlib.Core.Logic.{_⊎_, inl, inr}
 use mathlib.Core.List.{List}
 use Prim.Native.Nat.{ℕ, _+_, _*_, _≤_}
 use native.Mathlib.Omega.{arith}
@@ -67,7 +68,16 @@ module _ (w : Lent) (P : List Float) (s : ℕ) where
       unfolding split
       splits e = rw (there, fit, e, split)
 
-  -- a list comes only of a side that may be split, where there is room
+  -- it refuses by 11, 15 or 19, and a list comes only of a side that may be split, where there is room
+  pub refuses-by : {r : ℕ} → split w P s ≡ refuses r → (r ≡ 11) ⊎ ((r ≡ 15) ⊎ (r ≡ 19))
+  refuses-by {r} e = go (test (isThere (held w) s)) (test (isSplittable (held w) s)) (test (canHold w P (vertex w s) (new w s)))
+    where
+      go : Test (isThere (held w) s) → Test (isSplittable (held w) s) → Test (canHold w P (vertex w s) (new w s)) → (r ≡ 11) ⊎ ((r ≡ 15) ⊎ (r ≡ 19))
+      go (fail t f) b c = let d = sym (gone f) ∙ e in inl cc
+      go (pass t f) (fail u g) c = let d = sym (unfit f g) ∙ e in inr (inl cc)
+      go (pass t f) (pass u g) (fail v h) = let d = sym (full f g h) ∙ e in inr (inr cc)
+      go (pass t f) (pass u g) (pass v h) = let d = sym (splits f g h) ∙ e in let z : _≡_ {A = ℕ} 0 1 = cc in absurd (omega arith)
+
   pub record Splits (n : ℕ) (L : List ℕ) : Type 0 where
     pub splittable : Splittable (held w) s
     pub holds : Holds w P (vertex w s) (elements (new w s))
