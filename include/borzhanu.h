@@ -174,7 +174,7 @@ static inline const char *borzhanu_refusal_text(uint32_t refusal) {
     case BORZHANU_TEXT_UNFIT:
         return "the listing program's text isn't in form";
     case BORZHANU_EDGE_UNFIT:
-        return "the half-edge named is a border or has a quadrilateral beside it";
+        return "the side or code named is a border or has a quadrilateral beside it";
     case BORZHANU_NO_ROOM:
         return "n or m would be over 1,000,000, or a buffer other than B2e is too short for the new mesh";
     default:

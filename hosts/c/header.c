@@ -131,7 +131,7 @@ void check_header(void) {
     check_sentences();
     check_words(1, "more than 1,000,000 vertices or elements, or an element list not in fours");
     check_words(2, "a buffer's length doesn't fit n, m and the columns, or the columns told aren't 0, 3 or 4");
-    check_words(15, "the half-edge named is a border or has a quadrilateral beside it");
+    check_words(15, "the side or code named is a border or has a quadrilateral beside it");
     check_words(18, "two elements meet otherwise than at one corner or one edge");
     check_words(19, "n or m would be over 1,000,000, or a buffer other than B2e is too short for the new mesh");
     check_lengths();

@@ -33,7 +33,7 @@ pub fn midpoint(p: Point, q: Point) -> Point
 }
 
 // The point of vertex v.
-pub fn point_of(points: &[f64], v: u32) -> Point
+fn point_of(points: &[f64], v: u32) -> Point
     requires { ⌜ (1 ≤ v) × (3 * v ≤ length (now points)) ⌝ }
     ensures { λ r. ⌜ (r .x ≡ coordinate (now (points .entry)) v 0)
         × (r .y ≡ coordinate (now (points .entry)) v 1)
@@ -48,7 +48,7 @@ pub fn point_of(points: &[f64], v: u32) -> Point
 }
 
 // The point of the vertex after n others is replaced.
-pub fn put_point(n: u32, p: Point, points: &mut [f64])
+fn put_point(n: u32, p: Point, points: &mut [f64])
     requires { ⌜ 3 * n + 3 ≤ length (now points) ⌝ }
     ensures { λ r. ⌜ now (points .exit) ≡ withPoint n (p .x ∷ p .y ∷ p .z ∷ []) (now (points .entry)) ⌝ }
 {

@@ -1,5 +1,6 @@
 -- Document 01, "Housings to hold up to the rules": "The cases marked P are gathered in a small table, and a single proof shows that the
--- rules above give all its rows". The rows that requests of document 02 bring stand at its end.
+-- rules above give all its rows". The rows that requests of document 02 bring stand at its end, those
+-- of point 6, with floats in them, in a second table.
 -- Assumes nothing.
 use mathlib.Core.Bool.{Bool, true, false}
 use mathlib.Core.Option.{Option, none, some}

@@ -87,8 +87,9 @@ midpoint P a b =
 unfoldable pub withPoint : ℕ → List Float → List Float → List Float
 withPoint n p P = take (3 * n) P ++ (p ++ drop (3 * n + 3) P)
 
+abbrev pub placed : Lent → List Float → ℕ → List Float
+placed w P s = withPoint (w .n) (midpoint P (origin (held w) s) (destination (held w) s)) P
+
 -- what the call leaves of the points
 unfoldable pub splitPoints : Lent → List Float → ℕ → List Float
-splitPoints w P s =
-    let L = held w in
-    after (splitAnswer w P s) (withPoint (w .n) (midpoint P (origin L s) (destination L s)) P) P
+splitPoints w P s = after (splitAnswer w P s) (placed w P s) P

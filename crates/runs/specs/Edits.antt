@@ -54,6 +54,13 @@ meshIn w k =
       border = take k (w .border);
     }
 
+-- "entries past both the old and the new length stay untouched" (point 6): w and w′ are what was lent and what is left, k the entries of B2e
+pub record Untouched (w w′ : Lent) (k : ℕ) : Type 0 where
+  pub list : (p : ℕ) → 4 * w .m ≤ p → 4 * w′ .m ≤ p → drop p (w′ .list) ≡ drop p (w .list)
+  pub vertices : (p : ℕ) → w .n ≤ p → w′ .n ≤ p → drop p (w′ .vertices) ≡ drop p (w .vertices)
+  pub opposites : (p : ℕ) → columns (held w) * w .m ≤ p → columns (held w′) * w′ .m ≤ p → drop p (w′ .opposites) ≡ drop p (w .opposites)
+  pub border : (p : ℕ) → k ≤ p → drop p (w′ .border) ≡ drop p (w .border)
+
 -- what a run of build says of a list with fit sizes, in buffers of fit lengths
 build-tried : (n : ℕ) (L : List ℕ) (u : Buffers) (b : Answer) (u′ : Buffers) → BuildRun n L u b u′ → T (sizesFit n L) → T (buildLengths n L u)
     → b ≡ roomCheck (length (u .border)) (listAnswer n L)
@@ -176,7 +183,8 @@ module _ {others : Bool} (x : Edited) (w : Lent) (a : Answer) (w′ : Lent) (run
 
   -- 9 never comes where the edit doesn't refuse by it and B2e has an entry for each vertex of the new list
   pub never-nine : ((r : ℕ) → x ≡ refuses r → r ≡ 9 → ⊥)
-      → ((n′ : ℕ) (L′ : List ℕ) → Accepted (w .n) L → x ≡ becomes n′ L′ → T (sizesFit n′ L′) × (n′ ≤ length (w .border))) → (p q : ℕ) → a ≡ refused 9 p q → ⊥
+      → ((n′ : ℕ) (L′ : List ℕ) → Accepted (w .n) L → x ≡ becomes n′ L′ → T (sizesFit n′ L′) × (n′ ≤ length (w .border)))
+      → (p q : ℕ) → a ≡ refused 9 p q → ⊥
   unfolding editAnswer lengthChecks onceAccepted newAnswer
   never-nine own fit p q g = go (editSizes w) (editLengths w others) refl refl (sym (run .answer) ∙ g)
     where
@@ -257,29 +265,24 @@ module _ {others : Bool} (x : Edited) (w : Lent) (a : Answer) (w′ : Lent) (run
         let (f, g) = tables-come-back n′ L′ V2e E2e tables list work (omega (arith, fours, same-m)) (omega (arith, same-n, same-m)) b list′ work″ told in
         (f, g ∙ sym (ap (λ (M : Mesh). M .list) tables-left))
 
-    -- "entries past both the old and the new length stay untouched" (point 6)
-    pub record Untouched : Type 0 where
-      pub list : (p : ℕ) → 4 * w .m ≤ p → 4 * w′ .m ≤ p → drop p (w′ .list) ≡ drop p (w .list)
-      pub vertices : (p : ℕ) → w .n ≤ p → w′ .n ≤ p → drop p (w′ .vertices) ≡ drop p (w .vertices)
-      pub opposites : (p : ℕ) → columns L * w .m ≤ p → columns L′ * w′ .m ≤ p → drop p (w′ .opposites) ≡ drop p (w .opposites)
-      pub border : (p : ℕ) → k ≤ p → drop p (w′ .border) ≡ drop p (w .border)
-
-    pub untouched : Untouched
+    pub untouched : Untouched w w′ k
     unfolding written
     untouched =
+        let same : held w′ ≡ L′ = ap (λ (M : Mesh). M .list) tables-left in
         record {
           list = λ p h i. ap (λ (u : Lent). drop p (u .list)) left ∙ past-over (4 * w .m) L′ (w .list) p h (omega (arith, fours, same-m));
           vertices = λ p h i.
               ap (λ (u : Lent). drop p (u .vertices)) left ∙ past-over (w .n) (v2e n′ L′) (w .vertices) p h (omega (arith, length-v2e L′ n′, same-n));
           opposites = λ p h i.
-              let wide : length (e2e L′) ≡ columns L′ * w′ .m = length-e2e L′ ∙ ap (λ (m : ℕ). columns L′ * m) (sym same-m) in
+              let wide : length (e2e L′) ≡ columns (held w′) * w′ .m = length-e2e L′ ∙ (λ t. columns (sym same t) * sym same-m t) in
               ap (λ (u : Lent). drop p (u .opposites)) left ∙ past-over (columns L * w .m) (e2e L′) (w .opposites) p h (omega (arith, wide));
           border = λ p h. ap (λ (u : Lent). drop p (u .border)) left ∙ past-onto (b2e L′) (w .border) p (omega (arith, length-b2e L′, number));
         }
 
     -- where the buffers have room for the old list and for the new one, the next edit finds what it needs in them
-    pub fit-still : T (editSizes w) → T (editLengths w others) → length L′ ≤ length (w .list) → n′ ≤ length (w .vertices) → columns L′ * elements L′ ≤ length (w .opposites) → k ≤ length (w .border)
-        → n′ + 16 * elements L′ ≤ length (w .work) → (others′ : Bool) → T others′ → T (editSizes w′) × T (editLengths w′ others′) × (length (w′ .border) ≡ length (w .border))
+    pub fit-still : T (editSizes w) → T (editLengths w others) → length L′ ≤ length (w .list) → n′ ≤ length (w .vertices)
+        → columns L′ * elements L′ ≤ length (w .opposites) → k ≤ length (w .border) → n′ + 16 * elements L′ ≤ length (w .work)
+        → (others′ : Bool) → T others′ → T (editSizes w′) × T (editLengths w′ others′) × (length (w′ .border) ≡ length (w .border))
     unfolding countsFit hasRoom editSizes editLengths written
     fit-still sizes lengths list vertices opposites border work others′ more =
         let fit = good n′ L′ new .fit in

@@ -13,11 +13,12 @@ use lib.Seq.{length-take-le, take-append-seam, drop-append-add, getD-append-add,
 use Rattle.lists.specs.TestLaws.{means-le}
 use Rattle.rules.specs.Elements.{origin, destination}
 use Rattle.rules.specs.Refusals.{Answer, gives, after}
-use Rattle.rules.specs.Edits.{Lent, held}
-use Rattle.rules.specs.Split.{hasPoints, midway, coordinate, midpoint, withPoint, splitPoints}
+use Rattle.rules.specs.Edits.{Lent, held, editSizes, editLengths}
+use Rattle.rules.specs.Split.{hasPoints, midway, coordinate, midpoint, withPoint, placed, splitPoints}
 use Rattle.points.specs.Exact.{Equals, midway-exact}
 use Rattle.runs.specs.Runs.{SplitRun}
-use Rattle.runs.specs.Splits.{answered}
+use Rattle.runs.specs.Splits.{answered, one-more}
+use Rattle.runs.specs.Splits.{fit-still as splits-fit}
 
 -- the points with p for that of the vertex after n
 module _ (n : ℕ) (p P : List Float) (three : length p ≡ 3) (room : 3 * n + 3 ≤ length P) where
@@ -70,7 +71,8 @@ midpoint-number P a b (suc zero) h = refl
 midpoint-number P a b (suc (suc zero)) h = refl
 midpoint-number P a b (suc (suc (suc i))) h = absurd (omega arith)
 
-module _ (w : Lent) (P : List Float) (s : ℕ) (a : Answer) (w′ : Lent) (P′ : List Float) (run : SplitRun w P s a w′ P′) {k e : ℕ} (gave : a ≡ gives k e) where
+module _ (w : Lent) (P : List Float) (s : ℕ) (a : Answer) (w′ : Lent) (P′ : List Float) (run : SplitRun w P s a w′ P′)
+    {k e : ℕ} (gave : a ≡ gives k e) where
   abbrev n : ℕ
   n = w .n
 
@@ -85,31 +87,31 @@ module _ (w : Lent) (P : List Float) (s : ℕ) (a : Answer) (w′ : Lent) (P′ 
   unfolding midpoint
   three-new = refl
 
-  placed : P′ ≡ withPoint n (midpoint P from to) P
+  is : P′ ≡ withPoint n (midpoint P from to) P
   unfolding splitPoints after
-  placed = run .points ∙ ap (λ (y : Answer). after y (withPoint n (midpoint P from to) P) P) (sym (run .edit .answer) ∙ gave)
+  is = run .points ∙ ap (λ (y : Answer). after y (placed w P s) P) (sym (run .edit .answer) ∙ gave)
 
   room : 3 * n + 3 ≤ length P
   room = omega (arith, answered w P s a w′ P′ run .0 gave .holds .points)
 
   -- "old points stay", all numbers before the new ones, and those after them
   pub points-before : take (3 * n) P′ ≡ take (3 * n) P
-  points-before = ap (take (3 * n)) placed ∙ with-front n (midpoint P from to) P three-new room
+  points-before = ap (take (3 * n)) is ∙ with-front n (midpoint P from to) P three-new room
 
   pub points-after : drop (3 * n + 3) P′ ≡ drop (3 * n + 3) P
-  points-after = ap (drop (3 * n + 3)) placed ∙ with-rest n (midpoint P from to) P three-new room
+  points-after = ap (drop (3 * n + 3)) is ∙ with-rest n (midpoint P from to) P three-new room
 
   pub points-length : length P′ ≡ length P
-  points-length = ap length placed ∙ with-length n (midpoint P from to) P three-new room
+  points-length = ap length is ∙ with-length n (midpoint P from to) P three-new room
 
   pub old-point : (v i : ℕ) → 1 ≤ v → v ≤ n → i < 3 → coordinate P′ v i ≡ coordinate P v i
-  old-point v i l h j = ap (λ (Q : List Float). coordinate Q v i) placed ∙ with-old n (midpoint P from to) P three-new room v i l h j
+  old-point v i l h j = ap (λ (Q : List Float). coordinate Q v i) is ∙ with-old n (midpoint P from to) P three-new room v i l h j
 
   -- number i of the new point; and where the numbers of the ends are whole
   module _ (i : ℕ) (h : i < 3) where
     pub new-point : coordinate P′ (n + 1) i ≡ midway (coordinate P from i) (coordinate P to i)
     new-point =
-        ap (λ (Q : List Float). coordinate Q (n + 1) i) placed
+        ap (λ (Q : List Float). coordinate Q (n + 1) i) is
         ∙ with-new n (midpoint P from to) P three-new room i h
         ∙ midpoint-number P from to i h
 
@@ -118,7 +120,13 @@ module _ (w : Lent) (P : List Float) (s : ℕ) (a : Answer) (w′ : Lent) (P′ 
     exactly-half x y u v p q =
         subst (λ (z : Float). Equals z (x +ℤ y) 2) (sym new-point) (midway-exact (coordinate P from i) (coordinate P to i) x y u v p q)
 
-  -- they serve the n + 1 vertices that there are now
-  pub points-enough : T (hasPoints (n + 1) P′)
+  -- they serve the vertices that there are now: checks 1 and 2 of the next split find nothing
+  pub points-enough : T (hasPoints (w′ .n) P′)
   unfolding hasPoints
-  points-enough = means-le (3 * (n + 1)) (length P′) .shows (omega (arith, room, points-length))
+  points-enough = means-le (3 * w′ .n) (length P′) .shows (omega (arith, room, points-length, grows))
+    where
+      grows : w′ .n ≡ n + 1
+      grows = one-more w P s a w′ P′ run gave
+
+  pub fit-still : T (editSizes w′) × T (editLengths w′ (hasPoints (w′ .n) P′)) × (length (w′ .border) ≡ length (w .border))
+  fit-still = splits-fit w P s a w′ P′ run gave (hasPoints (w′ .n) P′) points-enough

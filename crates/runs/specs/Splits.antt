@@ -2,7 +2,7 @@
 -- promises stands in `Edits`.
 -- Assumes nothing.
 use mathlib.Core.Path.{_≡_, ap, sym, _∙_}
-use mathlib.Core.Bool.{true}
+use mathlib.Core.Bool.{Bool, true}
 use mathlib.Core.Logic.{inl, inr, _↔_}
 use mathlib.Core.List.{List}
 use Prim.Native.Nat.{ℕ, _+_, _*_, _≤_, _<_}
@@ -12,13 +12,13 @@ use lib.Ieee.{Float}
 use lib.ListN.{length}
 use Rattle.lists.specs.TestLaws.{true-of, false-of, means-not}
 use Rattle.lists.specs.SearchLaws.{le-or-lt}
-use Rattle.rules.specs.Elements.{elements, origin, destination}
+use Rattle.rules.specs.Elements.{elements}
 use Rattle.rules.specs.Pairing.{Accepted, sizesFit}
 use Rattle.rules.specs.Tables.{partner, borders, columns, edges}
 use Rattle.rules.specs.Refusals.{Answer, gives, refused, listAnswer, roomCheck, after}
 use Rattle.rules.specs.Queries.{Mesh}
 use Rattle.rules.specs.Edits.{becomes, refuses, Lent, held, isThere, editSizes, editLengths}
-use Rattle.rules.specs.Split.{isSplittable, hasPoints, canHold, split, midpoint, withPoint, splitPoints}
+use Rattle.rules.specs.Split.{isSplittable, hasPoints, canHold, split, placed, splitPoints}
 use Rattle.theory.specs.FitRows.{means-sizes}
 use Rattle.theory.specs.Answers.{room-enough, room-short, gives-refused}
 use Rattle.theory.specs.Orders.{Good, good}
@@ -30,14 +30,14 @@ use Rattle.theory.specs.SplitTests.{Holds, means-hold, vertex, new, gone, unfit
 use Rattle.runs.specs.Runs.{RecoverRun, SplitRun, LeftBy}
 use Rattle.runs.specs.Demand3.{list-counted}
 use Rattle.runs.specs.Edits as edits
-use Rattle.runs.specs.Edits.{There, means-there, meshIn}
+use Rattle.runs.specs.Edits.{There, means-there, meshIn, Untouched}
 
 -- a list that comes of an accepted one has fit sizes
 pub split-sizes : (w : Lent) (P : List Float) (s : ℕ) {n : ℕ} {L : List ℕ} → Accepted (w .n) (held w) → split w P s ≡ becomes n L → T (sizesFit n L)
 split-sizes w P s old e =
     let x = becomes-split w P s e in
-    let fours = split-fours (w .n) (held w) (good (w .n) (held w) old .fit) s (x .splittable) (vertex w s) in
-    let sizes = means-sizes (vertex w s) (new w s) .shows (x .holds .vertices, (x .holds .size, fours)) in
+    let fours = split-fours (w .n) (held w) (good (w .n) (held w) old .fit) s (x .splittable) (vertex w) in
+    let sizes = means-sizes (vertex w) (new w s) .shows (x .holds .vertices, (x .holds .size, fours)) in
     rw (x .same-list, x .same-n) at sizes
 
 module _ (w : Lent) (P : List Float) (s : ℕ) (a : Answer) (w′ : Lent) (P′ : List Float) (run : SplitRun w P s a w′ P′) where
@@ -60,8 +60,8 @@ module _ (w : Lent) (P : List Float) (s : ℕ) (a : Answer) (w′ : Lent) (P′ 
   may : Splittable L s → isSplittable L s ≡ true
   may x = true-of (isSplittable L s) (means-splittable L s .shows x)
 
-  edited : Splittable L s → Holds w P (vertex w s) (elements L′) → split w P s ≡ becomes (vertex w s) L′
-  edited x h = splits w P s (split-there x) (may x) (true-of (canHold w P (vertex w s) L′) (means-hold w P (vertex w s) L′ .shows h))
+  edited : Splittable L s → Holds w P (vertex w) (elements L′) → split w P s ≡ becomes (vertex w) L′
+  edited x h = splits w P s (split-there x) (may x) (true-of (canHold w P (vertex w) L′) (means-hold w P (vertex w) L′ .shows h))
 
   -- each refusal, where checks 1 and 2 find nothing and the old list is accepted; `edits.old-refused` is of one that isn't
   module _ (sizes : T (editSizes w)) (lengths : T (editLengths w (hasPoints n P))) (old : Accepted n L) where
@@ -77,13 +77,13 @@ module _ (w : Lent) (P : List Float) (s : ℕ) (a : Answer) (w′ : Lent) (P′ 
 
     module _ (x : Splittable L s) where
       -- "19: n or m would pass its maximum, or a lent buffer but B2e can't hold the new length"
-      pub gives-19 : (Holds w P (vertex w s) (elements L′) → ⊥) → a ≡ refused 19 0 0
+      pub gives-19 : (Holds w P (vertex w) (elements L′) → ⊥) → a ≡ refused 19 0 0
       gives-19 f =
-          let short = false-of (canHold w P (vertex w s) L′) (means-not (means-hold w P (vertex w s) L′) .shows f) in
+          let short = false-of (canHold w P (vertex w) L′) (means-not (means-hold w P (vertex w) L′) .shows f) in
           turned-away (full w P s (split-there x) (may x) short)
 
       -- of the new list only 9 can be said, "by the new k"
-      module _ (h : Holds w P (vertex w s) (elements L′)) where
+      module _ (h : Holds w P (vertex w) (elements L′)) where
         counts : a ≡ roomCheck (length (w .border)) (gives (borders L′) (edges L′))
         counts =
             edits.new-answer (split w P s) w a w′ (run .edit) sizes lengths old (edited x h)
@@ -117,7 +117,7 @@ module _ (w : Lent) (P : List Float) (s : ℕ) (a : Answer) (w′ : Lent) (P′ 
     pub lengths : T (editLengths w (hasPoints n P))
     pub old : Accepted n L
     pub splittable : Splittable L s
-    pub holds : Holds w P (vertex w s) (elements L′)
+    pub holds : Holds w P (vertex w) (elements L′)
     pub borders-are : k ≡ borders L′
     pub edges-are : e ≡ edges L′
     pub room : k ≤ length (w .border)
@@ -149,7 +149,7 @@ module _ (w : Lent) (P : List Float) (s : ℕ) (a : Answer) (w′ : Lent) (P′ 
   -- a refusal leaves the points too as they were
   pub points-stay : {r p q : ℕ} → a ≡ refused r p q → P′ ≡ P
   unfolding splitPoints after
-  points-stay e = run .points ∙ ap (λ (y : Answer). after y (withPoint n (midpoint P (origin L s) (destination L s)) P) P) (sym (run .edit .answer) ∙ e)
+  points-stay e = run .points ∙ ap (λ (y : Answer). after y (placed w P s) P) (sym (run .edit .answer) ∙ e)
 
   module _ {k e : ℕ} (gave : a ≡ gives k e) where
     y : Answered k e
@@ -181,6 +181,9 @@ module _ (w : Lent) (P : List Float) (s : ℕ) (a : Answer) (w′ : Lent) (P′ 
     pub same-columns : columns (held w′) ≡ columns L
     same-columns = ap columns list-left ∙ columns-stay n L (g .fit) s (y .splittable) (n + 1)
 
+    pub one-more : w′ .n ≡ n + 1
+    one-more = edits.same-n (split w P s) w a w′ (run .edit) gave made accepted (y .borders-are)
+
     -- n, m, k and the number of edges grow by 1, 2, 0 and 3 on an inner side, and by 1, 1, 1 and 2 on a border side
     pub record GrownBy (m′ k′ e′ : ℕ) : Type 0 where
       pub vertices : w′ .n ≡ n + 1
@@ -192,8 +195,9 @@ module _ (w : Lent) (P : List Float) (s : ℕ) (a : Answer) (w′ : Lent) (P′ 
     grown-by {m′} x =
         let (long, rows) = edits.held-rows w _ (y .sizes) (y .lengths) in
         record {
-          vertices = edits.same-n (split w P s) w a w′ (run .edit) gave made accepted (y .borders-are);
-          elements = edits.same-m (split w P s) w a w′ (run .edit) gave made accepted (y .borders-are) ∙ x .elements-by ∙ ap (λ (i : ℕ). i + m′) rows;
+          vertices = one-more;
+          elements =
+              edits.same-m (split w P s) w a w′ (run .edit) gave made accepted (y .borders-are) ∙ x .elements-by ∙ ap (λ (i : ℕ). i + m′) rows;
           borders = y .borders-are ∙ x .borders-by;
           edges = y .edges-are ∙ x .edges-by;
         }
@@ -204,11 +208,16 @@ module _ (w : Lent) (P : List Float) (s : ℕ) (a : Answer) (w′ : Lent) (P′ 
     pub border-grows : partner L s ≡ 0 → GrownBy 1 1 2
     border-grows z = grown-by (grown-border n L g (y .old .meeting) s (y .splittable) (y .holds .vertices) (y .holds .size) z)
 
-    -- and the next split finds what it needs, where the buffers have room for it
-    pub fit-still : T (hasPoints (n + 1) P′) → T (editSizes w′) × T (editLengths w′ (hasPoints (n + 1) P′)) × (length (w′ .border) ≡ length (w .border))
-    fit-still points =
+    -- "entries past both the old and the new length stay untouched"
+    pub untouched : Untouched w w′ k
+    untouched = edits.untouched (split w P s) w a w′ (run .edit) gave made accepted (y .borders-are)
+
+    -- checks 1 and 2 of the next edit find nothing, whatever else it is lent
+    pub fit-still : (others : Bool) → T others → T (editSizes w′) × T (editLengths w′ others) × (length (w′ .border) ≡ length (w .border))
+    fit-still =
         let h = y .holds in
-        let wide : columns L′ * elements L′ ≡ columns L * elements L′ = ap (λ (c : ℕ). c * elements L′) (columns-stay n L (g .fit) s (y .splittable) (n + 1)) in
+        let same = columns-stay n L (g .fit) s (y .splittable) (n + 1) in
+        let wide : columns L′ * elements L′ ≡ columns L * elements L′ = ap (λ (c : ℕ). c * elements L′) same in
+        let long = split-fours n L (g .fit) s (y .splittable) (n + 1) in
         edits.fit-still (split w P s) w a w′ (run .edit) gave made accepted (y .borders-are) (y .sizes) (y .lengths)
-        (omega (arith, h .list, split-fours n L (g .fit) s (y .splittable) (n + 1))) (h .v2e) (omega (arith, h .e2e, wide)) (y .room) (h .work)
-        (hasPoints (n + 1) P′) points
+        (omega (arith, h .list, long)) (h .v2e) (omega (arith, h .e2e, wide)) (y .room) (h .work)

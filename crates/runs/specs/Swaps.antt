@@ -28,7 +28,7 @@ use Rattle.swap.specs.Swaps.{gone, unfit, swaps, refuses-by, becomes-swapped}
 use Rattle.runs.specs.Runs.{BuildRun, RecoverRun, SwapRun, LeftBy}
 use Rattle.runs.specs.Demand3.{list-counted}
 use Rattle.runs.specs.Edits as edits
-use Rattle.runs.specs.Edits.{There, means-there, meshIn}
+use Rattle.runs.specs.Edits.{There, means-there, meshIn, Untouched}
 
 -- a diagonal is there, and is swapped
 diagonal-swaps : (n : ℕ) (L : List ℕ) (s : ℕ) → Diagonal L s → swap n L s ≡ becomes n (swapped L s)
@@ -172,6 +172,10 @@ module _ (w : Lent) (s : ℕ) (a : Answer) (w′ : Lent) (run : SwapRun w s a w�
       y .borders-are ∙ borders-stay n L s (y .old) (y .diagonal) (y .new),
       y .edges-are ∙ edges-stay n L s (y .old) (y .diagonal) (y .new),
     )
+
+    -- what lies past list and tables stays
+    pub untouched : Untouched w w′ k
+    untouched = edits.untouched x w a w′ run gave edited (y .new) (y .borders-are)
 
     -- and the next edit finds what it needs
     pub fit-still : T (editSizes w′) × T (editLengths w′ true) × (length (w′ .border) ≡ length (w .border))

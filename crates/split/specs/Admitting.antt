@@ -44,7 +44,7 @@ module _ (w : Lent) (P : List Float) (s : ℕ) where
     unfit e = turned-away (tests.unfit w P s there e)
 
     module _ (fit : isSplittable (held w) s ≡ true) where
-      pub full : {a : Answer} → canHold w P (vertex w s) (new w s) ≡ false → a ≡ refused 19 0 0 → Admitted w P s a
+      pub full : {a : Answer} → canHold w P (vertex w) (new w s) ≡ false → a ≡ refused 19 0 0 → Admitted w P s a
       full e = turned-away (tests.full w P s there fit e)
 
       -- the list was accepted, and E2e has t for the side
@@ -59,9 +59,9 @@ module _ (w : Lent) (P : List Float) (s : ℕ) where
             }
 
         -- 19 finds nothing
-        module _ (can : canHold w P (vertex w s) (new w s) ≡ true) where
-          holds : Holds w P (vertex w s) (elements (new w s))
-          holds = means-hold w P (vertex w s) (new w s) .says (rw can tt)
+        module _ (can : canHold w P (vertex w) (new w s) ≡ true) where
+          holds : Holds w P (vertex w) (elements (new w s))
+          holds = means-hold w P (vertex w) (new w s) .says (rw can tt)
 
           -- the new k
           borders-then : borders (new w s) ≡ byBorder t (k + 1) k

@@ -9,11 +9,11 @@ use lib.ListN.{length, replicate}
 use Rattle.lists.specs.Tests.{both}
 use Rattle.rules.specs.Refusals.{Answer, refused, after}
 use Rattle.rules.specs.Edits.{Lent, withWork, hasRoom, editSizes, editLengths, editAnswer, editLeaves}
-use Rattle.rules.specs.Split.{hasPoints, split, splitAnswer, splitLeaves, splitPoints}
+use Rattle.rules.specs.Split.{hasPoints, split, splitAnswer, splitLeaves, splitPoints, placed}
 use Rattle.theory.specs.Calls as calls
 use Rattle.edits.specs.Leaving.{after-refusal, work-apart, rest, leavesBy, unsized, unlengthened}
 use Rattle.edits.specs.Holding.{holds}
-use Rattle.split.specs.Stages.{placed, Outcome}
+use Rattle.split.specs.Stages.{Outcome}
 
 -- check 2, by the points and by the other lengths
 module _ (w : Lent) where

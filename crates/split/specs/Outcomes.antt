@@ -12,14 +12,14 @@ use Rattle.rules.specs.Elements.{elements}
 use Rattle.rules.specs.Tables.{columns}
 use Rattle.rules.specs.Refusals.{Answer, gives, refused, after}
 use Rattle.rules.specs.Edits.{becomes, refuses, Lent, withWork, onceAccepted, newAnswer, isThere, countsFit, held, hasRoom, written}
-use Rattle.rules.specs.Split.{isSplittable, hasPoints, canHold, split}
+use Rattle.rules.specs.Split.{isSplittable, hasPoints, canHold, split, placed}
 use Rattle.theory.specs.Answers.{gives-refused, given-accepted}
 use Rattle.theory.specs.SplitTests.{vertex, new}
 use Rattle.build.specs.Building.{Scratched}
 use Rattle.edits.specs.Leaving.{after-refusal, after-answer, rest, refused-left, old-refused, new-tried}
 use Rattle.edits.specs.Trying.{number, tabled}
 use Rattle.edits.specs.Fronts.{Ready, checked-front}
-use Rattle.split.specs.Stages.{Admissible, ToWrite, Admitted, denied, allowed, placed, Written, Outcome}
+use Rattle.split.specs.Stages.{Admissible, ToWrite, Admitted, denied, allowed, Written, Outcome}
 
 -- of the work buffer, the edit reads the length only
 module _ (w : Lent) (P : List Float) (s : ℕ) (W : List ℕ) (long : length W ≡ length (w .work)) where
@@ -41,12 +41,12 @@ module _ (w : Lent) (P : List Float) (s : ℕ) (W : List ℕ) (long : length W �
       ap
       (λ (b : Bool). elim (isThere (held w) s) [
         | true ↦ elim (isSplittable (held w) s) [
-          | true ↦ elim b [ true ↦ becomes (vertex w s) (new w s) | false ↦ refuses 19 ]
+          | true ↦ elim b [ true ↦ becomes (vertex w) (new w s) | false ↦ refuses 19 ]
           | false ↦ refuses 15
         ]
         | false ↦ refuses 11
       ])
-      (can-hold-alike (vertex w s) (new w s))
+      (can-hold-alike (vertex w) (new w s))
 
 -- the front of the list, to p, is what is held
 module _ (w : Lent) (P : List Float) (s : ℕ) {c : ℕ} (x : Ready w c) {p : ℕ} (rows : p ≡ 4 * w .m) {t : Answer} {W : List ℕ}
@@ -116,7 +116,7 @@ module _ (w : Lent) (P : List Float) (s : ℕ) {c : ℕ} (x : Ready w c) {p : �
 
     pub all-done : {i j : ℕ} → ToWrite w₁ P s i j → {a : Answer} {w′ : Lent} {P′ : List Float} → Written w₀ P s a w′ P′ → Outcome w P s a w′ P′
     all-done y z =
-        let new-list = becomes (vertex w s) (new w s) in
+        let new-list = becomes (vertex w) (new w s) in
         record {
           left =
               new-tried (w .n) (held w) (split w P s) (length (w .border)) (scratch .stated) counts (sym same-edit ∙ y .edit)

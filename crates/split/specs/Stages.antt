@@ -5,12 +5,12 @@ use mathlib.Core.List.{List, []}
 use Prim.Native.Nat.{ℕ, _*_, _≤_}
 use lib.Ieee.{Float}
 use lib.ListN.{length, take}
-use Rattle.rules.specs.Elements.{elements, origin, destination}
+use Rattle.rules.specs.Elements.{elements}
 use Rattle.rules.specs.Pairing.{Accepted}
 use Rattle.rules.specs.Tables.{borders, edges, columns}
 use Rattle.rules.specs.Refusals.{Answer, gives, refused, listAnswer, roomCheck, after}
 use Rattle.rules.specs.Edits.{becomes, Lent, withWork, held, newAnswer, written}
-use Rattle.rules.specs.Split.{hasPoints, split, midpoint, withPoint}
+use Rattle.rules.specs.Split.{hasPoints, split, placed}
 use Rattle.theory.specs.SplitTests.{Holds, vertex, new}
 use Rattle.edits.specs.Leaving.{Left, rest}
 use Rattle.edits.specs.Trying.{Tabled}
@@ -30,24 +30,20 @@ pub record ToWrite (w : Lent) (P : List Float) (s t m′ : ℕ) : Type 0 where
   pub inside : 4 * w .m ≤ length (w .list)
   pub cuttable : Cuttable (held w) s t
   pub counted : m′ ≡ elements (new w s)
-  pub holds : Holds w P (vertex w s) (elements (new w s))
+  pub holds : Holds w P (vertex w) (elements (new w s))
   pub room : borders (new w s) ≤ length (w .border)
-  pub edit : split w P s ≡ becomes (vertex w s) (new w s)
+  pub edit : split w P s ≡ becomes (vertex w) (new w s)
 
 -- what 11, 15, 19 and 9 say
 pub data Admitted (w : Lent) (P : List Float) (s : ℕ) (a : Answer) : Type 0 where
   denied : {r p q : ℕ} → a ≡ refused r p q → a ≡ newAnswer (length (w .border)) (split w P s) → Admitted w P s a
   allowed : {t m′ : ℕ} → a ≡ gives t m′ → ToWrite w P s t m′ → Admitted w P s a
 
--- the points with that of the new vertex
-abbrev pub placed : Lent → List Float → ℕ → List Float
-placed w P s = withPoint (w .n) (midpoint P (origin (held w) s) (destination (held w) s)) P
-
 -- what is left where nothing refuses; the work apart
 pub record Written (w : Lent) (P : List Float) (s : ℕ) (a : Answer) (w′ : Lent) (P′ : List Float) : Type 0 where
-  pub stated : a ≡ roomCheck (length (w .border)) (listAnswer (vertex w s) (new w s))
+  pub stated : a ≡ roomCheck (length (w .border)) (listAnswer (vertex w) (new w s))
   pub answer : a ≡ gives (borders (new w s)) (edges (new w s))
-  pub leaves : w′ ≡ written w (becomes (vertex w s) (new w s))
+  pub leaves : w′ ≡ written w (becomes (vertex w) (new w s))
   pub points : P′ ≡ placed w P s
 
 -- what follows checks 1 and 2 leaves; the work apart

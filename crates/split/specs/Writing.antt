@@ -12,7 +12,7 @@ use Rattle.rules.specs.Elements.{Side, origin, next, destination}
 use Rattle.rules.specs.Tables.{borders, edges, columns, e2e, v2e}
 use Rattle.rules.specs.Refusals.{Answer, gives, roomCheck, onto}
 use Rattle.rules.specs.Edits.{Lent, withWork, held, written}
-use Rattle.rules.specs.Split.{midpoint, withPoint}
+use Rattle.rules.specs.Split.{midpoint, withPoint, placed}
 use Rattle.theory.specs.Steps.{next-side}
 use Rattle.theory.specs.FitRows.{Fit, means-fit}
 use Rattle.theory.specs.Entries.{length-v2e}
@@ -27,7 +27,7 @@ use Rattle.edits.specs.Leaving.{after-answer}
 use Rattle.edits.specs.HeldRows.{held-elements, held-side, held-origin, held-destination}
 use Rattle.edits.specs.Fronts.{Ready, Fronted}
 use Rattle.split.specs.NewRows.{ToSplit, grown}
-use Rattle.split.specs.Stages.{ToWrite, placed, Written}
+use Rattle.split.specs.Stages.{ToWrite, Written}
 
 more-entries : (c : ℕ) {m m′ : ℕ} → (c ≡ 3) ⊎ (c ≡ 4) → m ≤ m′ → c * m ≤ c * m′
 more-entries c (inl e) h = rw e (omega arith)
@@ -41,7 +41,7 @@ module _ (w : Lent) (P : List Float) {s t m′ : ℕ} (x : ToWrite w P s t m′)
   L′ = new w s
 
   abbrev v : ℕ
-  v = vertex w s
+  v = vertex w
 
   fit : Fit (w .n) L
   fit = means-fit (w .n) L .says (x .accepted .rows)

@@ -8,7 +8,7 @@ use Prim.Native.Nat.{ℕ, _+_, _*_, _-_, _/_, _%_, _≤_, _<_}
 use native.Mathlib.Omega.{arith}
 use lib.Dec.{T, eqb}
 use lib.ListN.{length, length-append, length-set, List·getD-append}
-use lib.Seq.{getD-append-add, ext-getD}
+use lib.Seq.{getD-append-add}
 use Rattle.lists.specs.TestLaws.{means-not, means-eq}
 use Rattle.lists.specs.Search.{at}
 use Rattle.lists.specs.SearchLaws.{le-or-lt}
@@ -248,21 +248,6 @@ module _ {L : List ℕ} {r : ℕ} (v : ℕ) (y : Halvable L r) where
           third = ap (origin M) (previous-stays q d) ∙ origin-elsewhere (previous L q) (λ e. apart (sym (j .same) ∙ e)) (j .side) ∙ x .third;
           triangle = sides-stay (q / 8) (element-of L q d) ∙ x .triangle;
         }
-
-  -- the rows of other elements stay
-  pub row-elsewhere : (f : ℕ) → Element L f → (f ≡ r / 8 → ⊥) → row M f ≡ row L f
-  unfolding slot
-  row-elsewhere f el apart =
-      let long : length (row L f) ≡ 4 = length-part (4 * (f - 1)) 4 L (omega (arith, el, y .fours)) in
-      let long′ : length (row M f) ≡ 4 = length-part (4 * (f - 1)) 4 M (omega (arith, el, halved-length, y .fours)) in
-      let i = next-numbered L r (y .side) in
-      let k = side-facts L (next L r) (i .side) in
-      ext-getD 0 (row M f) (row L f) (long′ ∙ sym long)
-      (λ j h.
-      let b : j < 4 = omega arith in
-      at-part (4 * (f - 1)) 4 M j b
-      ∙ at-stays (4 * (f - 1) + j) (omega (arith, el, y .fours)) (λ e. apart (omega (arith, el, k, i .same)))
-      ∙ sym (at-part (4 * (f - 1)) 4 L j b))
 
   -- no fourth side comes or goes
   pub columns-stay : columns M ≡ columns L

@@ -42,12 +42,11 @@ means-hold w P n L =
     }
 
 -- the new vertex, and the new list
-module _ (w : Lent) (s : ℕ) where
-  abbrev pub vertex : ℕ
-  vertex = w .n + 1
+abbrev pub vertex : Lent → ℕ
+vertex w = w .n + 1
 
-  abbrev pub new : List ℕ
-  new = splitAt (held w) s vertex
+abbrev pub new : Lent → ℕ → List ℕ
+new w s = splitAt (held w) s (vertex w)
 
 module _ (w : Lent) (P : List Float) (s : ℕ) where
   pub gone : isThere (held w) s ≡ false → split w P s ≡ refuses 11
@@ -60,19 +59,19 @@ module _ (w : Lent) (P : List Float) (s : ℕ) where
     unfit e = rw (there, e, split)
 
     module _ (fit : isSplittable (held w) s ≡ true) where
-      pub full : canHold w P (vertex w s) (new w s) ≡ false → split w P s ≡ refuses 19
+      pub full : canHold w P (vertex w) (new w s) ≡ false → split w P s ≡ refuses 19
       unfolding split
       full e = rw (there, fit, e, split)
 
-      pub splits : canHold w P (vertex w s) (new w s) ≡ true → split w P s ≡ becomes (vertex w s) (new w s)
+      pub splits : canHold w P (vertex w) (new w s) ≡ true → split w P s ≡ becomes (vertex w) (new w s)
       unfolding split
       splits e = rw (there, fit, e, split)
 
   -- it refuses by 11, 15 or 19, and a list comes only of a side that may be split, where there is room
   pub refuses-by : {r : ℕ} → split w P s ≡ refuses r → (r ≡ 11) ⊎ ((r ≡ 15) ⊎ (r ≡ 19))
-  refuses-by {r} e = go (test (isThere (held w) s)) (test (isSplittable (held w) s)) (test (canHold w P (vertex w s) (new w s)))
+  refuses-by {r} e = go (test (isThere (held w) s)) (test (isSplittable (held w) s)) (test (canHold w P (vertex w) (new w s)))
     where
-      go : Test (isThere (held w) s) → Test (isSplittable (held w) s) → Test (canHold w P (vertex w s) (new w s)) → (r ≡ 11) ⊎ ((r ≡ 15) ⊎ (r ≡ 19))
+      go : Test (isThere (held w) s) → Test (isSplittable (held w) s) → Test (canHold w P (vertex w) (new w s)) → (r ≡ 11) ⊎ ((r ≡ 15) ⊎ (r ≡ 19))
       go (fail t f) b c = let d = sym (gone f) ∙ e in inl cc
       go (pass t f) (fail u g) c = let d = sym (unfit f g) ∙ e in inr (inl cc)
       go (pass t f) (pass u g) (fail v h) = let d = sym (full f g h) ∙ e in inr (inr cc)
@@ -80,17 +79,17 @@ module _ (w : Lent) (P : List Float) (s : ℕ) where
 
   pub record Splits (n : ℕ) (L : List ℕ) : Type 0 where
     pub splittable : Splittable (held w) s
-    pub holds : Holds w P (vertex w s) (elements (new w s))
-    pub same-n : vertex w s ≡ n
+    pub holds : Holds w P (vertex w) (elements (new w s))
+    pub same-n : vertex w ≡ n
     pub same-list : new w s ≡ L
 
   pub becomes-split : {n : ℕ} {L : List ℕ} → split w P s ≡ becomes n L → Splits n L
-  becomes-split {n} {L} e = go (test (isThere (held w) s)) (test (isSplittable (held w) s)) (test (canHold w P (vertex w s) (new w s)))
+  becomes-split {n} {L} e = go (test (isThere (held w) s)) (test (isSplittable (held w) s)) (test (canHold w P (vertex w) (new w s)))
     where
       none : {r : ℕ} → split w P s ≡ refuses r → Splits n L
       none f = let g = sym f ∙ e in let z : _≡_ {A = ℕ} 0 1 = cc in absurd (omega arith)
 
-      go : Test (isThere (held w) s) → Test (isSplittable (held w) s) → Test (canHold w P (vertex w s) (new w s)) → Splits n L
+      go : Test (isThere (held w) s) → Test (isSplittable (held w) s) → Test (canHold w P (vertex w) (new w s)) → Splits n L
       go (fail t f) b c = none (gone f)
       go (pass t f) (fail u g) c = none (unfit f g)
       go (pass t f) (pass u g) (fail v h) = none (full f g h)
@@ -98,7 +97,7 @@ module _ (w : Lent) (P : List Float) (s : ℕ) where
           let d = sym (splits f g h) ∙ e in
           record {
             splittable = means-splittable (held w) s .says u;
-            holds = means-hold w P (vertex w s) (new w s) .says v;
+            holds = means-hold w P (vertex w) (new w s) .says v;
             same-n = cc;
             same-list = cc;
           }

@@ -9,7 +9,7 @@ use native.Mathlib.Omega.{arith}
 use lib.Dec.{eqb}
 use lib.ListN.{length}
 use Rattle.lists.specs.TestLaws.{true-of, false-of, Means, decide, means-itself, means-both, means-either, means-not, means-eq, zero-or}
-use Rattle.rules.specs.Elements.{maxVertex, maxElement, elements, row, sides, isSide, Side, origin, destination, next, previous}
+use Rattle.rules.specs.Elements.{maxVertex, maxElement, elements, sides, isSide, Side, origin, destination, previous}
 use Rattle.rules.specs.Split.{halved, splitAt, isSplittable}
 use Rattle.rules.specs.Tables.{partner, isBorder, columns}
 use Rattle.theory.specs.Sides.{side-facts, side-positive}
@@ -17,9 +17,9 @@ use Rattle.theory.specs.FitRows.{Fit}
 use Rattle.theory.specs.Entries.{means-border}
 use Rattle.theory.specs.Triangles.{TriangleSide}
 use Rattle.theory.specs.Refining.{Cut, Half, Place, stayed, near, far, Kept, Refined}
-use Rattle.theory.specs.Halving.{Halvable, halved-size, halved-fours, old-or-new, row-elsewhere, columns-stay}
+use Rattle.theory.specs.Halving.{Halvable, halved-size, halved-fours, old-or-new, columns-stay}
 use Rattle.theory.specs.Halving.{near as near-half, far as far-half, kept-elsewhere, triangle-elsewhere}
-use Rattle.theory.specs.Swapping.{Diagonal, across, apart, other}
+use Rattle.theory.specs.Swapping.{Diagonal, across, apart}
 
 -- "a border side may be split", and the elements on the side are triangles
 pub record Splittable (L : List ℕ) (s : ℕ) : Type 0 where
@@ -139,12 +139,6 @@ module _ (n : ℕ) (L : List ℕ) (fit : Fit n L) (s : ℕ) (x : Splittable L s)
       -- the partner's triangle stays until it is its turn
       across-kept : Kept L one t
       across-kept = kept-elsewhere v first t (λ e. differ (sym e)) (cut .side)
-
-      pub across-next : next one t ≡ next L t
-      across-next = across-kept .follows
-
-      pub across-row : row one (t / 8) ≡ row L (t / 8)
-      across-row = row-elsewhere v first (t / 8) (other n L fit s inner) (λ e. differ (sym e))
 
       pub second : Halvable one t
       second = record { fours = halved-fours v first; side = across-kept .side; triangle = across-kept .sided ∙ inner .other-three }

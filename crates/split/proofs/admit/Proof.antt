@@ -101,7 +101,7 @@ abbrev chosen : tie.After-can-hold → tie.Start
 chosen c = sided (c .before .before)
 
 told : (c : tie.After-can-hold) {b : Bool} → let s = chosen c in
-    let w = lends s in c .can-hold .result ≡ b → canHold w (points s) (vertex w (s .args .code)) (new w (s .args .code)) ≡ b
+    let w = lends s in c .can-hold .result ≡ b → canHold w (points s) (vertex w) (new w (s .args .code)) ≡ b
 told c e =
     let s = chosen c in
     let w = lends s in

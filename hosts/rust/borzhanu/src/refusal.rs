@@ -171,7 +171,7 @@ impl Refusal {
             Refusal::NotThere => "the vertex, border or half-edge isn't there, or the question isn't defined for it",
             Refusal::TableBroken => "a table entry that was read names nothing, or a walk is overlong",
             Refusal::OutputShort { .. } => "the output is too short",
-            Refusal::EdgeUnfit => "the half-edge named is a border or has a quadrilateral beside it",
+            Refusal::EdgeUnfit => "the side or code named is a border or has a quadrilateral beside it",
             Refusal::ElementsClash { .. } => "two elements meet otherwise than at one corner or one edge",
             Refusal::NoRoom => {
                 "n or m would be over 1,000,000, or a buffer other than B2e is too short for the new mesh"
