@@ -18,16 +18,20 @@
  *   E2e  columns * m entries  what lies opposite each side: a side or a border half-edge
  *   B2e  k entries            the side opposite each border half-edge, in rising order
  *
+ * An edit that makes vertices is lent the points too: three doubles for each vertex, those of vertex v
+ * from points[3 * (v - 1)] on.
+ *
  * Columns. E2e has 3 * m entries where no element is a quadrilateral, 4 * m where at least one is: for
  * each element as many as the widest element of the list has sides. That number, 3 or 4, is called
  * columns, and borzhanu_columns says it. The entry of side i of element f is
  * e2e[columns * (f - 1) + (i - 1)]. In four columns a triangle's fourth entry is 0. The element list
  * has four entries for each element in any case.
  *
- * Buffers. Each is a pointer and a length in entries, all entries 32-bit. The pointer is aligned to 4
- * bytes; with length 0 it may be null, as an empty vector of C++ gives it. A buffer that a call
- * writes overlaps no other buffer of that call. Nothing else is asked: a call ends, with an answer or
- * a refusal, whatever the lengths are and whatever the buffers hold, and touches nothing beyond them.
+ * Buffers. Each is a pointer and a length in entries, all entries 32-bit but for the doubles of points.
+ * The pointer is aligned to 4 bytes, to 8 for points; with length 0 it may be null, as an empty vector of
+ * C++ gives it. A buffer that a call writes overlaps no other buffer of that call. Nothing else is asked:
+ * a call ends, with an answer or a refusal, whatever the lengths are and whatever the buffers hold, and
+ * touches nothing beyond them.
  *
  * Answers. Every call returns one 64-bit number with three numbers in it; the functions
  * borzhanu_refusal, borzhanu_first and borzhanu_second take it apart. Refusal 0 means that the call
@@ -53,7 +57,7 @@ extern "C" {
 #define BORZHANU_MAX_BORDERS 4000000u
 
 /* Why a call refused. Checks are made in this order, 18 after 8 and before 9, each over the whole list
-   before the next. An edit tries the old list so, then 11 and 15, then the new list, with 9 last. */
+   before the next. An edit tries the old list so, then 11, 15 and 19, then the new list, with 9 last. */
 enum {
     /* The call has answered. */
     BORZHANU_ANSWERED = 0,
@@ -101,8 +105,12 @@ enum {
        No call below gives it. */
     BORZHANU_TEXT_UNFIT = 14,
     /* The edge that an edit was given isn't one between two triangles: the code is that of a border
-       half-edge or of a border side, or an element beside it is a quadrilateral. */
-    BORZHANU_EDGE_UNFIT = 15
+       half-edge or of a border side, or an element beside it is a quadrilateral. A border side of a
+       triangle can be split, named as a side. */
+    BORZHANU_EDGE_UNFIT = 15,
+    /* An edit that makes the mesh larger finds no room: the new n or m would be over 1,000,000, or a
+       buffer other than B2e is too short for the new mesh. It comes after 15. */
+    BORZHANU_NO_ROOM = 19
 };
 
 /* What borzhanu_vertex_is_border answers. */
@@ -166,7 +174,9 @@ static inline const char *borzhanu_refusal_text(uint32_t refusal) {
     case BORZHANU_TEXT_UNFIT:
         return "the listing program's text isn't in form";
     case BORZHANU_EDGE_UNFIT:
-        return "the edge named is a border or has a quadrilateral beside it";
+        return "the side or code named is a border or has a quadrilateral beside it";
+    case BORZHANU_NO_ROOM:
+        return "n or m would be over 1,000,000, or a buffer other than B2e is too short for the new mesh";
     default:
         return "a refusal that this header doesn't know";
     }
@@ -323,7 +333,7 @@ static inline uint32_t borzhanu_sibling(const uint32_t *siblings, size_t sibling
  *
  * The buffers of an edit may be longer than what they hold. The list is the first 4 * m entries of
  * elements, whose length needn't be a multiple of four. List and tables are written from their buffers'
- * starts; entries past them are never looked at and stay as they were.
+ * starts; entries past both the old and the new ones are never looked at and stay as they were.
  */
 
 /*
@@ -368,6 +378,64 @@ uint64_t borzhanu_swap(uint32_t size[2],
                        uint32_t *e2e, size_t e2e_len,
                        uint32_t *b2e, size_t b2e_len,
                        uint32_t *work, size_t work_len, uint32_t code);
+
+/*
+ * Splits an edge and places its midpoint, as refining near a bracket does. `code` names a side from a to b,
+ * inner or on the border. The new vertex is v = n + 1. The triangle (a,b,c) of the side becomes (a,v,c), and
+ * (v,b,c) is appended to the list; its partner (b,a,d), if there is one, becomes (b,v,d), and (v,a,d) is
+ * appended after that. Every corner keeps its place in the row, and v takes the place of the corner that it
+ * stands for. So m grows by 2, or by 1 on the border. Answers k and the number of edges, as building does: on
+ * an inner edge k stays and there are 3 edges more, on the border k grows by 1 and there are 2 edges more.
+ *
+ *   size      two entries, n and m; never null, and no part of another buffer
+ *   elements  at least 4 * m entries
+ *   v2e       at least n entries
+ *   e2e       at least columns * m entries, the columns being those of the m elements
+ *   b2e       at least the new k entries; n + 1 are always enough
+ *   points    at least 3 * n doubles; finite or not, none is looked at but those of a and b
+ *   work      at least n + 16 * m entries
+ *
+ * An answer needs the same lengths for the new n and m: n + 1, and m + 2 or, on the border, m + 1. Who wants
+ * to go on splitting lends longer buffers from the start, or larger ones when 19 comes.
+ *
+ * After an answer size is the new n and m, elements is the new list, v2e, e2e and b2e are the tables that
+ * building gives of it, and the three numbers from points[3 * n] on, n being the old one, are the new point:
+ * each is (x + y) * 0.5, x and y being the ends' numbers, both operations rounded to nearest as IEEE 754
+ * says. Of whole numbers from -2^52 to 2^52 it is exactly half the sum. A sum beyond the range of double is
+ * an infinity; where x or y is a NaN, or they are opposite infinities, the new number is a NaN, and which one
+ * isn't promised. All old points stay, bit for bit, and so do the columns. What the tables and work hold
+ * before doesn't matter.
+ *
+ * The processor has to be in the mode for doubles in which programs start. Where a host has set another
+ * rounding, or has subnormal numbers flushed to 0, as linking with -ffast-math does, the new point is
+ * rounded so.
+ *
+ * It refuses 1, by n and m alone; 2, by the lengths above but for b2e's; 3, 4, 6 to 8 and 18 where building
+ * refuses the list with that; 11 where no side and no border half-edge has this code; 15 where the code is
+ * that of a border half-edge, or one of the elements beside the side is a quadrilateral; 19 where n + 1 or
+ * the new m is over its maximum, or a buffer but b2e is too short for the new mesh; and 9, by the new k.
+ * Nothing else comes: of an accepted list the new one is accepted. After a refusal size, list, tables and
+ * points are as they were, also where the new rows would stand. After 1 and 2 work is as it was; after
+ * everything else it is all zero.
+ *
+ * In a loop of edits size goes along, and a refused edit changes nothing:
+ *
+ *     uint32_t size[2] = {n, m};
+ *     for (size_t i = 0; i < count; i++)
+ *         split += borzhanu_refusal(borzhanu_split(size, elements, elements_len, v2e, v2e_len, e2e, e2e_len,
+ *                                                  b2e, b2e_len, points, points_len, work, work_len,
+ *                                                  sides[i])) == BORZHANU_ANSWERED;
+ *
+ * A borzhanu_mesh of these buffers has to be put together anew: n, m, with them the lengths, and on the
+ * border k have changed.
+ */
+uint64_t borzhanu_split(uint32_t size[2],
+                        uint32_t *elements, size_t elements_len,
+                        uint32_t *v2e, size_t v2e_len,
+                        uint32_t *e2e, size_t e2e_len,
+                        uint32_t *b2e, size_t b2e_len,
+                        double *points, size_t points_len,
+                        uint32_t *work, size_t work_len, uint32_t code);
 
 /*
  * The queries take a mesh: n, columns, an element list (4 * m entries), V2e (n), E2e (columns * m) and
@@ -563,8 +631,8 @@ uint64_t borzhanu_walker_step(uint32_t n, uint32_t columns,
 /*
  * A mesh as the queries take it. Its buffers are lent, not copied; the lengths are in entries. Put it
  * together once, with the columns that borzhanu_columns answered, or with 0 and then
- * borzhanu_mesh_look. When the element list changes, look again, but for a swap, after which the columns
- * are the same.
+ * borzhanu_mesh_look. When the element list changes, look again, but for a swap or a split, after which the
+ * columns are the same. A swap leaves all other members right too; after a split n and lengths are others.
  */
 typedef struct borzhanu_mesh {
     uint32_t n;

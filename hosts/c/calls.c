@@ -3,6 +3,7 @@
 
 #include "borzhanu.h"
 #include "guarded.h"
+#include "splitting.h"
 #include "swapping.h"
 
 #include <signal.h>
@@ -13,7 +14,7 @@
 #include <unistd.h>
 
 static const char *const role_names[ROLES] = {"elements", "v2e",  "e2e",     "b2e",    "siblings", "work",
-                                              "out",      "hole", "lengths", "walker", "size"};
+                                              "out",      "hole", "lengths", "walker", "size",     "points"};
 
 /* what the calls that compare one case may take */
 enum { SECONDS = 120 };
@@ -78,9 +79,23 @@ static uint64_t kernel_swap(const struct call *call, const struct slice *b) {
     return borzhanu_swap(b[SIZE].at, TABLES(b), b[WORK].at, b[WORK].len, call->number);
 }
 
+static struct lent lent_by(const struct slice *b, int with_points) {
+    return (struct lent){b[SIZE].at, b[ELEMENTS], b[V2E], b[E2E], b[B2E], b[WORK], with_points, b[POINTS]};
+}
+
 static struct answer expect_swap(const struct call *call, const struct slice *b) {
-    struct lent lent = {b[SIZE].at, b[ELEMENTS], b[V2E], b[E2E], b[B2E], b[WORK]};
+    struct lent lent = lent_by(b, 0);
     return reference_swap(&lent, call->number);
+}
+
+static uint64_t kernel_split(const struct call *call, const struct slice *b) {
+    return borzhanu_split(b[SIZE].at, TABLES(b), (double *)(void *)b[POINTS].at, b[POINTS].len / 2, b[WORK].at,
+                          b[WORK].len, call->number);
+}
+
+static struct answer expect_split(const struct call *call, const struct slice *b) {
+    struct lent lent = lent_by(b, 1);
+    return reference_split(&lent, call->number);
 }
 
 static uint64_t kernel_walker_start(const struct call *call, const struct slice *b) {
@@ -134,14 +149,15 @@ OF_A_LIST(border_loop)
 
 #define EXPORTED(name, writes) {#name, kernel_##name, expect_##name, writes, 0, 0}
 #define QUERY(name, writes) {#name, kernel_##name, expect_##name, writes, 1, 0}
-#define EDIT(name) {#name, kernel_##name, expect_##name, EDITED | BIT(WORK), 0, 1}
+#define EDIT(name, points) {#name, kernel_##name, expect_##name, EDITED | BIT(WORK) | (points), 0, 1}
 #define EDITED (BIT(SIZE) | BIT(ELEMENTS) | BIT(V2E) | BIT(E2E) | BIT(B2E))
 
 const struct exported build_call = EXPORTED(build, BIT(V2E) | BIT(E2E) | BIT(B2E) | BIT(WORK));
 const struct exported columns_call = EXPORTED(columns, 0);
 const struct exported recover_call = EXPORTED(recover, BIT(ELEMENTS) | BIT(WORK));
 const struct exported siblings_call = EXPORTED(siblings, BIT(V2E) | BIT(SIBLINGS) | BIT(WORK));
-const struct exported swap_call = EDIT(swap);
+const struct exported swap_call = EDIT(swap, 0);
+const struct exported split_call = EDIT(split, BIT(POINTS));
 const struct exported holes_call = QUERY(holes, BIT(HOLE) | BIT(LENGTHS) | BIT(WORK));
 const struct exported start_call = QUERY(walker_start, BIT(RECORD));
 const struct exported step_call = QUERY(walker_step, BIT(RECORD));
@@ -217,8 +233,8 @@ static uint32_t *expected_room[ROLES];
 
 size_t room_of(enum role role) {
     const size_t m = BORZHANU_MAX_ELEMENTS + 2, n = BORZHANU_MAX_VERTICES + 2;
-    const size_t room[ROLES] = {4 * m, n,     4 * m, 4 * m,         4 * m,      n + 16 * m,
-                                4 * m, 4 * m, 4 * m, RECORD_LENGTH, SIZE_LENGTH};
+    const size_t room[ROLES] = {4 * m, n,     4 * m, 4 * m,         4 * m,       n + 16 * m,
+                                4 * m, 4 * m, 4 * m, RECORD_LENGTH, SIZE_LENGTH, ENTRIES_OF_A_POINT * n};
     return room[role];
 }
 
@@ -248,10 +264,12 @@ static void check_same(const char *what, int role, const uint32_t *want, const u
             fail_entry(what, role, i, want[i], got[i]);
 }
 
-/* How many entries of a role a list and tables of this n and m take, in buffers that may be longer. */
-static size_t held_entries(const struct call *call, int role) {
-    const uint32_t *size = call->given[SIZE].at;
-    struct slice list = {call->given[ELEMENTS].at, 4 * (size_t)size[1]};
+/* How many entries of a role the list and tables that an edit left take, in buffers that may be longer. */
+static size_t held_entries(const struct slice *left, int role) {
+    const uint32_t *size = left[SIZE].at;
+    struct slice list = {left[ELEMENTS].at, 4 * (size_t)size[1]};
+    if (list.len > left[ELEMENTS].len)
+        fail("the m that was left has no room in the list");
     if (role == ELEMENTS)
         return list.len;
     if (role == V2E)
@@ -259,15 +277,26 @@ static size_t held_entries(const struct call *call, int role) {
     return role == E2E ? columns_of(list) * (size_t)size[1] : SIZE_LENGTH;
 }
 
+/* An edit that is lent points writes one, after those that are there. */
+static size_t first_written(const struct call *call, int role) {
+    return role == POINTS ? ENTRIES_OF_A_POINT * (size_t)call->given[SIZE].at[0] : 0;
+}
+
 /* How many entries of a role an answer writes; the entries past them stay as they were. */
-static size_t written_entries(const struct call *call, int role, struct answer answer) {
+static size_t written_entries(const struct call *call, const struct slice *left, int role, struct answer answer) {
     if (answer.refusal != 0 || (call->exported->writes & BIT(role)) == 0)
         return 0;
     if (role == HOLE)
         return call->given[B2E].len;
+    if (role == POINTS)
+        return ENTRIES_OF_A_POINT;
     if (call->exported->is_edit && role != B2E)
-        return held_entries(call, role);
+        return held_entries(left, role);
     return role == B2E || role == OUT || role == LENGTHS ? answer.first : call->given[role].len;
+}
+
+static void check_as_it_was(const struct call *call, const struct slice *left, int role, size_t start, size_t end) {
+    check_same("what should be as it was isn't", role, call->given[role].at, left[role].at, start, end);
 }
 
 /* What doesn't depend on the reference: what must be as it was is, and the work buffer is clean. */
@@ -278,8 +307,10 @@ static void check_left(const struct call *call, const struct slice *left, struct
                 if (left[role].at[i] != 0)
                     fail_entry("the work buffer isn't clean", role, i, 0, left[role].at[i]);
         } else {
-            check_same("what should be as it was isn't", role, call->given[role].at, left[role].at,
-                       written_entries(call, role, got), call->given[role].len);
+            size_t written = written_entries(call, left, role, got);
+            size_t first = written == 0 ? 0 : first_written(call, role);
+            check_as_it_was(call, left, role, 0, first);
+            check_as_it_was(call, left, role, first + written, call->given[role].len);
         }
     }
 }
@@ -312,6 +343,20 @@ static struct answer kernel_answer(const struct call *call, const struct slice *
     return taken_apart(call->exported->kernel(call, buffers));
 }
 
+static int is_nan(const uint32_t *entries) {
+    double number;
+    memcpy(&number, entries, sizeof number);
+    return number != number;
+}
+
+/* Where a number of a new point is no number, which one it is isn't promised: any is taken for the one expected. */
+static void accept_any_nan(const struct call *call, const struct slice *expected, const struct slice *left) {
+    size_t first = first_written(call, POINTS);
+    for (size_t at = first; at < first + ENTRIES_OF_A_POINT; at += 2)
+        if (is_nan(expected[POINTS].at + at) && is_nan(left[POINTS].at + at))
+            memcpy(left[POINTS].at + at, expected[POINTS].at + at, sizeof(double));
+}
+
 static void call_kernel(const struct call *call, struct answer want, const struct slice *expected,
                         const struct slice *buffers) {
     struct answer got = kernel_answer(call, buffers);
@@ -319,6 +364,8 @@ static void call_kernel(const struct call *call, struct answer want, const struc
     if (memcmp(&want, &got, sizeof want) != 0)
         fail_answer(want, got);
     check_left(call, buffers, got);
+    if (got.refusal == 0 && (call->exported->writes & BIT(POINTS)))
+        accept_any_nan(call, expected, buffers);
     for (int role = 0; role < ROLES; role++)
         if (call->exported->writes & BIT(role))
             check_same("another result", role, expected[role].at, buffers[role].at, 0, call->given[role].len);
@@ -389,7 +436,8 @@ void compare_far(const struct call *call, enum role role) {
     struct slice expected[ROLES], buffers[ROLES];
     struct answer want = compare(call, expected);
     place_buffers(call, END_AT_GUARD, buffers);
-    buffers[role] = (struct slice){closed_but_for_a_page(far), far};
+    size_t len = role == POINTS ? 2 * far : far;
+    buffers[role] = (struct slice){closed_but_for_a_page(len), len};
     copy_into(buffers[role].at, call->given[role]);
     call_kernel(call, want, expected, buffers);
 }

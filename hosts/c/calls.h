@@ -7,7 +7,7 @@
 #include <stddef.h>
 #include <stdint.h>
 
-enum role { ELEMENTS, V2E, E2E, B2E, SIBLINGS, WORK, OUT, HOLE, LENGTHS, RECORD, SIZE, ROLES };
+enum role { ELEMENTS, V2E, E2E, B2E, SIBLINGS, WORK, OUT, HOLE, LENGTHS, RECORD, SIZE, POINTS, ROLES };
 
 enum { RECORD_LENGTH = 3, SIZE_LENGTH = 2, CODE_CALLS = 8, VERTEX_LISTS = 2, QUERIES = CODE_CALLS + VERTEX_LISTS + 4 };
 
@@ -23,14 +23,15 @@ struct exported {
 };
 
 /* What a call is given: n, the m that recovery is told, the columns that a query is told, the vertex, border or
-   half-edge asked about, and what each buffer holds. An edit has its n and m in the buffer SIZE alone. */
+   half-edge asked about, and what each buffer holds. An edit has its n and m in the buffer SIZE alone.
+   POINTS has two entries for each double. */
 struct call {
     const struct exported *exported;
     uint32_t n, m, columns, number;
     struct slice given[ROLES];
 };
 
-extern const struct exported build_call, columns_call, recover_call, siblings_call, swap_call;
+extern const struct exported build_call, columns_call, recover_call, siblings_call, swap_call, split_call;
 extern const struct exported vertex_test, border_list, holes_call, start_call, step_call;
 extern const struct exported code_calls[CODE_CALLS], vertex_lists[VERTEX_LISTS];
 /* all of these that are told columns, but for holes, which has a work buffer */
@@ -51,7 +52,8 @@ size_t room_of(enum role role);
 
 /* Compares a call, in both placements, and hands over the answer; `results`, where not null, then shows what each
    buffer holds, until the next call. A query told 0 is made again told the list's own columns, which must change
-   nothing. A mismatch is printed and ends the program. */
+   nothing. A mismatch is printed and ends the program. Points are compared bit by bit, but that a new number which is to
+   be no number may be any such. */
 struct answer compare(const struct call *call, struct slice *results);
 
 /* Compares a call whose answer is known beforehand; where its second number isn't named, it is 0. */

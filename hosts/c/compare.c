@@ -18,6 +18,7 @@
 #include "room.h"
 #include "siblings.h"
 #include "spare.h"
+#include "splits.h"
 #include "swaps.h"
 
 #include <stdio.h>
@@ -509,6 +510,12 @@ static const struct {
     {"runs of swaps", runs_of_swaps},
     {"lengths of swaps", lengths_of_swaps},
     {"the largest swaps", largest_swaps},
+    {"known splits", known_splits},
+    {"midpoints", midpoints},
+    {"splits of every code", splits_of_every_code},
+    {"runs of splits", runs_of_splits},
+    {"lengths of splits", lengths_of_splits},
+    {"the largest splits", largest_splits},
 };
 
 static double seconds(void) {

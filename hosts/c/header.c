@@ -18,7 +18,7 @@ static void check_names(const uint32_t *names, size_t count, const char *what) {
             fail_number(what, number);
 }
 
-/* The refusals up to 15, with 5, which no call gives, in its place; 18; and what a vertex can be. */
+/* The refusals up to 15, with 5, which no call gives, in its place; 18 and 19; and what a vertex can be. */
 static void check_numbers(void) {
     static const uint32_t refusals[] = {
         BORZHANU_ANSWERED,     BORZHANU_SIZES,           BORZHANU_LENGTHS,
@@ -32,6 +32,8 @@ static void check_numbers(void) {
     check_names(refusals, sizeof refusals / sizeof *refusals, "another name for refusal");
     if (BORZHANU_ELEMENTS_CLASH != 18)
         fail_number("another name for refusal", 18);
+    if (BORZHANU_NO_ROOM != 19)
+        fail_number("another name for refusal", 19);
     check_names(vertices, sizeof vertices / sizeof *vertices, "another name for a vertex that is");
 }
 
@@ -70,7 +72,7 @@ static int same_sentence(uint32_t a, uint32_t b) {
 }
 
 static int is_refusal(uint32_t number) {
-    return number <= BORZHANU_EDGE_UNFIT || number == BORZHANU_ELEMENTS_CLASH;
+    return number <= BORZHANU_EDGE_UNFIT || number == BORZHANU_ELEMENTS_CLASH || number == BORZHANU_NO_ROOM;
 }
 
 static void check_own_sentence(uint32_t number) {
@@ -129,8 +131,9 @@ void check_header(void) {
     check_sentences();
     check_words(1, "more than 1,000,000 vertices or elements, or an element list not in fours");
     check_words(2, "a buffer's length doesn't fit n, m and the columns, or the columns told aren't 0, 3 or 4");
-    check_words(15, "the edge named is a border or has a quadrilateral beside it");
+    check_words(15, "the side or code named is a border or has a quadrilateral beside it");
     check_words(18, "two elements meet otherwise than at one corner or one edge");
+    check_words(19, "n or m would be over 1,000,000, or a buffer other than B2e is too short for the new mesh");
     check_lengths();
     check_sibling();
 }

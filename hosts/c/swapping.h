@@ -3,13 +3,7 @@
 #ifndef SWAPPING_H
 #define SWAPPING_H
 
-#include "reference.h"
-
-/* What an edit is lent: n and m, and buffers that may be longer than what they hold. */
-struct lent {
-    uint32_t *size;
-    struct slice elements, v2e, e2e, b2e, work;
-};
+#include "editing.h"
 
 struct answer reference_swap(const struct lent *lent, uint32_t code);
 

@@ -1,103 +1,14 @@
 #include "swaps.h"
 
-#include "asking.h"
 #include "borzhanu.h"
-#include "pillows.h"
+#include "edits.h"
 #include "room.h"
 
-#include <stdio.h>
 #include <stdlib.h>
 #include <string.h>
 
-/* what a swap is lent, but for n and m */
-enum { LENT = 5 };
-static const enum role lent[LENT] = {ELEMENTS, V2E, E2E, B2E, WORK};
-
-/* A swap with buffers just long enough, but for B2e, which has as many entries as told. Tables and work are noise.
-   `size` belongs to the caller. */
 static struct call swap_of(const struct list *list, size_t b2e_len, uint32_t *size, uint32_t code) {
-    struct call call = build_of(list, b2e_len);
-    call.exported = &swap_call;
-    call.number = code;
-    size[0] = list->n;
-    size[1] = (uint32_t)list->m;
-    call.given[SIZE] = (struct slice){size, SIZE_LENGTH};
-    return call;
-}
-
-/* The buffers of a call become copies of its own. */
-static void own_buffers(struct call *call) {
-    for (int i = 0; i < LENT; i++)
-        call->given[lent[i]] = copied(call->given[lent[i]]);
-}
-
-static void drop_buffers(struct call *call) {
-    for (int i = 0; i < LENT; i++)
-        free(call->given[lent[i]].at);
-}
-
-/* A buffer of the call's own cut, or longer by noise. */
-static void change_length(struct slice *given, enum role role, long change) {
-    long len = (long)given->len + change;
-    struct slice changed = resized(role, *given, len < 0 ? 0 : (size_t)len);
-    free(given->at);
-    *given = changed;
-}
-
-/* Each buffer of the call's own longer or not. */
-static void lengthen_any(struct call *call, struct dice *dice) {
-    for (int i = 0; i < LENT; i++)
-        if (below(dice, 2) == 0)
-            change_length(&call->given[lent[i]], lent[i], 1 + below(dice, 9));
-}
-
-static struct list list_of(struct mesh *t) {
-    size_t m = t->elements.len / 4;
-    return (struct list){t->n, m, m, t->elements.at};
-}
-
-static struct slice copied_entries(struct slice s, size_t len) {
-    return copied((struct slice){s.at, len});
-}
-
-/* List and tables that a swap left, without what stands past them. */
-static struct mesh mesh_left(const struct call *call, const struct slice *results, uint32_t k) {
-    size_t n = call->given[SIZE].at[0], m = call->given[SIZE].at[1];
-    struct slice rows = copied_entries(results[ELEMENTS], 4 * m);
-    uint32_t columns = columns_of(rows);
-    return (struct mesh){(uint32_t)n,
-                         columns,
-                         rows,
-                         copied_entries(results[V2E], n),
-                         copied_entries(results[E2E], columns * m),
-                         copied_entries(results[B2E], k)};
-}
-
-static int same_entries(struct slice a, struct slice b) {
-    return a.len == b.len && (a.len == 0 || memcmp(a.at, b.at, a.len * sizeof(uint32_t)) == 0);
-}
-
-static int same_tables(const struct mesh *a, const struct mesh *b) {
-    return a->n == b->n && same_entries(a->elements, b->elements) && same_entries(a->v2e, b->v2e) &&
-           same_entries(a->e2e, b->e2e) && same_entries(a->b2e, b->b2e);
-}
-
-static void mismatch(const char *what) {
-    printf("MISMATCH: family '%s', seed %llu, after %lu calls: %s\n", progress.family,
-           (unsigned long long)progress.seed, progress.calls, what);
-    stop();
-}
-
-/* What a swap left is this list with the tables that building gives of it, and the list comes back from them. */
-static void check_left(const struct mesh *left, const struct list *edited) {
-    struct call recovery = recovery_of(left);
-    struct slice results[ROLES];
-    struct mesh t;
-    if (!built(edited, &t) || !same_tables(left, &t))
-        mismatch("a swap left other tables than building gives of a copy edited without it");
-    if (compare(&recovery, results).refusal != 0 || !same_entries(results[ELEMENTS], left->elements))
-        mismatch("a swapped list doesn't come back from its tables");
-    drop_tables(&t);
+    return edit_of(&swap_call, list, b2e_len, size, code);
 }
 
 /* ---- worked out by hand ---- */
@@ -172,19 +83,6 @@ static const struct known known[] = {
     {"B2e one too short", LISTING, .code = 17, .b2e_len = 3, .answer = {9, 4, 0}},
 };
 
-static void fail_known(const char *name) {
-    printf("  the case is '%s'\n", name);
-    fail("the answer isn't as worked out");
-}
-
-static struct list list_of_rows(uint32_t n, uint32_t m, const uint32_t (*rows)[4]) {
-    return (struct list){n, m, m, (uint32_t *)(void *)rows};
-}
-
-static int is_answer(struct answer a, struct answer b) {
-    return a.refusal == b.refusal && a.first == b.first && a.second == b.second;
-}
-
 static void check_known(const struct known *c) {
     struct list list = list_of_rows(c->n, c->m, c->rows), swapped = list_of_rows(c->n, c->m, c->swapped);
     struct slice results[ROLES];
@@ -194,31 +92,17 @@ static void check_known(const struct known *c) {
         fail_known(c->name);
     if (c->answer.refusal != 0)
         return;
-    struct mesh left = mesh_left(&call, results, c->answer.first);
+    struct mesh left = mesh_left(results, c->answer.first);
     check_left(&left, &swapped);
     drop_tables(&left);
 }
 
-/* Lists that building refuses: whatever the code and B2e, that comes first. */
-static const struct known unfit[] = {
-    {"a corner 0", .n = 4, .m = 2, .rows = {{1, 2, 3, 0}, {1, 0, 4, 0}}, .answer = {3, 2, 2}},
-    {"a corner above n", .n = 3, .m = 2, .rows = {{1, 2, 3, 0}, {1, 3, 4, 0}}, .answer = {3, 2, 3}},
-    {"a corner twice", .n = 4, .m = 2, .rows = {{1, 2, 3, 0}, {1, 3, 1, 0}}, .answer = {4, 2, 3}},
-    {"three plates at an edge", .n = 5, .m = 3, .rows = {{1, 2, 3, 0}, {1, 3, 4, 0}, {1, 3, 5, 0}},
-     .answer = {6, 1, 3}},
-    {"sides alike", .n = 4, .m = 2, .rows = {{1, 2, 3, 0}, {1, 2, 4, 0}}, .answer = {7, 1, 1}},
-    {"two fans", .n = 6, .m = 3, .rows = {{1, 2, 3, 0}, {1, 3, 4, 0}, {1, 5, 6, 0}}, .answer = {8, 1, 0}},
-    {"back to back", .n = 3, .m = 2, .rows = {{1, 2, 3, 0}, {1, 3, 2, 0}}, .answer = {18, 1, 2}},
-    {"a diagonal along a side", .n = 5, .m = 3, .rows = {{3, 2, 5, 0}, {1, 2, 3, 0}, {1, 3, 4, 2}},
-     .answer = {18, 1, 3}},
-};
-
-static void check_unfit(const struct known *c) {
-    static const uint32_t codes[] = {0, 4, 8, 9, 10, 11, 12, 16, 17, 18, 19, 20, 32, 40, 48, 4294967295};
+/* Whatever the code and B2e, what building says of the list comes first. */
+static void check_refused(const struct refused_list *c) {
     struct list list = list_of_rows(c->n, c->m, c->rows);
     uint32_t size[SIZE_LENGTH];
-    for (size_t i = 0; i < 2 * COUNT(codes); i++) {
-        struct call call = swap_of(&list, i % 2 == 0 ? 0 : 12, size, codes[i / 2]);
+    for (size_t i = 0; i < 2 * SOME_CODES; i++) {
+        struct call call = swap_of(&list, i % 2 == 0 ? 0 : 12, size, some_codes[i / 2]);
         if (!is_answer(compare(&call, NULL), c->answer))
             fail_known(c->name);
     }
@@ -228,37 +112,11 @@ void known_swaps(struct dice *dice) {
     (void)dice;
     for (size_t i = 0; i < COUNT(known); i++)
         check_known(&known[i]);
-    for (size_t i = 0; i < COUNT(unfit); i++)
-        check_unfit(&unfit[i]);
-}
-
-/* ---- how often each refusal came ---- */
-
-enum { NUMBERS = 19 };
-
-static unsigned long seen[NUMBERS];
-
-static struct answer counted(struct answer answer) {
-    seen[answer.refusal]++;
-    return answer;
-}
-
-/* A family in which one of these came fewer times than that doesn't try it. */
-static void check_seen(const uint32_t *numbers, size_t count, unsigned long least) {
-    for (size_t i = 0; i < count; i++)
-        if (seen[numbers[i]] < least) {
-            printf("%lu swaps gave %u\n", seen[numbers[i]], numbers[i]);
-            mismatch("these are too few");
-        }
-    memset(seen, 0, sizeof seen);
+    for (size_t i = 0; i < REFUSED_LISTS; i++)
+        check_refused(&refused_lists[i]);
 }
 
 /* ---- every code ---- */
-
-static uint32_t one_past_codes(const struct list *list) {
-    uint32_t most = list->n > list->m ? list->n : (uint32_t)list->m;
-    return borzhanu_border(most + 3);
-}
 
 static void try_code(const struct list *list, uint32_t code, struct dice *dice) {
     uint32_t size[SIZE_LENGTH];
@@ -266,26 +124,9 @@ static void try_code(const struct list *list, uint32_t code, struct dice *dice) 
     counted(compare(&call, NULL));
 }
 
-/* Codes that would be those of the list if fewer of their bits were read. */
-static void try_far_codes(const struct list *list, struct dice *dice) {
-    for (uint32_t bit = 31; bit > 15; bit--)
-        try_code(list, ((uint32_t)1 << bit) + below(dice, one_past_codes(list)), dice);
-    for (uint32_t code = 0; code < 8; code++)
-        try_code(list, UINT32_MAX - code, dice);
-}
-
 void swaps_of_every_code(struct dice *dice) {
     static const uint32_t numbers[] = {0, 3, 4, 6, 7, 8, 9, 11, 15, 18};
-    for (int i = 0; i < 300; i++) {
-        struct list list = i % 3 == 0 ? any_pillow(dice, 8) : any_housing(dice, 8);
-        disguise(&list, dice);
-        if (i % 2 == 0)
-            damage_list(&list, dice);
-        for (uint32_t code = 0; code < one_past_codes(&list); code++)
-            try_code(&list, code, dice);
-        try_far_codes(&list, dice);
-        drop_list(&list);
-    }
+    try_every_code(try_code, dice);
     check_seen(numbers, COUNT(numbers), 50);
 }
 
@@ -344,25 +185,12 @@ static struct answer swap_in(struct mesh *t, uint32_t code, struct dice *dice) {
     lend(&call, t, dice);
     struct answer answer = compare(&call, results);
     if (answer.refusal == 0) {
-        struct mesh left = mesh_left(&call, results, answer.first);
+        struct mesh left = mesh_left(results, answer.first);
         drop_tables(t);
         *t = left;
     }
     drop_buffers(&call);
     return counted(answer);
-}
-
-/* A side between two triangles, where one is met soon. */
-static uint32_t any_inner_side(const struct mesh *t, struct dice *dice) {
-    uint32_t m = (uint32_t)(t->elements.len / 4), side = 0;
-    for (int tries = 0; tries < 12; tries++) {
-        side = borzhanu_side(1 + below(dice, m), 1 + below(dice, 3));
-        uint32_t opposite = t->e2e.at[t->columns * (borzhanu_element_of(side) - 1) + borzhanu_number_of(side) - 1];
-        if (!borzhanu_is_border_code(opposite) && t->elements.at[4 * borzhanu_element_of(side) - 1] == 0 &&
-            t->elements.at[4 * borzhanu_element_of(opposite) - 1] == 0)
-            break;
-    }
-    return side;
 }
 
 /* The new diagonal swapped as well: the old one is back, and the triangles are in each other's rows. Only a short B2e
@@ -409,26 +237,12 @@ static void run_of_swaps(struct list list, int swaps, struct dice *dice) {
     drop_list(&list);
 }
 
-/* Seven housings of triangles, and of triangles and quadrilaterals: closed, with a border, with two, and with spare
-   vertices. */
-static void runs_of_size(uint32_t size, int swaps, struct dice *dice) {
-    struct list spare = sheet(size, size, 0, 0, TRIANGLES, dice);
-    add_spare(&spare, below(dice, spare.n + 1), size);
-    run_of_swaps(spare, swaps, dice);
-    run_of_swaps(fan(2 * size, 1), swaps, dice);
-    run_of_swaps(bipyramid(2 * size), swaps, dice);
-    run_of_swaps(sheet(size + 2, size, 1, 0, TRIANGLES, dice), swaps, dice);
-    run_of_swaps(sheet(size + 2, size + 2, 1, 1, TRIANGLES, dice), swaps, dice);
-    run_of_swaps(sheet(size + 2, size, 1, 0, MIXED, dice), swaps, dice);
-    run_of_swaps(sheet(size + 2, size + 2, 1, 1, MIXED, dice), swaps, dice);
-}
-
 void runs_of_swaps(struct dice *dice) {
     static const uint32_t numbers[] = {0, 6, 9, 11, 15, 18};
     for (int i = 0; i < 16; i++)
-        runs_of_size(2 + (uint32_t)i % 4, 120, dice);
-    runs_of_size(12, 150, dice);
-    runs_of_size(50, 4, dice);
+        run_on_housings(2 + (uint32_t)i % 4, 120, run_of_swaps, dice);
+    run_on_housings(12, 150, run_of_swaps, dice);
+    run_on_housings(50, 4, run_of_swaps, dice);
     check_seen(numbers, COUNT(numbers), 10);
 }
 
@@ -463,106 +277,52 @@ static struct list diagonal_taken(void) {
     return list;
 }
 
-/* Each buffer longer or not, in every combination: the answer stays the same. */
-static void try_longer(const struct list *list, size_t k, uint32_t code, struct dice *dice) {
-    uint32_t size[SIZE_LENGTH];
-    struct call call = swap_of(list, k, size, code);
-    struct answer answer = counted(compare(&call, NULL));
-    for (unsigned longer = 1; longer < 1u << LENT; longer++) {
-        struct call other = call;
-        own_buffers(&other);
-        for (int i = 0; i < LENT; i++)
-            if (longer >> i & 1)
-                change_length(&other.given[lent[i]], lent[i], 1 + below(dice, 9));
-        compare_answer(&other, answer);
-        drop_buffers(&other);
-    }
-}
-
 /* Each buffer one entry too short, by itself and with the others longer: 2, but for B2e. */
-static void try_shorter(const struct list *list, size_t k, uint32_t code, struct dice *dice) {
-    uint32_t size[SIZE_LENGTH];
-    struct call call = swap_of(list, k, size, code);
-    for (int i = 0; i < 2 * LENT; i++) {
+static void try_shorter(const struct call *call, struct dice *dice) {
+    for (int i = 0; i < 2 * lent_to(call); i++) {
         enum role role = lent[i / 2];
-        struct call other = call;
+        struct call other = *call;
         own_buffers(&other);
         if (i % 2 == 0)
             lengthen_any(&other, dice);
-        change_length(&other.given[role], role, (long)call.given[role].len - (long)other.given[role].len - 1);
+        change_length(&other.given[role], role, (long)call->given[role].len - (long)other.given[role].len - 1);
         uint32_t refusal = counted(compare(&other, NULL)).refusal;
-        if (role != B2E && call.given[role].len != 0 && refusal != 2)
+        if (role != B2E && call->given[role].len != 0 && refusal != 2)
             fail("a buffer is too short, but the refusal isn't 2");
         drop_buffers(&other);
     }
 }
 
-/* Every two buffers shorter or longer by any of these. n and m may be others too. */
-static void try_other_lengths(const struct list *list, size_t k, uint32_t code, struct dice *dice) {
-    static const long changes[] = {-20, -4, -1, 0, 1, 4};
-    uint32_t size[SIZE_LENGTH];
-    struct call call = swap_of(list, k, size, code);
-    for (size_t i = 0; i < LENT * LENT; i++)
-        for (size_t j = 0; j < COUNT(changes) * COUNT(changes); j++) {
-            enum role a = lent[i % LENT], b = lent[i / LENT];
-            struct call other = call;
-            own_buffers(&other);
-            change_length(&other.given[a], a, changes[j % COUNT(changes)]);
-            change_length(&other.given[b], b, changes[j / COUNT(changes)]);
-            size[0] = list->n + (below(dice, 8) == 0 ? below(dice, 3) - 1 : 0);
-            size[1] = (uint32_t)list->m + (below(dice, 8) == 0 ? below(dice, 3) - 1 : 0);
-            counted(compare(&other, NULL));
-            drop_buffers(&other);
-        }
-}
-
 static void try_lengths(struct list list, struct dice *dice) {
+    uint32_t size[SIZE_LENGTH];
     struct mesh t;
     disguise(&list, dice);
     if (!built(&list, &t))
         exit(2);
-    for (uint32_t code = 0; code < one_past_codes(&list); code++) {
-        try_longer(&list, t.b2e.len, code, dice);
-        try_shorter(&list, t.b2e.len, code, dice);
+    struct call call = swap_of(&list, t.b2e.len, size, 0);
+    for (; call.number < one_past_codes(&list); call.number++) {
+        try_longer(&call, dice);
+        try_shorter(&call, dice);
     }
     t.columns = columns_of(t.elements);
-    try_other_lengths(&list, t.b2e.len, any_inner_side(&t, dice), dice);
-    try_other_lengths(&list, t.b2e.len, below(dice, one_past_codes(&list)), dice);
+    call.number = any_inner_side(&t, dice);
+    try_other_lengths(&call, dice);
+    call.number = below(dice, one_past_codes(&list));
+    try_other_lengths(&call, dice);
     drop_tables(&t);
     drop_list(&list);
 }
 
 static const uint32_t listing[2][4] = {{1, 2, 3, 0}, {1, 3, 4, 0}};
 
-/* List and tables in buffers of 2^32 entries: no length is cut to 32 bits. */
-static void try_far_lengths(void) {
-    struct list list = list_of_rows(4, 2, listing);
-    uint32_t size[SIZE_LENGTH];
-    struct call call = swap_of(&list, 4, size, borzhanu_side(1, 3));
-    for (int i = 0; lent[i] != WORK; i++)
-        compare_far(&call, lent[i]);
-}
-
-static struct call emptied(struct call call) {
-    for (int i = 0; i < LENT; i++)
-        call.given[lent[i]].len = 0;
-    return call;
-}
-
-/* Each buffer emptied by itself, and all of them: one of the placements then hands over null. */
-static void try_empty_buffers(uint32_t n, uint32_t m) {
-    static const uint32_t codes[] = {0, 8, 9, 11};
+/* The listing, or nothing, in buffers that are very long or empty. */
+static void try_extreme_lengths(uint32_t n, uint32_t m) {
     struct list list = list_of_rows(n, m, listing);
     uint32_t size[SIZE_LENGTH];
-    for (size_t i = 0; i < COUNT(codes); i++) {
-        struct call call = swap_of(&list, 4, size, codes[i]), all = emptied(call);
-        compare_with(&all, n == 0 ? 11 : 2, 0);
-        for (int j = 0; j < LENT; j++) {
-            struct call one = call;
-            one.given[lent[j]].len = 0;
-            compare(&one, NULL);
-        }
-    }
+    struct call call = swap_of(&list, 4, size, borzhanu_side(1, 3));
+    if (m != 0)
+        try_far_lengths(&call);
+    try_empty_buffers(call);
 }
 
 void lengths_of_swaps(struct dice *dice) {
@@ -572,33 +332,13 @@ void lengths_of_swaps(struct dice *dice) {
     try_lengths(sheet(3, 1, 1, 0, MIXED, dice), dice);
     try_lengths(bipyramid(3), dice);
     try_lengths(diagonal_taken(), dice);
-    try_far_lengths();
-    try_empty_buffers(0, 0);
-    try_empty_buffers(3, 0);
-    try_empty_buffers(4, 2);
+    try_extreme_lengths(0, 0);
+    try_extreme_lengths(3, 0);
+    try_extreme_lengths(4, 2);
     check_seen(numbers, COUNT(numbers), 2);
 }
 
 /* ---- the largest sizes ---- */
-
-/* The listing's buffers, and none, for any n and m: 1 where one of the numbers is past its largest, else 2. In 32 bits
-   the last of these would have a list of eight entries. */
-static void check_sizes(void) {
-    enum { MOST_N = BORZHANU_MAX_VERTICES, MOST_M = BORZHANU_MAX_ELEMENTS };
-    static const uint32_t sizes[][SIZE_LENGTH + 1] = {
-        {MOST_N, 2, 2},     {4, MOST_M, 2},         {MOST_N, MOST_M, 2}, {MOST_N + 1, 2, 1}, {4, MOST_M + 1, 1},
-        {MOST_N + 1, 0, 1}, {0, MOST_M + 1, 1},     {MOST_N + 1, MOST_M + 1, 1},
-        {UINT32_MAX, 2, 1}, {4, UINT32_MAX, 1},     {4, 0x40000002, 1},
-    };
-    struct list list = list_of_rows(4, 2, listing);
-    uint32_t size[SIZE_LENGTH];
-    struct call call = swap_of(&list, 4, size, borzhanu_side(1, 3)), none = emptied(call);
-    for (size_t i = 0; i < COUNT(sizes); i++) {
-        memcpy(size, sizes[i], sizeof size);
-        compare_with(&call, sizes[i][SIZE_LENGTH], 0);
-        compare_with(&none, sizes[i][SIZE_LENGTH], 0);
-    }
-}
 
 /* As many triangles as there can be, on a closed surface, and as many vertices, of which half are spare. */
 void largest_swaps(struct dice *dice) {
@@ -612,5 +352,7 @@ void largest_swaps(struct dice *dice) {
     call.number = borzhanu_side(BORZHANU_MAX_ELEMENTS + 1, 1);
     compare_with(&call, 11, 0);
     drop_list(&list);
-    check_sizes();
+    list = list_of_rows(4, 2, listing);
+    call = swap_of(&list, 4, size, borzhanu_side(1, 3));
+    check_sizes(&call);
 }

@@ -2,68 +2,12 @@
 # pair of elements is looked at. Of the crate only its cases are read.
 # From the top folder: python3 hosts/expected/swaps.py crates/swap_cases/stdin | cmp - crates/swap_cases/stdout
 import sys
-MOST=1000000
-FILL=4294967295   # what the three tables hold before
-def corners(row): return row if row[3] else row[:3]
-def columns(rows): return max([len(corners(row)) for row in rows],default=3)
-def sides(rows):
-    # the origin and destination of each side, by its code, in order of code
-    def ends(around,i): return around[i-1],around[i%len(around)]
-    return {8*f+i:ends(corners(row),i) for f,row in enumerate(rows,1) for i in range(1,len(corners(row))+1)}
-def refusal(n,rows):
-    # what build says of the list but for 9; None: it is accepted
-    for f,row in enumerate(rows,1):
-        for i,v in enumerate(row,1):
-            if v>n or v==0 and i<4: return 3,f,i
-    for f,row in enumerate(rows,1):
-        for i,v in enumerate(row,1):
-            if v and v in row[:i-1]: return 4,f,i
-    joins=sides(rows)
-    same={c:[d for d in joins if set(joins[d])==set(joins[c])] for c in joins}
-    for c in joins:
-        if len(same[c])>2: return 6,*divmod(c,8)
-    for c in joins:
-        if any(d!=c and joins[d]==joins[c] for d in same[c]): return 7,*divmod(c,8)
-    for v in range(1,n+1):
-        if not is_fan(v,rows): return 8,v,0
-    for f in range(1,len(rows)+1):
-        for g in range(f+1,len(rows)+1):
-            if not meet_well(corners(rows[f-1]),corners(rows[g-1])): return 18,f,g
-def neighbours(v,row):
-    around=corners(row)
-    i=around.index(v)
-    return {around[i-1],around[(i+1)%len(around)]}
-def is_fan(v,rows):
-    # of the elements at v, all hang together by edges at v
-    apart=[neighbours(v,row) for row in rows if v in corners(row)]
-    joined=apart.pop() if apart else set()
-    while apart:
-        near=[ends for ends in apart if ends&joined]
-        if not near: return False
-        joined|=near[0]
-        apart.remove(near[0])
-    return True
-def meet_well(a,b):
-    shared=set(a)&set(b)
-    def on_side(around): return shared in [{around[i-1],around[i]} for i in range(len(around))]
-    return len(shared)<2 or len(shared)==2 and on_side(a) and on_side(b)
-def tables(n,rows):
-    joins=sides(rows)
-    reverse={ends:c for c,ends in joins.items()}
-    border=[c for c,(a,b) in joins.items() if (b,a) not in reverse]
-    def entry(c): return 8*(border.index(c)+1) if c in border else reverse[joins[c][::-1]]
-    def of_vertex(v):
-        # the border half-edge that leaves v is opposite the border side that ends there
-        leaving=[8*b for b,c in enumerate(border,1) if joins[c][1]==v]
-        return min(leaving or [c for c in joins if joins[c][0]==v],default=0)
-    e2e=[entry(8*f+i) if 8*f+i in joins else 0 for f in range(1,len(rows)+1) for i in range(1,columns(rows)+1)]
-    return [of_vertex(v) for v in range(1,n+1)],e2e,border
-def edges(rows): return len({frozenset(ends) for ends in sides(rows).values()})
+sys.dont_write_bytecode=True
+from edits import MOST,border_sides,columns,print_cases,refusal,sides,written
 def swapped(rows,code):
     # the new rows, or 11 or 15
     joins=sides(rows)
-    k=sum(ends[::-1] not in joins.values() for ends in joins.values())
-    if code%8==0 and 1<=code//8<=k: return 15
+    if code%8==0 and 1<=code//8<=len(border_sides(rows)): return 15
     if code not in joins: return 11
     a,b=joins[code]
     f,partner=code//8,[c//8 for c in joins if joins[c]==(b,a)]
@@ -72,9 +16,6 @@ def swapped(rows,code):
     c,d=[(set(rows[e-1])-{a,b,0}).pop() for e in (f,g)]
     new={f:[c,a,d,0],g:[d,b,c,0]}
     return [new.get(e,row) for e,row in enumerate(rows,1)]
-
-def line(letter,numbers): print(*[letter]+list(numbers),sep=",")
-def onto(new,old): return new+old[len(new):]
 def answer(n,m,code,v,e,b,work,entries):
     # a refusal, or the lines after an answer
     if n>MOST or m>MOST: return 1,0,0
@@ -84,24 +25,6 @@ def answer(n,m,code,v,e,b,work,entries):
     if refusal(n,rows): return refusal(n,rows)
     new=swapped(rows,code)
     if new in (11,15): return new,0,0
-    if refusal(n,new): return refusal(n,new)
-    v2e,e2e,b2e=tables(n,new)
-    if b<len(b2e): return 9,len(b2e),0
-    return [("N",[len(b2e),edges(new)]),("L",onto(sum(new,[]),entries)),
-            ("V",onto(v2e,[FILL]*v)),("E",onto(e2e,[FILL]*e)),("B",onto(b2e,[FILL]*b))]
+    return refusal(n,new) or written(n,new,entries,v,e,b)
 # a case is a label; n; m; the code; the lengths of V2e, E2e, B2e and work; and the entries of the list
-text=open(sys.argv[1]).read()
-assert len(text)<=8192
-for case in text.splitlines():
-    if ";" not in case: continue
-    label,rest=case.split(";",1)
-    numbers=[int(x) for x in rest.replace(";"," ").replace(","," ").split()]
-    # what the program can take, each number after one byte
-    assert len(numbers)<=127 and max(numbers[3],numbers[5])<=40 and numbers[4]<=60 and numbers[6]<=200,label
-    assert len(rest.replace(",",";").replace(" ",";").split(";"))==len(numbers),label
-    print(label)
-    found=answer(*numbers[:7],numbers[7:])
-    if isinstance(found,tuple): line("R",found)
-    else:
-        for letter,entries in found: line(letter,entries)
-    print("clean")
+print_cases(sys.argv[1],answer,7,(40,60,40,200))

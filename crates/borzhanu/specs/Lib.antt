@@ -1,2 +1,1 @@
 pub mod Walkers
-pub mod Sizes

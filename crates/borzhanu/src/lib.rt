@@ -10,12 +10,13 @@ ghost use Rattle.rules.specs.Queries.{borderLoopLeaves, walkerStart, walkerStep
 ghost use Rattle.rules.specs.Siblings.{siblingsAnswer, siblingsLeaves};
 ghost use Rattle.rules.specs.Holes.{holesAnswer, holesLeaves};
 ghost use Rattle.rules.specs.Swap.{swapAnswer, swapLeaves};
+ghost use Rattle.rules.specs.Split.{splitAnswer, splitLeaves, splitPoints};
 ghost use Rattle.build.specs.Building.{lent};
+ghost use Rattle.edits.specs.Holding.{lentSized};
 ghost use Rattle.sibling_map.specs.Mapping.{lentMaps};
 ghost use Rattle.holes.specs.Marks.{lentHoles};
 ghost use Rattle.walker.specs.Walkers.{calledBy};
 ghost use Rattle.borzhanu.specs.Walkers.{walkerIn, entriesOf};
-ghost use Rattle.borzhanu.specs.Sizes.{lentSized};
 
 // V2e, E2e and the first k entries of B2e of an element list: k and the number of edges.
 #[no_mangle]
@@ -90,6 +91,26 @@ pub extern "C" fn borzhanu_swap(
     let n = size[0];
     let m = size[1];
     answer::pack(swap::swap(n, m, elements, v2e, e2e, b2e, work, code))
+}
+
+// A new vertex on a side, with its midpoint, in the list, its tables and the points: k and the number of edges. `size` holds n and m, and then
+// the new n and m.
+#[no_mangle]
+pub extern "C" fn borzhanu_split(
+    size: &mut [u32; 2],
+    elements: &mut [u32],
+    v2e: &mut [u32],
+    e2e: &mut [u32],
+    b2e: &mut [u32],
+    points: &mut [f64],
+    work: &mut [u32],
+    code: u32,
+) -> u64
+    ensures { λ r. ⌜ r ≡ packedAnswer (splitAnswer (lentSized (now (size .entry)) (now (elements .entry)) (now (v2e .entry)) (now (e2e .entry)) (now (b2e .entry)) (now (work .entry))) (now (points .entry)) code) ⌝ }
+    ensures { λ _. ⌜ lentSized (now (size .exit)) (now (elements .exit)) (now (v2e .exit)) (now (e2e .exit)) (now (b2e .exit)) (now (work .exit)) ≡ splitLeaves (lentSized (now (size .entry)) (now (elements .entry)) (now (v2e .entry)) (now (e2e .entry)) (now (b2e .entry)) (now (work .entry))) (now (points .entry)) code ⌝ }
+    ensures { λ _. ⌜ now (points .exit) ≡ splitPoints (lentSized (now (size .entry)) (now (elements .entry)) (now (v2e .entry)) (now (e2e .entry)) (now (b2e .entry)) (now (work .entry))) (now (points .entry)) code ⌝ }
+{
+    answer::pack(split::split(size, elements, v2e, e2e, b2e, points, work, code))
 }
 
 // The half-edge that runs along the same edge the other way.

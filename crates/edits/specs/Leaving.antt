@@ -1,7 +1,7 @@
 -- What any edit answers and leaves. x is what it makes of the list, from the trial of the old list to the whole call.
 -- Assumes nothing.
-use mathlib.Core.Path.{_≡_, ap, sym, _∙_}
-use mathlib.Core.Bool.{true, false}
+use mathlib.Core.Path.{_≡_, refl, ap, sym, _∙_}
+use mathlib.Core.Bool.{Bool, true, false}
 use mathlib.Core.List.{List, []}
 use Prim.Native.Nat.{ℕ}
 use lib.Dec.{T}
@@ -19,6 +19,16 @@ use Rattle.edits.specs.Holding.{lentEdit}
 abbrev pub tight : ℕ → List ℕ → List ℕ → List ℕ → List ℕ → Lent
 tight n L V2e E2e B2e = lentEdit n (elements L) L V2e E2e B2e []
 
+-- what is left, by the answer
+module _ {A : Type 0} {a : Answer} (new old : A) where
+  pub after-refusal : {r p q : ℕ} → a ≡ refused r p q → after a new old ≡ old
+  unfolding after
+  after-refusal e = ap (λ (y : Answer). after y new old) e
+
+  pub after-answer : {k e : ℕ} → a ≡ gives k e → after a new old ≡ new
+  unfolding after
+  after-answer e = ap (λ (y : Answer). after y new old) e
+
 -- the answer a by what was stated, and what it left of w
 pub record Left (stated a : Answer) (w : Lent) (x : Edited) (w′ : Lent) : Type 0 where
   pub answer : a ≡ stated
@@ -26,8 +36,7 @@ pub record Left (stated a : Answer) (w : Lent) (x : Edited) (w′ : Lent) : Type
 
 -- a refusal leaves all as it was
 pub refused-left : {stated a : Answer} {r p q : ℕ} {w : Lent} {x : Edited} → a ≡ refused r p q → a ≡ stated → Left stated a w x w
-unfolding after
-refused-left {w = w} {x = x} e f = record { answer = f; leaves = sym (ap (λ (y : Answer). after y (written w x) w) e) }
+refused-left {w = w} {x = x} e f = record { answer = f; leaves = sym (after-refusal (written w x) w e) }
 
 -- an old list that was accepted has fit rows
 pub accepted-fit : (n : ℕ) (L : List ℕ) {k e : ℕ} → T (sizesFit n L) → listAnswer n L ≡ gives k e → Fit n L
@@ -61,8 +70,16 @@ module _ (n : ℕ) (L : List ℕ) (x : Edited) (room : ℕ) {t : Answer} (said :
           leaves = l .leaves ∙ ap (λ (z : Edited). after a (written w z) w) (sym f);
         }
 
+-- a work buffer that is left out on the way comes back in the end
+pub work-apart : (w : Lent) (x : Edited) (a : Answer) (work : List ℕ)
+    → withWork (after a (written (withWork w []) x) (withWork w [])) work ≡ withWork (after a (written w x) w) work
+unfolding after written
+work-apart w (becomes n L) (gives i j) work = refl
+work-apart w (refuses r) (gives i j) work = refl
+work-apart w x (refused r i j) work = refl
+
 -- the whole call
-module _ (w : Lent) (x : Edited) where
+module _ (w : Lent) (others : Bool) (x : Edited) where
   abbrev pub rest : Answer
   rest = onceAccepted (listAnswer (w .n) (held w)) (newAnswer (length (w .border)) x)
 
@@ -71,12 +88,12 @@ module _ (w : Lent) (x : Edited) where
   leavesBy a work = withWork (after a (written w x) w) work
 
   abbrev pub Whole : Answer → Lent → Type 0
-  Whole a w′ = (a ≡ editAnswer w x) × (w′ ≡ editLeaves w x)
+  Whole a w′ = (a ≡ editAnswer w others x) × (w′ ≡ editLeaves w others x)
 
   pub unsized : {a : Answer} → editSizes w ≡ false → a ≡ refused 1 0 0 → Whole a w
   unfolding after editAnswer editLeaves
-  unsized = calls.unsized leavesBy (editSizes w) (editLengths w) rest (w .work)
+  unsized = calls.unsized leavesBy (editSizes w) (editLengths w others) rest (w .work)
 
-  pub unlengthened : {a : Answer} → editSizes w ≡ true → editLengths w ≡ false → a ≡ refused 2 0 0 → Whole a w
+  pub unlengthened : {a : Answer} → editSizes w ≡ true → editLengths w others ≡ false → a ≡ refused 2 0 0 → Whole a w
   unfolding after editAnswer editLeaves
-  unlengthened = calls.unlengthened leavesBy (editSizes w) (editLengths w) rest (w .work)
+  unlengthened = calls.unlengthened leavesBy (editSizes w) (editLengths w others) rest (w .work)

@@ -1,12 +1,16 @@
 -- Document 01, "Housings to hold up to the rules": "The cases marked P are gathered in a small table, and a single proof shows that the
--- rules above give all its rows". The rows that requests of document 02 bring stand at its end.
+-- rules above give all its rows". The rows that requests of document 02 bring stand at its end, those
+-- of point 6, with floats in them, in a second table.
 -- Assumes nothing.
 use mathlib.Core.Bool.{Bool, true, false}
 use mathlib.Core.Option.{Option, none, some}
 use mathlib.Core.List.{List, [], _∷_, _++_}
-use Prim.Native.Nat.{ℕ, _+_, _*_, _-_}
+use Prim.Native.Nat.{ℕ, zero, suc, _+_, _*_, _-_}
+use lib.Count.{trailingZeros}
 use lib.Dec.{T, eqb}
-use lib.ListN.{length, take, replicate}
+use lib.Ieee.{Float, binary64, span, climb, size, odd, units, round, sum, add, mul, ofInt, ofFields, ofBits, toBits}
+use lib.IntN.{pos}
+use lib.ListN.{length, take, drop, replicate}
 use Rattle.lists.specs.Tests.{both, same, has}
 use Rattle.lists.specs.Search.{least, count, upto, tab, zeros}
 use Rattle.rules.specs.Elements.{elements, sidesBy, isSide, slot, origin, nextNumber, previousNumber, next, previous, sideAt, firstSide, countSides, firstNumber}
@@ -22,8 +26,9 @@ use Rattle.rules.specs.Queries.{ring, neighbours, nextBorder, loopNext, 
 use Rattle.rules.specs.Queries.{ringAnswer, ringLeaves, neighboursAnswer, neighboursLeaves, borderLoopAnswer, borderLoopLeaves}
 use Rattle.rules.specs.Holes.{lists, broken, HoleBuffers, leastOf, holesUpTo, holeOf, holes, holeCount}
 use Rattle.rules.specs.Holes.{holeLengths, holesFound, holesFit, holesAnswer, holesLeaves}
-use Rattle.rules.specs.Edits.{Lent, overOld, onceAccepted, newAnswer, isThere, editSizes, editLengths, editAnswer, written, editLeaves}
-use Rattle.rules.specs.Swap.{third, flipped, withRow, swapped, isSwappable, swap, swapAnswer, swapLeaves}
+use Rattle.rules.specs.Edits.{Lent, overOld, withRow, onceAccepted, newAnswer, isThere, countsFit, hasRoom, editSizes, editLengths, editAnswer, written, editLeaves}
+use Rattle.rules.specs.Swap.{third, flipped, swapped, isSwappable, swap, swapAnswer, swapLeaves}
+use Rattle.rules.specs.Split.{withCorner, halved, splitAt, isSplittable, hasPoints, canHold, split, splitAnswer, splitLeaves, midway, coordinate, midpoint, withPoint, splitPoints}
 
 -- an element's row, or a row of E2e, in three columns or in four; lists are rows joined by ++
 unfoldable pub three : ℕ → ℕ → ℕ → List ℕ
@@ -80,6 +85,15 @@ editRoom n m L v e b work =
       work = replicate work 1;
     }
 
+-- so many numbers for points, the i-th of them i, and the bits of points
+unfoldable pub counted : ℕ → List Float
+counted zero = []
+counted (suc k) = counted k ++ (ofInt binary64 (pos k) ∷ [])
+
+unfoldable pub bits : List Float → List ℕ
+bits [] = []
+bits (x ∷ xs) = toBits binary64 x ∷ bits xs
+
 -- a row: what is asked of n vertices and a list, and the outcome
 pub data Case : Type 0 where
   -- build's answer
@@ -113,6 +127,14 @@ pub data Case : Type 0 where
   -- with this n, m and list, a V2e, E2e, B2e and work buffer of these lengths, the refusal of the code, which leaves n, m, list and tables as
   -- they were, and what it leaves of the work
   swapRefused : ℕ → ℕ → List ℕ → ℕ → ℕ → ℕ → ℕ → ℕ → Answer → List ℕ → Case
+  -- the side with this code split, with so many entries more than the new list needs in each buffer: k, the edges, the list and the bits of the
+  -- new point, where number i of the points is i; the tables are those that build leaves of the list
+  splitIs : ℕ → List ℕ → ℕ → ℕ → ℕ → ℕ → List ℕ → List ℕ → Case
+  -- with this n, m and list, a V2e, E2e, B2e, points and work buffer of these lengths, the refusal of the code, which leaves n, m, list, tables
+  -- and points as they were, and what it leaves of the work
+  splitRefused : ℕ → ℕ → List ℕ → ℕ → ℕ → ℕ → ℕ → ℕ → ℕ → Answer → List ℕ → Case
+  -- the bits of two numbers, and of the one midway
+  midwayIs : ℕ → ℕ → ℕ → Case
 
 unfoldable pub sameAnswer : Answer → Answer → Bool
 sameAnswer (gives a b) (gives c d) = both (eqb a c) (eqb b d)
@@ -124,6 +146,27 @@ sameAnswer (refused q a b) (refused r c d) = both (eqb q r) (both (eqb a c) (eqb
 unfoldable pub gave : (List ℕ → Answer) → (List ℕ → List ℕ) → List ℕ → Bool
 gave answer leaves xs =
     let out = blank (length xs) in both (sameAnswer (answer out) (gives (length xs) 0)) (same (leaves out) xs)
+
+-- after an answer of an edit: n, the list L and the tables that build leaves of it, with these entries after each, and a work buffer of zeros
+unfoldable pub heldIn : Lent → ℕ → List ℕ → List ℕ → ℕ → Bool
+heldIn w n L more work =
+    let built = left n L in
+    both (eqb (w .n) n)
+    (both (eqb (w .m) (elements L))
+    (both (same (w .list) (L ++ more))
+    (both (same (w .vertices) (built .vertices ++ more))
+    (both (same (w .opposites) (built .opposites ++ more))
+    (both (same (w .border) (built .border ++ more)) (same (w .work) (blank work)))))))
+
+-- after a refusal: all as in the other, but for the work
+unfoldable pub sameLent : Lent → Lent → List ℕ → Bool
+sameLent w old work =
+    both (eqb (w .n) (old .n))
+    (both (eqb (w .m) (old .m))
+    (both (same (w .list) (old .list))
+    (both (same (w .vertices) (old .vertices))
+    (both (same (w .opposites) (old .opposites))
+    (both (same (w .border) (old .border)) (same (w .work) work))))))
 
 -- the rules give the row
 unfoldable pub holds : Case → Bool
@@ -176,25 +219,25 @@ holds (swapIs n L s spare k e L′) =
     let m = elements L in
     let more : List ℕ = replicate spare 9 in
     let w = editRoom n m (L ++ more) (n + spare) (columns L * m + spare) (k + spare) (n + 16 * m + spare) in
-    let w′ = swapLeaves w s in
-    let built = left n L′ in
-    both (sameAnswer (swapAnswer w s) (gives k e))
-    (both (eqb (w′ .n) n)
-    (both (eqb (w′ .m) m)
-    (both (same (w′ .list) (L′ ++ more))
-    (both (same (w′ .vertices) (built .vertices ++ more))
-    (both (same (w′ .opposites) (built .opposites ++ more))
-    (both (same (w′ .border) (built .border ++ more)) (same (w′ .work) (blank (length (w .work))))))))))
+    both (sameAnswer (swapAnswer w s) (gives k e)) (heldIn (swapLeaves w s) n L′ more (length (w .work)))
 holds (swapRefused n m L v e b work s a work′) =
     let w = editRoom n m L v e b work in
-    let w′ = swapLeaves w s in
-    both (sameAnswer (swapAnswer w s) a)
-    (both (eqb (w′ .n) n)
-    (both (eqb (w′ .m) m)
-    (both (same (w′ .list) L)
-    (both (same (w′ .vertices) (w .vertices))
-    (both (same (w′ .opposites) (w .opposites))
-    (both (same (w′ .border) (w .border)) (same (w′ .work) work′)))))))
+    both (sameAnswer (swapAnswer w s) a) (sameLent (swapLeaves w s) w work′)
+holds (splitIs n L s spare k e L′ p) =
+    let m = elements L′ in
+    let more : List ℕ = replicate spare 9 in
+    let list : List ℕ = L ++ replicate (length L′ - length L + spare) 9 in
+    let w = editRoom n (elements L) list (n + 1 + spare) (columns L * m + spare) (k + spare) (n + 1 + 16 * m + spare) in
+    let P = counted (3 * n + 3 + spare) in
+    both (sameAnswer (splitAnswer w P s) (gives k e))
+    (both (heldIn (splitLeaves w P s) (n + 1) L′ more (length (w .work)))
+    (same (bits (splitPoints w P s)) (take (3 * n) (bits P) ++ (p ++ drop (3 * n + 3) (bits P)))))
+holds (splitRefused n m L v e b points work s a work′) =
+    let w = editRoom n m L v e b work in
+    let P = counted points in
+    both (sameAnswer (splitAnswer w P s) a)
+    (both (sameLent (splitLeaves w P s) w work′) (same (bits (splitPoints w P s)) (bits P)))
+holds (midwayIs x y z) = eqb (toBits binary64 (midway (ofBits binary64 x) (ofBits binary64 y))) z
 
 unfoldable pub every : (Case → Bool) → List Case → Bool
 every p [] = true
@@ -403,6 +446,49 @@ cases =
     swapRefused 4 1_000_001 [] 4 6 4 36 11 (refused 1 0 0) (replicate 36 1) ∷
     []
 
+-- those of point 6, whose points are floats, apart: one computation for each table
+unfoldable pub splits : List Case
+splits =
+    -- document 02, point 6: "A triangle (a,b,c) becomes (a,v,c) and appended (v,b,c). Its partner (b,a,d), if there is one, becomes (b,v,d) and
+    -- appended (v,a,d), after the first": the listing's side 3 to 1, and its partner; points 1 and 3 at (0,1,2) and (6,7,8)
+    splitIs 4 listing 11 0 4 8 (tri 5 2 3 ++ tri 1 5 4 ++ tri 1 2 5 ++ tri 5 3 4) (three 0x4008_0000_0000_0000 0x4010_0000_0000_0000 0x4014_0000_0000_0000) ∷
+    splitIs 4 listing 17 2 4 8 (tri 5 2 3 ++ tri 1 5 4 ++ tri 5 3 4 ++ tri 1 2 5) (three 0x4008_0000_0000_0000 0x4010_0000_0000_0000 0x4014_0000_0000_0000) ∷
+    -- "a border side may be split", the side 1 to 2; and beside a quadrilateral
+    splitIs 4 listing 9 1 5 7 (tri 1 5 3 ++ tri 1 3 4 ++ tri 5 2 3) (three 0x3ff8_0000_0000_0000 0x4004_0000_0000_0000 0x400c_0000_0000_0000) ∷
+    splitIs 5 mixed 9 0 6 8 (tri 1 6 3 ++ quad 1 3 4 5 ++ tri 6 2 3) (three 0x3ff8_0000_0000_0000 0x4004_0000_0000_0000 0x400c_0000_0000_0000) ∷
+    -- 11; "Refusal 15 is given here only for a quadrilateral or for a border code"
+    splitRefused 4 2 (listing ++ blank 8) 5 12 4 15 69 0 (refused 11 0 0) (blank 69) ∷
+    splitRefused 4 2 (listing ++ blank 8) 5 12 4 15 69 12 (refused 11 0 0) (blank 69) ∷
+    splitRefused 4 2 (listing ++ blank 8) 5 12 4 15 69 25 (refused 11 0 0) (blank 69) ∷
+    splitRefused 4 2 (listing ++ blank 8) 5 12 4 15 69 40 (refused 11 0 0) (blank 69) ∷
+    splitRefused 4 2 (listing ++ blank 8) 5 12 4 15 69 32 (refused 15 0 0) (blank 69) ∷
+    splitRefused 5 2 (mixed ++ blank 8) 6 16 5 18 70 11 (refused 15 0 0) (blank 70) ∷
+    splitRefused 5 2 (mixed ++ blank 8) 6 16 5 18 70 17 (refused 15 0 0) (blank 70) ∷
+    splitRefused 5 2 mixed 5 8 0 15 37 18 (refused 15 0 0) (blank 37) ∷
+    -- "19: .. a lent buffer but B2e can't hold the new length; after 15, with 9 by the new k last"
+    splitRefused 4 2 (listing ++ blank 7) 5 12 0 15 69 11 (refused 19 0 0) (blank 69) ∷
+    splitRefused 4 2 (listing ++ blank 8) 4 12 0 15 69 11 (refused 19 0 0) (blank 69) ∷
+    splitRefused 4 2 (listing ++ blank 8) 5 11 0 15 69 11 (refused 19 0 0) (blank 69) ∷
+    splitRefused 4 2 (listing ++ blank 8) 5 12 0 14 69 11 (refused 19 0 0) (blank 69) ∷
+    splitRefused 4 2 (listing ++ blank 8) 5 12 0 15 68 11 (refused 19 0 0) (blank 68) ∷
+    splitRefused 4 2 (listing ++ blank 8) 5 12 3 15 69 11 (refused 9 4 0) (blank 69) ∷
+    splitRefused 4 2 (listing ++ blank 4) 5 9 4 15 53 9 (refused 9 5 0) (blank 53) ∷
+    -- "Points are lent as 3 × n numbers, under check 2 too"; "The old list must be accepted"
+    splitRefused 4 2 (listing ++ blank 8) 5 12 4 11 69 11 (refused 2 0 0) (replicate 69 1) ∷
+    splitRefused 4 2 listing 4 6 4 12 35 11 (refused 2 0 0) (replicate 35 1) ∷
+    splitRefused 4 2 (tri 1 2 3 ++ tri 1 2 4) 4 6 0 12 36 0 (refused 7 1 1) (blank 36) ∷
+    splitRefused 1_000_001 2 [] 4 6 4 0 36 11 (refused 1 0 0) (replicate 36 1) ∷
+    -- "the sum of the two ends times 0.5": of 1 and 2; of the least number twice, whose half is no number; of the greatest twice, whose sum is
+    -- none; of 2^53 and 1, whose sum is rounded; of −0 twice, of −0 and 0, of two infinities
+    midwayIs 0x3ff0_0000_0000_0000 0x4000_0000_0000_0000 0x3ff8_0000_0000_0000 ∷
+    midwayIs 1 1 1 ∷
+    midwayIs 0x7fef_ffff_ffff_ffff 0x7fef_ffff_ffff_ffff 0x7ff0_0000_0000_0000 ∷
+    midwayIs 0x4340_0000_0000_0000 0x3ff0_0000_0000_0000 0x4330_0000_0000_0000 ∷
+    midwayIs 0x8000_0000_0000_0000 0x8000_0000_0000_0000 0x8000_0000_0000_0000 ∷
+    midwayIs 0x8000_0000_0000_0000 0 0 ∷
+    midwayIs 0x7ff0_0000_0000_0000 0xfff0_0000_0000_0000 0x7ff8_0000_0000_0000 ∷
+    []
+
 -- the rules give every row of the table
 pub cases-hold : T (every holds cases)
 unfolding three quad tri blank room left built sameAnswer gave holds every listing listingE2e tetrahedron mixed triangles
@@ -417,6 +503,18 @@ unfolding three quad tri blank room left built sameAnswer gave holds every listi
     borderLoop listedAnswer ringAnswer ringLeaves neighboursAnswer neighboursLeaves borderLoopAnswer borderLoopLeaves
     siblingRoom workAfter sibling siblingEntry sibhe v2he siblingLengths siblingsAnswer siblingsLeaves
     has holeRoom openings apart between lists broken leastOf holesUpTo holeOf holes holeCount holeLengths holesFound holesFit holesAnswer holesLeaves
-    editRoom fan previousNumber previous overOld onceAccepted newAnswer isThere editSizes editLengths editAnswer written editLeaves
+    editRoom fan previousNumber previous overOld onceAccepted newAnswer isThere countsFit hasRoom editSizes editLengths editAnswer written editLeaves
     third flipped withRow swapped isSwappable swap
+    heldIn sameLent
 cases-hold = tt
+
+pub splits-hold : T (every holds splits)
+unfolding three quad tri blank room left sameAnswer holds every listing mixed splits least count upto tab zeros same
+    sidesBy isSide slot origin nextNumber next sideAt firstSide countSides firstNumber alike opposed joins callSizes sizesFit unfitCorner repeatedCorner
+    isCorner sharedCorners shareSide meetWell partner isBorder b2e borderNumber borders columns codeAt e2eEntry e2e wide borderInto v2eEntry v2e edges
+    sideOfBorder walkStart turnBy trace walkTo walk crowdedSide alikeSide missed unorderedVertex clashOf clashing checkFound listAnswer callLengths
+    buildLengths lengthChecks roomCheck buildAnswer after onto buildLeaves workAfter
+    editRoom overOld onceAccepted newAnswer isThere countsFit hasRoom editSizes editLengths editAnswer written editLeaves counted bits heldIn sameLent
+    withCorner halved splitAt isSplittable hasPoints canHold split midway coordinate midpoint withPoint splitPoints
+    ofInt ofBits ofFields toBits round size span climb units odd trailingZeros sum add mul
+splits-hold = tt

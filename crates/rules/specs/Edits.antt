@@ -5,7 +5,7 @@ use mathlib.Core.Bool.{Bool}
 use mathlib.Core.List.{List, _++_}
 use Prim.Native.Nat.{ℕ, _+_, _*_, _-_}
 use lib.Dec.{leb, eqb}
-use lib.ListN.{length, take, replicate}
+use lib.ListN.{length, take, drop, replicate}
 use Rattle.lists.specs.Tests.{both, either, within}
 use Rattle.rules.specs.Elements.{maxVertex, maxElement, elements, element, number, isSide}
 use Rattle.rules.specs.Tables.{borders, b2e, columns, e2e, v2e}
@@ -44,6 +44,10 @@ withWork w work =
 unfoldable pub overOld : ℕ → List ℕ → List ℕ → List ℕ
 overOld old xs buffer = onto (xs ++ replicate (old - length xs) 0) buffer
 
+-- the list with this row for element f
+unfoldable pub withRow : ℕ → List ℕ → List ℕ → List ℕ
+withRow f row L = take (4 * (f - 1)) L ++ (row ++ drop (4 * f) L)
+
 -- "The list as given must first be accepted": what comes then, or what was said of the list
 unfoldable pub onceAccepted : Answer → Answer → Answer
 onceAccepted (gives k e) rest = rest
@@ -58,27 +62,37 @@ newAnswer room (refuses r) = refused r 0 0
 unfoldable pub isThere : List ℕ → ℕ → Bool
 isThere L c = either (isSide L c) (both (eqb (number c) 0) (within 1 (borders L) (element c)))
 
+-- n and m are at most their maxima
+unfoldable pub countsFit : ℕ → ℕ → Bool
+countsFit n m = both (leb n maxVertex) (leb m maxElement)
+
 module _ (w : Lent) where
   -- the list that is held: the first m rows
   abbrev pub held : List ℕ
   held = take (4 * w .m) (w .list)
 
+  -- the buffers but B2e have room for a list of n vertices and m elements, with the columns of the list that is held
+  unfoldable pub hasRoom : ℕ → ℕ → Bool
+  hasRoom n m =
+      both (leb (4 * m) (length (w .list)))
+      (both (leb n (length (w .vertices)))
+      (both (leb (columns held * m) (length (w .opposites)))
+      (leb (n + 16 * m) (length (w .work)))))
+
   -- document 01: "Where a request lets buffers be longer than what they hold, the call is told m, check 1 reads n and m only, and check 2 asks
   -- for at least these lengths"
   unfoldable pub editSizes : Bool
-  editSizes = both (leb (w .n) maxVertex) (leb (w .m) maxElement)
+  editSizes = countsFit (w .n) (w .m)
 
-  unfoldable pub editLengths : Bool
-  editLengths =
-      both (leb (4 * w .m) (length (w .list)))
-      (both (leb (w .n) (length (w .vertices)))
-      (both (leb (columns held * w .m) (length (w .opposites)))
-      (leb (w .n + 16 * w .m) (length (w .work)))))
+  -- `others` for the lengths of what else is lent to the edit
+  module _ (others : Bool) where
+    unfoldable pub editLengths : Bool
+    editLengths = both others (hasRoom (w .n) (w .m))
 
-  -- "in every edit the old list, 9 apart, is tried first, then 11, 15 and the new list"
-  unfoldable pub editAnswer : Edited → Answer
-  editAnswer x =
-      lengthChecks editSizes editLengths (onceAccepted (listAnswer (w .n) held) (newAnswer (length (w .border)) x))
+    -- "in every edit the old list, 9 apart, is tried first, then 11, 15 and the new list"
+    unfoldable pub editAnswer : Edited → Answer
+    editAnswer x =
+        lengthChecks editSizes editLengths (onceAccepted (listAnswer (w .n) held) (newAnswer (length (w .border)) x))
 
   -- the new n and m, list and tables; 0 past them "but not in B2e" (point 8)
   unfoldable pub written : Edited → Lent
@@ -95,5 +109,6 @@ module _ (w : Lent) where
   written (refuses r) = w
 
   -- what an edit leaves: "refused, list and tables unchanged"; and the work buffer of document 01
-  unfoldable pub editLeaves : Edited → Lent
-  editLeaves x = withWork (after (editAnswer x) (written x) w) (workAfter editSizes editLengths (w .work))
+  unfoldable pub editLeaves : Bool → Edited → Lent
+  editLeaves others x =
+      withWork (after (editAnswer others x) (written x) w) (workAfter editSizes (editLengths others) (w .work))

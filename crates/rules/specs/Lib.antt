@@ -8,4 +8,5 @@ pub mod Queries
 pub mod Holes
 pub mod Edits
 pub mod Swap
+pub mod Split
 pub mod Cases

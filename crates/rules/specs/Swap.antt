@@ -1,15 +1,14 @@
 -- Document 02, point 1: "Swap the diagonal of two triangles".
 -- Assumes nothing.
 use mathlib.Core.Bool.{Bool, true, false, not}
-use mathlib.Core.List.{List, [], _∷_, _++_}
-use Prim.Native.Nat.{ℕ, _*_, _-_}
+use mathlib.Core.List.{List, [], _∷_}
+use Prim.Native.Nat.{ℕ}
 use lib.Dec.{eqb}
-use lib.ListN.{take, drop}
 use Rattle.lists.specs.Tests.{both}
 use Rattle.rules.specs.Elements.{sides, element, isSide, origin, previous}
 use Rattle.rules.specs.Tables.{partner, isBorder}
 use Rattle.rules.specs.Refusals.{Answer}
-use Rattle.rules.specs.Edits.{Edited, becomes, refuses, Lent, isThere, held, editAnswer, editLeaves}
+use Rattle.rules.specs.Edits.{Edited, becomes, refuses, Lent, withRow, isThere, held, editAnswer, editLeaves}
 
 -- "With side a to b, its third corner c": the corner before a
 unfoldable pub third : List ℕ → ℕ → ℕ
@@ -19,10 +18,6 @@ third L s = origin L (previous L s)
 -- "and the partner's (d,b,c)"
 unfoldable pub flipped : List ℕ → ℕ → ℕ → List ℕ
 flipped L s t = third L s ∷ origin L s ∷ third L t ∷ 0 ∷ []
-
--- the list with this row for element f
-unfoldable pub withRow : ℕ → List ℕ → List ℕ → List ℕ
-withRow f row L = take (4 * (f - 1)) L ++ (row ++ drop (4 * f) L)
 
 -- the list with the diagonal s swapped
 unfoldable pub swapped : List ℕ → ℕ → List ℕ
@@ -43,9 +38,10 @@ swap n L s =
     elim (isThere L s)
     [ true ↦ elim (isSwappable L s) [ true ↦ becomes n (swapped L s) | false ↦ refuses 15 ] | false ↦ refuses 11 ]
 
+-- nothing else is lent
 abbrev pub swapAnswer : Lent → ℕ → Answer
-swapAnswer w s = editAnswer w (swap (w .n) (held w) s)
+swapAnswer w s = editAnswer w true (swap (w .n) (held w) s)
 
 -- what the call leaves of what it is lent
 abbrev pub swapLeaves : Lent → ℕ → Lent
-swapLeaves w s = editLeaves w (swap (w .n) (held w) s)
+swapLeaves w s = editLeaves w true (swap (w .n) (held w) s)

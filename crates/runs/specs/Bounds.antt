@@ -1,6 +1,6 @@
 -- A bound on every number that each call can answer, so that nothing is lost in the packed number.
 -- Assumes nothing.
-use mathlib.Core.Path.{_≡_, refl, sym, subst, _∙_}
+use mathlib.Core.Path.{_≡_, refl, sym, subst}
 use mathlib.Core.Bool.{Bool, true, false}
 use mathlib.Core.Logic.{_⊎_, inl, inr}
 use mathlib.Core.Option.{Option, none, some}
@@ -8,6 +8,7 @@ use mathlib.Core.List.{List, [], _∷_}
 use Prim.Native.Nat.{ℕ, zero, suc, _+_, _*_, _/_, _%_, _≤_, _<_}
 use native.Mathlib.Omega.{arith}
 use lib.Dec.{T, leb, eqb}
+use lib.Ieee.{Float}
 use lib.ListN.{length}
 use Rattle.lists.specs.Tests.{both, within}
 use Rattle.lists.specs.TestLaws.{passes, Test, pass, fail, test, means-itself, means-both, means-either, means-eq, means-le, means-within}
@@ -19,8 +20,9 @@ use Rattle.rules.specs.Tables.{borders, columns, edges}
 use Rattle.rules.specs.Refusals.{clashOf, clashing, Answer, gives, refused, Buffers, crowdedSide, alikeSide, unorderedVertex, checkFound}
 use Rattle.rules.specs.Refusals.{rowChecks, listAnswer, lengthChecks, roomCheck, buildAnswer, recovers, recoverAnswer}
 use Rattle.rules.specs.Siblings.{SiblingBuffers, siblingsAnswer}
-use Rattle.rules.specs.Edits.{Edited, becomes, refuses, Lent, held, isThere, onceAccepted, newAnswer, editSizes, editLengths, editAnswer}
-use Rattle.rules.specs.Swap.{swapped, isSwappable, swap, swapAnswer}
+use Rattle.rules.specs.Edits.{Edited, becomes, refuses, Lent, held, onceAccepted, newAnswer, editSizes, editLengths, editAnswer}
+use Rattle.rules.specs.Swap.{swapped, swap, swapAnswer}
+use Rattle.rules.specs.Split.{hasPoints, split, splitAnswer}
 use Rattle.rules.specs.Holes.{HoleBuffers, leastOf, holesUpTo, holeCount, holesFound, holesFit, holesAnswer}
 use Rattle.rules.specs.Queries.{Mesh, columnsAnswer, queryLengths, asked, defined, found, listed, andThen, prepend, readAll, read, bySide, byEntry, follow, over, isBorderCode, isHalfEdge, isEntry}
 use Rattle.rules.specs.Queries.{isVertex, readOpposite, readBorderSide, readVertexEntry, readOrigin, readDestination, opposite, borderNext, startSide}
@@ -33,12 +35,14 @@ use Rattle.theory.specs.Steps.{NextNumber, wraps, grows, next-number, previous-
 use Rattle.theory.specs.FitRows.{means-sizes}
 use Rattle.theory.specs.Columns.{three-or-four}
 use Rattle.theory.specs.Built.{borders-bound}
+use Rattle.theory.specs.SplitTests as split-tests
 use Rattle.answer.specs.Packing.{Fits}
-use Rattle.swap.specs.Swaps.{gone, unfit, swaps, becomes-swapped}
+use Rattle.swap.specs.Swaps.{refuses-by, becomes-swapped}
 use Rattle.runs.specs.Runs.{walked-answers}
 use Rattle.runs.specs.Demand3.{list-counted}
 use Rattle.runs.specs.Edits.{held-sizes}
 use Rattle.runs.specs.Swaps.{new-sizes}
+use Rattle.runs.specs.Splits.{split-sizes}
 
 -- what check 1 says of n and the list
 abbrev Sized : ℕ → List ℕ → Type 0
@@ -129,14 +133,19 @@ unfolding newAnswer
 new-fits room (becomes n L) f g = room-fits room (listAnswer n L) (list-fits n L (f n L refl))
 new-fits room (refuses r) f g = omega (arith, g r refl)
 
-pub swap-fits : (w : Lent) (s : ℕ) → Fits (swapAnswer w s)
+-- by the answers about the old list and the new one
+edit-fits : (w : Lent) (others : Bool) (x : Edited) → (Accepted (w .n) (held w) → (n : ℕ) (L : List ℕ) → x ≡ becomes n L → Sized n L)
+    → ((r : ℕ) → x ≡ refuses r → (1 ≤ r) × (r < 256)) → Fits (editAnswer w others x)
 unfolding editAnswer
-swap-fits w s =
-    lengths-fit (editSizes w) (editLengths w) _
+edit-fits w others x sized small =
+    lengths-fit (editSizes w) (editLengths w others) _
     (λ sizes lengths.
-    let fit = held-sizes w sizes lengths in
-    once-fits (listAnswer n L) _ (list-fits n L (means-sizes n L .says fit))
-    (λ k e g. new-fits (length (w .border)) (swap n L s) (becomes-sized (list-counted n L fit k e g .0)) (λ r h. refuses-small r h (test (isThere L s)) (test (isSwappable L s)))))
+    let fit = held-sizes w others sizes lengths in
+    once-fits (listAnswer (w .n) (held w)) _ (list-fits (w .n) (held w) (means-sizes (w .n) (held w) .says fit))
+    (λ k e g. new-fits (length (w .border)) x (sized (list-counted (w .n) (held w) fit k e g .0)) small))
+
+pub swap-fits : (w : Lent) (s : ℕ) → Fits (swapAnswer w s)
+swap-fits w s = edit-fits w true (swap n L s) becomes-sized (λ r e. elim (refuses-by n L s e) [ inl i ↦ omega arith | inr i ↦ omega arith ])
   where
     n : ℕ
     n = w .n
@@ -149,10 +158,13 @@ swap-fits w s =
         let (d, vertices, same) = becomes-swapped n L s e in
         rw (vertices, same) at (means-sizes n (swapped L s) .says (new-sizes n L s old d))
 
-    refuses-small : (r : ℕ) → swap n L s ≡ refuses r → Test (isThere L s) → Test (isSwappable L s) → (1 ≤ r) × (r < 256)
-    refuses-small r e (fail t f) c = let g = sym (gone n L s f) ∙ e in let z : r ≡ 11 = cc in omega arith
-    refuses-small r e (pass t f) (fail u h) = let g = sym (unfit n L s f h) ∙ e in let z : r ≡ 15 = cc in omega arith
-    refuses-small r e (pass t f) (pass u h) = let g = sym (swaps n L s f h) ∙ e in let z : _≡_ {A = ℕ} 0 1 = cc in absurd (omega arith)
+pub split-fits : (w : Lent) (P : List Float) (s : ℕ) → Fits (splitAnswer w P s)
+split-fits w P s =
+    edit-fits w (hasPoints (w .n) P) (split w P s) becomes-sized
+    (λ r e. elim (split-tests.refuses-by w P s e) [ inl i ↦ omega arith | inr j ↦ elim j [ inl i ↦ omega arith | inr i ↦ omega arith ] ])
+  where
+    becomes-sized : Accepted (w .n) (held w) → (n′ : ℕ) (L′ : List ℕ) → split w P s ≡ becomes n′ L′ → Sized n′ L′
+    becomes-sized old n′ L′ e = means-sizes n′ L′ .says (split-sizes w P s old e)
 
 pub siblings-fits : (n : ℕ) (L : List ℕ) (w : SiblingBuffers) → Fits (siblingsAnswer n L w)
 unfolding siblingsAnswer

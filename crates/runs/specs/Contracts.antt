@@ -25,9 +25,11 @@ use Rattle.recover.proofs.recover.Reads as recover-reads
 use Rattle.holes.specs.Marks.{lentHoles}
 use Rattle.holes.proofs.holes.Kinds as holes-kinds
 use Rattle.holes.proofs.holes.Reads as holes-reads
-use Rattle.edits.specs.Holding.{lentEdit}
+use Rattle.edits.specs.Holding.{lentEdit, lentSized}
 use Rattle.swap.proofs.swap.Kinds as swap-kinds
 use Rattle.swap.proofs.swap.Reads as swap-reads
+use Rattle.split.proofs.split.Kinds as split-kinds
+use Rattle.split.proofs.split.Reads as split-reads
 use Rattle.sibling_map.specs.Mapping.{lentMaps}
 use Rattle.sibling_map.proofs.siblings.Kinds as siblings-kinds
 use Rattle.sibling_map.proofs.siblings.Reads as siblings-reads
@@ -50,7 +52,7 @@ use Rattle.walker.specs.declared.Call.the-variants.{Start, Step}
 use Rattle.walker.specs.Walkers.{recordOf, movedOf, calledBy}
 use Rattle.walker.proofs.call_at.Kinds as call-at-kinds
 use Rattle.walker.proofs.call_at.Reads as call-at-reads
-use Rattle.runs.specs.Runs.{StartRun, StepRun, BuildRun, RecoverRun, SiblingsRun, SwapRun, RingRun, NeighboursRun, BorderLoopRun, HolesRun}
+use Rattle.runs.specs.Runs.{StartRun, StepRun, BuildRun, RecoverRun, SiblingsRun, SwapRun, SplitRun, RingRun, NeighboursRun, BorderLoopRun, HolesRun}
 
 -- next_side(row, i) and previous_side(row, i)
 module _ (κs : Lfts 0) (a : Dens κs next-side-kinds.ps) (r : resT next-side-kinds.r κs .Denot) (s : AtExit (endedOf 0 next-side-kinds.ps next-side-kinds.r) κs) where
@@ -93,6 +95,16 @@ module _ (κs : Lfts 5) (a : Dens κs swap-kinds.ps) (r : resT swap-kinds.r κs 
       (a .1 .1 .1 .1 .1 .1 .1 .0) (numbers r)
       (lentEdit (a .0) (a .1 .0) (s .1 .1 .0 .now) (s .1 .1 .1 .0 .now) (s .1 .1 .1 .1 .0 .now) (s .1 .1 .1 .1 .1 .0 .now) (s .1 .1 .1 .1 .1 .1 .0 .now))
   swap-run p = record { answer = p .0; leaves = p .1 }
+
+-- split(size, list, v2e, e2e, b2e, points, work, code)
+module _ (κs : Lfts 7) (a : Dens κs split-kinds.ps) (r : resT split-kinds.r κs .Denot) (s : AtExit (endedOf 7 split-kinds.ps split-kinds.r) κs) where
+  pub split-run : split-reads.Post κs a r s
+      → SplitRun
+      (lentSized (a .0 .now) (a .1 .0 .now) (a .1 .1 .0 .now) (a .1 .1 .1 .0 .now) (a .1 .1 .1 .1 .0 .now) (a .1 .1 .1 .1 .1 .1 .0 .now))
+      (a .1 .1 .1 .1 .1 .0 .now) (a .1 .1 .1 .1 .1 .1 .1 .0) (numbers r)
+      (lentSized (s .0 .now) (s .1 .0 .now) (s .1 .1 .0 .now) (s .1 .1 .1 .0 .now) (s .1 .1 .1 .1 .0 .now) (s .1 .1 .1 .1 .1 .1 .0 .now))
+      (s .1 .1 .1 .1 .1 .0 .now)
+  split-run p = record { edit = record { answer = p .0; leaves = p .1 .0 }; points = p .1 .1 }
 
 -- columns(n, list)
 module _ (κs : Lfts 1) (a : Dens κs columns-kinds.ps) (r : resT columns-kinds.r κs .Denot) (s : AtExit (endedOf 1 columns-kinds.ps columns-kinds.r) κs) where

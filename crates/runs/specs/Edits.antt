@@ -2,35 +2,45 @@
 -- the tables that build gives of it, so recovery covers edited housings too". x is what the edit makes of the list that is held.
 -- Assumes nothing.
 use mathlib.Core.Path.{_≡_, refl, ap, sym, subst, _∙_}
-use mathlib.Core.Logic.{inl, inr}
+use mathlib.Core.Bool.{Bool, true, false}
+use mathlib.Core.Logic.{_⊎_, inl, inr}
 use mathlib.Core.List.{List}
-use Prim.Native.Nat.{ℕ, _+_, _*_, _≤_}
+use Prim.Native.Nat.{ℕ, _+_, _*_, _/_, _%_, _≤_}
 use native.Mathlib.Omega.{arith}
 use lib.Dec.{T}
-use lib.ListN.{length, take, length-replicate}
+use lib.ListN.{length, take, drop, length-replicate}
 use lib.Seq.{length-take-le}
 use Rattle.lists.specs.Tests.{both}
-use Rattle.lists.specs.TestLaws.{pass, fail, test, true-of, means-both, means-le}
+use Rattle.lists.specs.TestLaws.{Means, pass, fail, test, passes, true-of, means-itself, means-either, means-both, means-eq, means-le, means-within}
 use Rattle.lists.specs.SearchLaws.{le-or-lt}
-use Rattle.rules.specs.Elements.{maxVertex, maxElement, elements}
+use Rattle.rules.specs.Elements.{maxVertex, maxElement, elements, isSide, Side}
 use Rattle.rules.specs.Pairing.{Accepted, sizesFit}
 use Rattle.rules.specs.Tables.{borders, b2e, columns, e2e, v2e, edges}
 use Rattle.rules.specs.Recovery.{HasTables}
 use Rattle.rules.specs.Refusals.{Answer, gives, refused, Buffers, buildLengths, listAnswer, lengthChecks, roomCheck, after, workAfter, buildAnswer}
 use Rattle.rules.specs.Refusals.{recoverAnswer, recoverList, recoverWork}
 use Rattle.rules.specs.Queries.{Mesh}
-use Rattle.rules.specs.Edits.{Edited, becomes, refuses, Lent, withWork, overOld, held, onceAccepted, newAnswer, editSizes, editLengths, editAnswer, written, editLeaves}
+use Rattle.rules.specs.Edits.{Edited, becomes, refuses, Lent, withWork, overOld, isThere, held, countsFit, hasRoom, onceAccepted, newAnswer, editSizes, editLengths, editAnswer, written, editLeaves}
 use Rattle.theory.specs.FitRows.{means-sizes}
 use Rattle.theory.specs.Entries.{length-b2e, length-v2e}
 use Rattle.theory.specs.Columns.{length-e2e}
 use Rattle.theory.specs.Orders.{good}
-use Rattle.theory.specs.Answers.{past-lengths, room-enough, room-short, accepted-answer}
-use Rattle.theory.specs.Edits.{past-old, past-new, onto-front, onto-length, over-front, over-length}
+use Rattle.theory.specs.Answers.{past-lengths, room-enough, room-short, accepted-answer, list-never}
+use Rattle.theory.specs.Edits.{past-old, past-new, onto-front, onto-length, past-onto, over-front, over-length, past-over}
 use Rattle.theory.specs.Built.{built}
 use Rattle.edits.specs.Holding.{means-holds}
 use Rattle.runs.specs.Runs.{BuildRun, RecoverRun, EditRun, LeftBy}
-use Rattle.runs.specs.RoundTrip.{tables-come-back}
+use Rattle.runs.specs.Demand3.{list-counted}
+use Rattle.runs.specs.RoundTrip.{tables-come-back, room-for-all}
 use Rattle.runs.specs.OnBuilt.{built-left}
+
+-- a side, or one of the border half-edges
+abbrev pub There : List ℕ → ℕ → Type 0
+There L s = Side L s ⊎ ((s % 8 ≡ 0) × ((1 ≤ s / 8) × (s / 8 ≤ borders L)))
+
+pub means-there : (L : List ℕ) (s : ℕ) → Means (isThere L s) (There L s)
+unfolding isThere
+means-there L s = means-either (means-itself (isSide L s)) (means-both (means-eq (s % 8) 0) (means-within 1 (borders L) (s / 8)))
 
 -- what is held: the list, its tables with its own columns, and k entries of B2e
 abbrev pub meshIn : Lent → ℕ → Mesh
@@ -43,6 +53,13 @@ meshIn w k =
       opposites = take (columns (held w) * w .m) (w .opposites);
       border = take k (w .border);
     }
+
+-- "entries past both the old and the new length stay untouched" (point 6): w and w′ are what was lent and what is left, k the entries of B2e
+pub record Untouched (w w′ : Lent) (k : ℕ) : Type 0 where
+  pub list : (p : ℕ) → 4 * w .m ≤ p → 4 * w′ .m ≤ p → drop p (w′ .list) ≡ drop p (w .list)
+  pub vertices : (p : ℕ) → w .n ≤ p → w′ .n ≤ p → drop p (w′ .vertices) ≡ drop p (w .vertices)
+  pub opposites : (p : ℕ) → columns (held w) * w .m ≤ p → columns (held w′) * w′ .m ≤ p → drop p (w′ .opposites) ≡ drop p (w .opposites)
+  pub border : (p : ℕ) → k ≤ p → drop p (w′ .border) ≡ drop p (w .border)
 
 -- what a run of build says of a list with fit sizes, in buffers of fit lengths
 build-tried : (n : ℕ) (L : List ℕ) (u : Buffers) (b : Answer) (u′ : Buffers) → BuildRun n L u b u′ → T (sizesFit n L) → T (buildLengths n L u)
@@ -61,11 +78,12 @@ not-by-room room (gives k j) {r} e d = elim (le-or-lt k room) [
 ]
 
 -- where checks 1 and 2 find nothing
-module _ (w : Lent) (sizes : T (editSizes w)) (lengths : T (editLengths w)) where
+module _ (w : Lent) (others : Bool) (sizes : T (editSizes w)) (lengths : T (editLengths w others)) where
   pub enough : (4 * w .m ≤ length (w .list)) × (w .n ≤ length (w .vertices)) × (columns (held w) * w .m ≤ length (w .opposites)) × (w .n + 16 * w .m ≤ length (w .work))
-  unfolding editLengths
+  unfolding hasRoom editLengths
   enough =
-      let (l, (v, (e, r))) = means-holds (w .n) (w .m) (w .list) (length (w .vertices)) (length (w .opposites)) (length (w .work)) .says lengths in
+      let room = passes others (hasRoom w (w .n) (w .m)) lengths .1 in
+      let (l, (v, (e, r))) = means-holds (w .n) (w .m) (w .list) (length (w .vertices)) (length (w .opposites)) (length (w .work)) .says room in
       (l, v, e, r)
 
   -- the list that is held has m rows, and fit sizes
@@ -73,21 +91,21 @@ module _ (w : Lent) (sizes : T (editSizes w)) (lengths : T (editLengths w)) wher
   held-rows = let long = length-take-le (4 * w .m) (w .list) (enough .0) in (long, omega (arith, long))
 
   pub held-sizes : T (sizesFit (w .n) (held w))
-  unfolding editSizes
+  unfolding countsFit editSizes
   held-sizes =
       let (v, m) = means-both (means-le (w .n) maxVertex) (means-le (w .m) maxElement) .says sizes in
       means-sizes (w .n) (held w) .shows (v, (omega (arith, m, held-rows), omega (arith, held-rows)))
 
-module _ (x : Edited) (w : Lent) (a : Answer) (w′ : Lent) (run : EditRun x w a w′) where
+module _ {others : Bool} (x : Edited) (w : Lent) (a : Answer) (w′ : Lent) (run : EditRun others x w a w′) where
   abbrev L : List ℕ
   L = held w
 
   abbrev work′ : List ℕ
-  work′ = workAfter (editSizes w) (editLengths w) (w .work)
+  work′ = workAfter (editSizes w) (editLengths w others) (w .work)
 
   work-length : length work′ ≡ length (w .work)
   unfolding workAfter
-  work-length = elim (test (both (editSizes w) (editLengths w))) [
+  work-length = elim (test (both (editSizes w) (editLengths w others))) [
     | pass t e ↦ rw (e, workAfter) (length-replicate {A = ℕ} (length (w .work)) 0)
     | fail t e ↦ rw (e, workAfter) refl
   ]
@@ -105,7 +123,7 @@ module _ (x : Edited) (w : Lent) (a : Answer) (w′ : Lent) (run : EditRun x w a
   -- an answer has a new list, after the old one was accepted
   pub record Answered (k e : ℕ) : Type 0 where
     pub sizes : T (editSizes w)
-    pub lengths : T (editLengths w)
+    pub lengths : T (editLengths w others)
     pub old-borders : ℕ
     pub old-edges : ℕ
     pub old : listAnswer (w .n) L ≡ gives old-borders old-edges
@@ -118,16 +136,16 @@ module _ (x : Edited) (w : Lent) (a : Answer) (w′ : Lent) (run : EditRun x w a
   pub answered : {k e : ℕ} → a ≡ gives k e → Answered k e
   unfolding editAnswer
   answered {k} {e} g =
-      let (s, l, f) = past-lengths (editSizes w) (editLengths w) _ k e (sym (run .answer) ∙ g) in
+      let (s, l, f) = past-lengths (editSizes w) (editLengths w others) _ k e (sym (run .answer) ∙ g) in
       let (i, j, o, h) = past-old (listAnswer (w .n) L) _ f in
       let (n′, L′, c, d, r) = past-new (length (w .border)) x h in
       record { sizes = s; lengths = l; old-borders = i; old-edges = j; old = o; n′ = n′; L′ = L′; edited = c; new = d; room = r }
 
   -- where checks 1 and 2 find nothing
-  module _ (sizes : T (editSizes w)) (lengths : T (editLengths w)) where
+  module _ (sizes : T (editSizes w)) (lengths : T (editLengths w others)) where
     tried : a ≡ onceAccepted (listAnswer (w .n) L) (newAnswer (length (w .border)) x)
     unfolding editAnswer lengthChecks
-    tried = run .answer ∙ rw (true-of (editSizes w) sizes, true-of (editLengths w) lengths, lengthChecks) refl
+    tried = run .answer ∙ rw (true-of (editSizes w) sizes, true-of (editLengths w others) lengths, lengthChecks) refl
 
     tried-by : {old : Answer} {y : Edited} → listAnswer (w .n) L ≡ old → x ≡ y → a ≡ onceAccepted old (newAnswer (length (w .border)) y)
     tried-by e f = tried ∙ (λ i. onceAccepted (e i) (newAnswer (length (w .border)) (f i)))
@@ -137,7 +155,7 @@ module _ (x : Edited) (w : Lent) (a : Answer) (w′ : Lent) (run : EditRun x w a
         → {r p q : ℕ} → b ≡ refused r p q → (r ≡ 9 → ⊥) → a ≡ refused r p q
     unfolding onceAccepted
     old-refused u u′ b built fit e d =
-        tried-by (not-by-room (length (u .border)) _ (sym (build-tried (w .n) L u b u′ built (held-sizes w sizes lengths) fit) ∙ e) d) refl
+        tried-by (not-by-room (length (u .border)) _ (sym (build-tried (w .n) L u b u′ built (held-sizes w others sizes lengths) fit) ∙ e) d) refl
 
     -- then the edit's own refusal, or what a run of build says of the new list, with 9 by its k
     module _ (old : Accepted (w .n) L) where
@@ -162,6 +180,27 @@ module _ (x : Edited) (w : Lent) (a : Answer) (w′ : Lent) (run : EditRun x w a
           new-answer e
           ∙ ap (roomCheck (length (w .border))) (accepted-answer n′ L′ (new .rows) new)
           ∙ room-enough (length (w .border)) (borders L′) (edges L′) room
+
+  -- 9 never comes where the edit doesn't refuse by it and B2e has an entry for each vertex of the new list
+  pub never-nine : ((r : ℕ) → x ≡ refuses r → r ≡ 9 → ⊥)
+      → ((n′ : ℕ) (L′ : List ℕ) → Accepted (w .n) L → x ≡ becomes n′ L′ → T (sizesFit n′ L′) × (n′ ≤ length (w .border)))
+      → (p q : ℕ) → a ≡ refused 9 p q → ⊥
+  unfolding editAnswer lengthChecks onceAccepted newAnswer
+  never-nine own fit p q g = go (editSizes w) (editLengths w others) refl refl (sym (run .answer) ∙ g)
+    where
+      new : Accepted (w .n) L → (z : Edited) → x ≡ z → newAnswer (length (w .border)) z ≡ refused 9 p q → ⊥
+      new old (refuses r) e f = own r e cc
+      new old (becomes n′ L′) e f = let (sizes, long) = fit n′ L′ old e in room-for-all n′ L′ (length (w .border)) sizes long p q f
+
+      past : T (sizesFit (w .n) L) → (y : Answer) → listAnswer (w .n) L ≡ y → onceAccepted y (newAnswer (length (w .border)) x) ≡ refused 9 p q → ⊥
+      past sizes (refused r i j) e f = list-never (w .n) L 9 (λ r from to d e. e) p q (e ∙ f)
+      past sizes (gives k e) o f = new (list-counted (w .n) L sizes k e o .0) x refl f
+
+      go : (sizes lengths : Bool) → editSizes w ≡ sizes → editLengths w others ≡ lengths
+          → lengthChecks sizes lengths (onceAccepted (listAnswer (w .n) L) (newAnswer (length (w .border)) x)) ≡ refused 9 p q → ⊥
+      go true true s l f = past (held-sizes w others (rw s tt) (rw l tt)) (listAnswer (w .n) L) refl f
+      go true false s l f = let z : _≡_ {A = ℕ} 2 9 = cc in omega arith
+      go false l s m f = let z : _≡_ {A = ℕ} 1 9 = cc in omega arith
 
   -- after an answer with the list L′, which is accepted
   module _ {k e n′ : ℕ} {L′ : List ℕ} (gave : a ≡ gives k e) (edited : x ≡ becomes n′ L′) (new : Accepted n′ L′) (number : k ≡ borders L′) where
@@ -226,13 +265,28 @@ module _ (x : Edited) (w : Lent) (a : Answer) (w′ : Lent) (run : EditRun x w a
         let (f, g) = tables-come-back n′ L′ V2e E2e tables list work (omega (arith, fours, same-m)) (omega (arith, same-n, same-m)) b list′ work″ told in
         (f, g ∙ sym (ap (λ (M : Mesh). M .list) tables-left))
 
+    pub untouched : Untouched w w′ k
+    unfolding written
+    untouched =
+        let same : held w′ ≡ L′ = ap (λ (M : Mesh). M .list) tables-left in
+        record {
+          list = λ p h i. ap (λ (u : Lent). drop p (u .list)) left ∙ past-over (4 * w .m) L′ (w .list) p h (omega (arith, fours, same-m));
+          vertices = λ p h i.
+              ap (λ (u : Lent). drop p (u .vertices)) left ∙ past-over (w .n) (v2e n′ L′) (w .vertices) p h (omega (arith, length-v2e L′ n′, same-n));
+          opposites = λ p h i.
+              let wide : length (e2e L′) ≡ columns (held w′) * w′ .m = length-e2e L′ ∙ (λ t. columns (sym same t) * sym same-m t) in
+              ap (λ (u : Lent). drop p (u .opposites)) left ∙ past-over (columns L * w .m) (e2e L′) (w .opposites) p h (omega (arith, wide));
+          border = λ p h. ap (λ (u : Lent). drop p (u .border)) left ∙ past-onto (b2e L′) (w .border) p (omega (arith, length-b2e L′, number));
+        }
+
     -- where the buffers have room for the old list and for the new one, the next edit finds what it needs in them
-    pub fit-still : T (editSizes w) → T (editLengths w) → length L′ ≤ length (w .list) → n′ ≤ length (w .vertices) → columns L′ * elements L′ ≤ length (w .opposites) → k ≤ length (w .border)
-        → n′ + 16 * elements L′ ≤ length (w .work) → T (editSizes w′) × T (editLengths w′) × (length (w′ .border) ≡ length (w .border))
-    unfolding editSizes editLengths written
-    fit-still sizes lengths list vertices opposites border work =
+    pub fit-still : T (editSizes w) → T (editLengths w others) → length L′ ≤ length (w .list) → n′ ≤ length (w .vertices)
+        → columns L′ * elements L′ ≤ length (w .opposites) → k ≤ length (w .border) → n′ + 16 * elements L′ ≤ length (w .work)
+        → (others′ : Bool) → T others′ → T (editSizes w′) × T (editLengths w′ others′) × (length (w′ .border) ≡ length (w .border))
+    unfolding countsFit hasRoom editSizes editLengths written
+    fit-still sizes lengths list vertices opposites border work others′ more =
         let fit = good n′ L′ new .fit in
-        let (l, v, e, r) = enough w sizes lengths in
+        let (l, v, e, r) = enough w others sizes lengths in
         let same : held w′ ≡ L′ = ap (λ (M : Mesh). M .list) tables-left in
         let list-long = ap (λ (u : Lent). length (u .list)) left ∙ over-length (4 * w .m) L′ (w .list) l list in
         let vertices-long = ap (λ (u : Lent). length (u .vertices)) left ∙ over-length (w .n) (v2e n′ L′) (w .vertices) v (omega (arith, length-v2e L′ n′)) in
@@ -241,7 +295,7 @@ module _ (x : Edited) (w : Lent) (a : Answer) (w′ : Lent) (run : EditRun x w a
         let work-long = ap (λ (u : Lent). length (u .work)) left ∙ work-length in
         let columned : columns (held w′) * w′ .m ≡ columns L′ * elements L′ = λ i. columns (same i) * same-m i in (
           means-both (means-le (w′ .n) maxVertex) (means-le (w′ .m) maxElement) .shows (omega (arith, fit .vertices, same-n), omega (arith, fit .size, same-m)),
-          means-holds (w′ .n) (w′ .m) (w′ .list) (length (w′ .vertices)) (length (w′ .opposites)) (length (w′ .work)) .shows
-              (omega (arith, list-long, fit .fours, same-m), (omega (arith, vertices-long, same-n), (omega (arith, opposites-long, columned), omega (arith, work-long, same-n, same-m)))),
+          means-both (means-itself others′) (means-holds (w′ .n) (w′ .m) (w′ .list) (length (w′ .vertices)) (length (w′ .opposites)) (length (w′ .work))) .shows
+              (more, (omega (arith, list-long, fit .fours, same-m), (omega (arith, vertices-long, same-n), (omega (arith, opposites-long, columned), omega (arith, work-long, same-n, same-m))))),
           border-long,
         )

@@ -9,6 +9,8 @@ pub mod Holes
 pub mod RoundTrip
 pub mod Edits
 pub mod Swaps
+pub mod Splits
+pub mod SplitPoints
 pub mod SwapBack
 pub mod Bounds
 pub mod Exports

@@ -1,8 +1,10 @@
 -- Runs of the calls, as their contracts say: the answer, and what each buffer holds at exit. Theorems about the calls are about these.
 -- Assumes nothing.
 use mathlib.Core.Path.{_≡_, refl}
+use mathlib.Core.Bool.{Bool, true}
 use mathlib.Core.List.{List}
 use Prim.Native.Nat.{ℕ}
+use lib.Ieee.{Float}
 use lib.ListN.{take}
 use Rattle.rules.specs.Tables.{columns}
 use Rattle.rules.specs.Refusals.{Answer, gives, refused, Buffers, buildAnswer, buildLeaves, recoverAnswer, recoverList, recoverWork}
@@ -10,6 +12,7 @@ use Rattle.rules.specs.Siblings.{SiblingBuffers, siblingsAnswer, siblingsLeaves
 use Rattle.rules.specs.Holes.{HoleBuffers, holesAnswer, holesLeaves}
 use Rattle.rules.specs.Edits.{Edited, Lent, held, editAnswer, editLeaves}
 use Rattle.rules.specs.Swap.{swap}
+use Rattle.rules.specs.Split.{hasPoints, split, splitPoints}
 use Rattle.rules.specs.Queries.{Mesh, oppositeAnswer, nextAnswer, previousAnswer, elementAnswer, originAnswer, destinationAnswer, acrossAnswer}
 use Rattle.rules.specs.Queries.{halfEdgeBorderAnswer, vertexBorderAnswer, ringAnswer, ringLeaves, neighboursAnswer, neighboursLeaves}
 use Rattle.rules.specs.Queries.{borderLoopAnswer, borderLoopLeaves, Walker, walked, walkerStart, walkerStep}
@@ -30,14 +33,19 @@ pub record SiblingsRun (n : ℕ) (L : List ℕ) (w : SiblingBuffers) (a : Answer
   pub answer : a ≡ siblingsAnswer n L w
   pub leaves : w′ ≡ siblingsLeaves n L w
 
--- a run of an edit on what is lent, w: x is what the edit makes of the list that is held
-pub record EditRun (x : Edited) (w : Lent) (a : Answer) (w′ : Lent) : Type 0 where
-  pub answer : a ≡ editAnswer w x
-  pub leaves : w′ ≡ editLeaves w x
+-- a run of an edit on what is lent, w: x is what the edit makes of the list that is held, and `others` the lengths of what else is lent
+pub record EditRun (others : Bool) (x : Edited) (w : Lent) (a : Answer) (w′ : Lent) : Type 0 where
+  pub answer : a ≡ editAnswer w others x
+  pub leaves : w′ ≡ editLeaves w others x
 
 -- a run of swap with the code s
 abbrev pub SwapRun : Lent → ℕ → Answer → Lent → Type 0
-SwapRun w s = EditRun (swap (w .n) (held w) s) w
+SwapRun w s = EditRun true (swap (w .n) (held w) s) w
+
+-- a run of split with the code s, over the points P
+pub record SplitRun (w : Lent) (P : List Float) (s : ℕ) (a : Answer) (w′ : Lent) (P′ : List Float) : Type 0 where
+  pub edit : EditRun (hasPoints (w .n) P) (split w P s) w a w′
+  pub points : P′ ≡ splitPoints w P s
 
 -- runs of the queries that write a list
 pub record RingRun (M : Mesh) (v : ℕ) (out : List ℕ) (a : Answer) (out′ : List ℕ) : Type 0 where

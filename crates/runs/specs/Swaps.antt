@@ -1,44 +1,34 @@
 -- Document 02, point 1, as theorems about runs of swap: "It is refused, list and tables unchanged, exactly when the old or new list is refused by
 -- build, the half-edge named isn't there (11), or by number 15." What every edit promises stands in `Edits`.
 -- Assumes nothing.
-use mathlib.Core.Path.{_≡_, refl, ap, sym, _∙_}
-use mathlib.Core.Bool.{Bool, true, false}
+use mathlib.Core.Path.{_≡_, ap, sym, _∙_}
+use mathlib.Core.Bool.{true}
 use mathlib.Core.Logic.{_⊎_, inl, inr, _↔_}
 use mathlib.Core.List.{List}
 use Prim.Native.Nat.{ℕ, _+_, _*_, _/_, _%_, _≤_}
 use native.Mathlib.Omega.{arith}
 use lib.Dec.{T}
 use lib.ListN.{length}
-use Rattle.lists.specs.TestLaws.{Test, pass, fail, test, Means, decide, true-of, false-of, means-not, means-itself, means-either, means-both, means-eq, means-within}
-use Rattle.rules.specs.Elements.{elements, isSide, Side}
+use Rattle.lists.specs.TestLaws.{decide, true-of, false-of, means-not, means-eq}
+use Rattle.rules.specs.Elements.{elements}
 use Rattle.rules.specs.Pairing.{Accepted, sizesFit}
 use Rattle.rules.specs.Tables.{partner, borders, columns, edges}
-use Rattle.rules.specs.Refusals.{Answer, gives, refused, Buffers, crowdedSide, listAnswer, buildLengths, lengthChecks, roomCheck}
+use Rattle.rules.specs.Refusals.{Answer, gives, refused, Buffers, crowdedSide, listAnswer, buildLengths, roomCheck}
 use Rattle.rules.specs.Queries.{Mesh}
-use Rattle.rules.specs.Edits.{Edited, becomes, Lent, held, isThere, onceAccepted, newAnswer, editSizes, editLengths, editAnswer, editLeaves}
+use Rattle.rules.specs.Edits.{Edited, becomes, Lent, held, isThere, editSizes, editLengths, editAnswer, editLeaves}
 use Rattle.rules.specs.Swap.{third, swapped, isSwappable, swap}
 use Rattle.theory.specs.FitRows.{means-sizes}
-use Rattle.theory.specs.Answers.{list-never}
 use Rattle.theory.specs.Orders.{Good, good}
 use Rattle.theory.specs.Replacing.{Replaced, same-size, same-columns}
 use Rattle.theory.specs.Counts.{same-borders, same-edges}
 use Rattle.theory.specs.Swapping.{Diagonal, means-swappable, swapped-replaced}
 use Rattle.theory.specs.SwapBack.{other-diagonal, swapped-alike, crossed}
 use Rattle.theory.specs.SwapRefusals.{Unjoined, swapped-crowded, swapped-clashes}
-use Rattle.swap.specs.Swaps.{gone, unfit, swaps, becomes-swapped}
+use Rattle.swap.specs.Swaps.{gone, unfit, swaps, refuses-by, becomes-swapped}
 use Rattle.runs.specs.Runs.{BuildRun, RecoverRun, SwapRun, LeftBy}
 use Rattle.runs.specs.Demand3.{list-counted}
-use Rattle.runs.specs.RoundTrip.{room-for-all}
 use Rattle.runs.specs.Edits as edits
-use Rattle.runs.specs.Edits.{meshIn}
-
--- a side, or one of the border half-edges
-abbrev pub There : List ℕ → ℕ → Type 0
-There L s = Side L s ⊎ ((s % 8 ≡ 0) × ((1 ≤ s / 8) × (s / 8 ≤ borders L)))
-
-means-there : (L : List ℕ) (s : ℕ) → Means (isThere L s) (There L s)
-unfolding isThere
-means-there L s = means-either (means-itself (isSide L s)) (means-both (means-eq (s % 8) 0) (means-within 1 (borders L) (s / 8)))
+use Rattle.runs.specs.Edits.{There, means-there, meshIn, Untouched}
 
 -- a diagonal is there, and is swapped
 diagonal-swaps : (n : ℕ) (L : List ℕ) (s : ℕ) → Diagonal L s → swap n L s ≡ becomes n (swapped L s)
@@ -80,7 +70,7 @@ module _ (w : Lent) (s : ℕ) (a : Answer) (w′ : Lent) (run : SwapRun w s a w�
   x = swap n L s
 
   -- each refusal, where checks 1 and 2 find nothing and the old list is accepted; `edits.old-refused` is of one that isn't
-  module _ (sizes : T (editSizes w)) (lengths : T (editLengths w)) (old : Accepted n L) where
+  module _ (sizes : T (editSizes w)) (lengths : T (editLengths w true)) (old : Accepted n L) where
     pub gives-11 : (There L s → ⊥) → a ≡ refused 11 0 0
     gives-11 f =
         edits.edit-refused x w a w′ run sizes lengths old (gone n L s (false-of (isThere L s) (means-not (means-there L s) .shows f)))
@@ -117,31 +107,18 @@ module _ (w : Lent) (s : ℕ) (a : Answer) (w′ : Lent) (run : SwapRun w s a w�
 
   -- n entries of B2e are always enough
   pub never-nine : n ≤ length (w .border) → (p q : ℕ) → a ≡ refused 9 p q → ⊥
-  unfolding editAnswer lengthChecks onceAccepted newAnswer
-  never-nine long p q g = go (editSizes w) (editLengths w) refl refl (sym (run .answer) ∙ g)
+  never-nine long = edits.never-nine x w a w′ run (λ r e z. elim (refuses-by n L s e) [ inl i ↦ omega arith | inr i ↦ omega arith ]) sized
     where
-      new : Accepted n L → Test (isThere L s) → Test (isSwappable L s) → newAnswer (length (w .border)) x ≡ refused 9 p q → ⊥
-      new old (fail t f) c e = let h = sym (ap (newAnswer (length (w .border))) (gone n L s f)) ∙ e in let z : _≡_ {A = ℕ} 11 9 = cc in omega arith
-      new old (pass t f) (fail u i) e =
-          let h = sym (ap (newAnswer (length (w .border))) (unfit n L s f i)) ∙ e in let z : _≡_ {A = ℕ} 15 9 = cc in omega arith
-      new old (pass t f) (pass u i) e =
-          let d = means-swappable L s .says u in
-          room-for-all n L′ (length (w .border)) (new-sizes n L s old d) long p q (sym (ap (newAnswer (length (w .border))) (swaps n L s f i)) ∙ e)
-
-      past : T (sizesFit n L) → (y : Answer) → listAnswer n L ≡ y → onceAccepted y (newAnswer (length (w .border)) x) ≡ refused 9 p q → ⊥
-      past fit (refused r i j) e f = list-never n L 9 (λ r from to d e. e) p q (e ∙ f)
-      past fit (gives k e) o f = new (list-counted n L fit k e o .0) (test (isThere L s)) (test (isSwappable L s)) f
-
-      go : (sizes lengths : Bool) → editSizes w ≡ sizes → editLengths w ≡ lengths
-          → lengthChecks sizes lengths (onceAccepted (listAnswer n L) (newAnswer (length (w .border)) x)) ≡ refused 9 p q → ⊥
-      go true true s l f = past (edits.held-sizes w (rw s tt) (rw l tt)) (listAnswer n L) refl f
-      go true false s l f = let z : _≡_ {A = ℕ} 2 9 = cc in omega arith
-      go false l s m f = let z : _≡_ {A = ℕ} 1 9 = cc in omega arith
+      sized : (n′ : ℕ) (M : List ℕ) → Accepted n L → x ≡ becomes n′ M → T (sizesFit n′ M) × (n′ ≤ length (w .border))
+      sized n′ M old e =
+          let (d, vertices, same) = becomes-swapped n L s e in
+          let both : T (sizesFit n L′) × (n ≤ length (w .border)) = (new-sizes n L s old d, long) in
+          rw (same, vertices) at both
 
   -- an answer, exactly where none of the refusals is due
   pub record Swaps (k e : ℕ) : Type 0 where
     pub sizes : T (editSizes w)
-    pub lengths : T (editLengths w)
+    pub lengths : T (editLengths w true)
     pub old : Accepted n L
     pub diagonal : Diagonal L s
     pub new : Accepted n L′
@@ -154,7 +131,7 @@ module _ (w : Lent) (s : ℕ) (a : Answer) (w′ : Lent) (run : SwapRun w s a w�
     (λ gave.
         let y = edits.answered x w a w′ run gave in
         let (d, vertices, same) = becomes-swapped n L s (y .edited) in
-        let (old, counts) = list-counted n L (edits.held-sizes w (y .sizes) (y .lengths)) _ _ (y .old) in
+        let (old, counts) = list-counted n L (edits.held-sizes w true (y .sizes) (y .lengths)) _ _ (y .old) in
         let (new, (b, i)) = list-counted n L′ (new-sizes n L s old d) k e (rw (← vertices, ← same) at (y .new)) in
         record { sizes = y .sizes; lengths = y .lengths; old = old; diagonal = d; new = new; borders-are = b; edges-are = i; room = y .room }),
     (λ y.
@@ -185,7 +162,7 @@ module _ (w : Lent) (s : ℕ) (a : Answer) (w′ : Lent) (run : SwapRun w s a w�
     -- n, m, k and the number of edges stay
     pub sizes-stay : (w′ .n ≡ n) × (w′ .m ≡ w .m)
     sizes-stay =
-        let (long, rows) = edits.held-rows w (y .sizes) (y .lengths) in (
+        let (long, rows) = edits.held-rows w true (y .sizes) (y .lengths) in (
           edits.same-n x w a w′ run gave edited (y .new) (y .borders-are),
           edits.same-m x w a w′ run gave edited (y .new) (y .borders-are) ∙ same-size (replaced n L s (y .old) (y .diagonal)) ∙ rows,
         )
@@ -196,15 +173,19 @@ module _ (w : Lent) (s : ℕ) (a : Answer) (w′ : Lent) (run : SwapRun w s a w�
       y .edges-are ∙ edges-stay n L s (y .old) (y .diagonal) (y .new),
     )
 
+    -- what lies past list and tables stays
+    pub untouched : Untouched w w′ k
+    untouched = edits.untouched x w a w′ run gave edited (y .new) (y .borders-are)
+
     -- and the next edit finds what it needs
-    pub fit-still : T (editSizes w′) × T (editLengths w′) × (length (w′ .border) ≡ length (w .border))
+    pub fit-still : T (editSizes w′) × T (editLengths w′ true) × (length (w′ .border) ≡ length (w .border))
     fit-still =
         let r = replaced n L s (y .old) (y .diagonal) in
-        let (long, rows) = edits.held-rows w (y .sizes) (y .lengths) in
-        let (list, vertices, opposites, work) = edits.enough w (y .sizes) (y .lengths) in
+        let (long, rows) = edits.held-rows w true (y .sizes) (y .lengths) in
+        let (list, vertices, opposites, work) = edits.enough w true (y .sizes) (y .lengths) in
         let wide : columns L′ * elements L′ ≡ columns L * w .m = λ i. same-columns r i * (same-size r ∙ rows) i in
         edits.fit-still x w a w′ run gave edited (y .new) (y .borders-are) (y .sizes) (y .lengths)
-        (omega (arith, r .long)) vertices (omega (arith, wide)) (y .room) (omega (arith, same-size r))
+        (omega (arith, r .long)) vertices (omega (arith, wide)) (y .room) (omega (arith, same-size r)) true tt
 
 -- a diagonal named from its other side: the same answer, and the same is left
 pub either-side : (w : Lent) (s : ℕ) (a b : Answer) (u v : Lent) → SwapRun w s a u → SwapRun w (partner (held w) s) b v
@@ -215,4 +196,4 @@ either-side w s a b u v run other old d =
     diagonal-swaps (w .n) (held w) (partner (held w) s) (other-diagonal (w .n) (held w) h s d)
     ∙ ap (becomes (w .n)) (swapped-alike (w .n) (held w) h s d)
     ∙ sym (diagonal-swaps (w .n) (held w) s d) in
-    (other .answer ∙ ap (editAnswer w) e ∙ sym (run .answer), other .leaves ∙ ap (editLeaves w) e ∙ sym (run .leaves))
+    (other .answer ∙ ap (editAnswer w true) e ∙ sym (run .answer), other .leaves ∙ ap (editLeaves w true) e ∙ sym (run .leaves))

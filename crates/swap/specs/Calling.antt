@@ -12,15 +12,18 @@ use Rattle.rules.specs.Tables.{columns, v2e, e2e, b2e}
 use Rattle.rules.specs.Refusals.{Answer, gives, refused, listAnswer, after, onto}
 use Rattle.rules.specs.Edits.{Edited, becomes, refuses, Lent, overOld, onceAccepted, newAnswer, editSizes, editLengths, editAnswer, written, editLeaves}
 use Rattle.rules.specs.Swap.{swap}
-use Rattle.theory.specs.FitRows.{Fit, means-sizes}
+use Rattle.theory.specs.FitRows.{Fit}
 use Rattle.theory.specs.Entries.{length-v2e}
 use Rattle.theory.specs.Columns.{length-e2e}
 use Rattle.theory.specs.Calls as calls
-use Rattle.theory.specs.Edits.{past-old, over-same}
+use Rattle.theory.specs.Edits.{past-old, over-longer}
 use Rattle.theory.specs.Replacing.{same-columns}
 use Rattle.theory.specs.Swapping.{swapped-replaced}
 use Rattle.build.specs.Building.{Checked}
 use Rattle.edits.specs.Holding.{lentEdit, Held}
+use Rattle.edits.specs.HeldRows.{held-length, held-elements}
+use Rattle.edits.specs.Fronts.{Ready, checked-front}
+use Rattle.edits.specs.Fronts as fronts
 use Rattle.edits.specs.Leaving.{tight, Left, rest, leavesBy, Whole, accepted-fit}
 use Rattle.swap.specs.Swaps.{over-full, becomes-swapped}
 
@@ -30,7 +33,7 @@ unfolding onto
 front-over k k′ X buffer e f h =
     ap (λ (Y : List ℕ). Y ++ drop k buffer) (over-full k′ X (take k buffer) (e ∙ sym f) (e ∙ sym (length-take-le k buffer h)))
     ∙ ap (λ (i : ℕ). X ++ drop i buffer) (sym e)
-    ∙ sym (over-same k X buffer e)
+    ∙ sym (over-longer k X buffer (omega arith))
 
 -- where the edit gives a list, n stays, and so do the lengths
 pub record Stays (n : ℕ) (L : List ℕ) (n′ : ℕ) (L′ : List ℕ) : Type 0 where
@@ -60,22 +63,13 @@ module _ (n m : ℕ) (list V2e E2e B2e work : List ℕ) (s : ℕ) where
     es = take (c * m) E2e
 
     long : length L ≡ 4 * m
-    long = length-take-le (4 * m) list (held .list)
+    long = held-length m list (held .list)
 
     size : elements L ≡ m
-    size = omega (arith, long)
+    size = held-elements m list (held .list)
 
-    pub checked-front : Checked n L vs es work
-    checked-front =
-        record {
-          sizes = means-sizes n L .shows (sizes .0, (omega (arith, sizes .1, size), omega (arith, long, size)));
-          vertices = sizes .0;
-          size = omega (arith, sizes .1, size);
-          fours = omega (arith, long, size);
-          v2e-long = length-take-le n V2e (held .vertices);
-          e2e-long = length-take-le (c * m) E2e (held .opposites) ∙ (λ k. held .columned k * sym size k);
-          room = omega (arith, held .room, size);
-        }
+    ready : Ready w c
+    ready = record { sizes = sizes; long = held }
 
     -- what the fronts of the buffers become is what the buffers become
     abbrev front : Lent
@@ -90,7 +84,7 @@ module _ (n m : ℕ) (list V2e E2e B2e work : List ℕ) (s : ℕ) where
       rejoined = λ k. lentEdit n (size k) (take-append-drop (4 * m) list k) (take-append-drop n V2e k) (take-append-drop (c * m) E2e k) B2e work′
 
       loosened : (z : Edited) (a : Answer) → ((i j n′ : ℕ) (L′ : List ℕ) → a ≡ gives i j → z ≡ becomes n′ L′ → Stays n L n′ L′)
-          → loose (after a (written front z) front) ≡ leavesBy w z a work′
+          → loose (after a (written front z) front) ≡ leavesBy w true z a work′
       unfolding after written loose
       loosened z (refused r p q) f = rejoined
       loosened (refuses r) (gives i j) f = rejoined
@@ -116,19 +110,19 @@ module _ (n m : ℕ) (list V2e E2e B2e work : List ℕ) (s : ℕ) where
     -- the swap was made in the fronts, which end at p, q and r, and the work cleared
     module _ {p q r : ℕ} (rows : p ≡ 4 * m) (vertices : q ≡ n) (opposites : r ≡ c * m) where
       pub checked-at : Checked n (take p list) (take q V2e) (take r E2e) work × (c ≡ columns (take p list))
-      checked-at = rw (rows, vertices, opposites) (checked-front, held .columned)
+      checked-at = fronts.checked-at w ready rows vertices opposites
 
-      pub whole : {a : Answer} {L₁ V₁ E₁ B₁ work′ : List ℕ} {l : ℕ} → (editSizes w ≡ true) × (editLengths w ≡ true)
+      pub whole : {a : Answer} {L₁ V₁ E₁ B₁ work′ : List ℕ} {l : ℕ} → (editSizes w ≡ true) × (editLengths w true ≡ true)
           → Left (onceAccepted (listAnswer n (take p list)) (newAnswer (length B2e) (swap n (take p list) s))) a (tight n (take p list) (take q V2e) (take r E2e) B2e)
           (swap n (take p list) s) (tight n L₁ V₁ E₁ B₁)
-          → l ≡ length work → work′ ≡ replicate l 0 → Whole w (swap n L s) a (lentEdit n m (L₁ ++ drop p list) (V₁ ++ drop q V2e) (E₁ ++ drop r E2e) B₁ work′)
+          → l ≡ length work → work′ ≡ replicate l 0 → Whole w true (swap n L s) a (lentEdit n m (L₁ ++ drop p list) (V₁ ++ drop q V2e) (E₁ ++ drop r E2e) B₁ work′)
       unfolding loose editAnswer editLeaves
       whole {a} {L₁} {V₁} {E₁} {B₁} {work′} fit left same z =
-          let x : Left (rest w (swap n L s)) a front (swap n L s) (tight n L₁ V₁ E₁ B₁) = rw (rows, vertices, opposites) at left in
-          let (e, f) = calls.cleared (leavesBy w (swap n L s)) (editSizes w) (editLengths w) (rest w (swap n L s)) work fit (x .answer) (z ∙ ap (λ (k : ℕ). replicate k 0) same) in
+          let x : Left (rest w true (swap n L s)) a front (swap n L s) (tight n L₁ V₁ E₁ B₁) = rw (rows, vertices, opposites) at left in
+          let (e, f) = calls.cleared (leavesBy w true (swap n L s)) (editSizes w) (editLengths w true) (rest w true (swap n L s)) work fit (x .answer) (z ∙ ap (λ (k : ℕ). replicate k 0) same) in
           let accepted : (i j n′ : ℕ) (L′ : List ℕ) → a ≡ gives i j → swap n L s ≡ becomes n′ L′ → Stays n L n′ L′ =
           λ i j n′ L′ g d.
-          (let (k, o, h, new) = past-old (listAnswer n L) _ (sym (x .answer) ∙ g) in stays n L s (accepted-fit n L (checked-front .sizes) h) d) in
+          (let (k, o, h, new) = past-old (listAnswer n L) _ (sym (x .answer) ∙ g) in stays n L s (accepted-fit n L (checked-front w ready .sizes) h) d) in
           let m-is = sym (ap (λ (u : Lent). u .m) (x .leaves) ∙ same-m (swap n L s) a accepted) in (
             e,
             (λ k. lentEdit n (m-is k) (L₁ ++ drop (rows k) list) (V₁ ++ drop (vertices k) V2e) (E₁ ++ drop (opposites k) E2e) B₁ work′)

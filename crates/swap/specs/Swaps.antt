@@ -3,60 +3,34 @@
 use mathlib.Core.Path.{_≡_, refl, ap, sym, _∙_}
 use mathlib.Core.Bool.{true, false}
 use mathlib.Core.Logic.{_⊎_, inl, inr}
-use mathlib.Core.List.{List, [], _∷_, _++_}
-use Prim.Native.Nat.{ℕ, _+_, _*_, _-_, _/_, _%_, _≤_, _<_}
+use mathlib.Core.List.{List, [], _∷_}
+use Prim.Native.Nat.{ℕ, _+_, _*_, _/_, _%_, _≤_}
 use native.Mathlib.Omega.{arith}
 use lib.Dec.{eqb, not-T}
-use lib.ListN.{length, take, drop, length-take, length-drop}
-use lib.Seq.{drop-drop, take-all}
+use lib.ListN.{length, take}
+use lib.Seq.{take-all}
 use Rattle.lists.specs.Tests.{both}
-use Rattle.lists.specs.TestLaws.{Test, pass, fail, test, true-of, false-of, means-not, zero-or}
+use Rattle.lists.specs.TestLaws.{Test, pass, fail, test, true-of, false-of, means-not}
 use Rattle.lists.specs.Search.{at}
-use Rattle.lists.specs.Parts.{part, at-part}
-use Rattle.rules.specs.Elements.{maxVertex, maxElement, elements, row, sides, isSide, Side, slot, origin, previousNumber, previous}
-use Rattle.rules.specs.Tables.{partner, isBorder, borders, columns, wide, v2e, e2e}
-use Rattle.rules.specs.Refusals.{Answer, gives, refused, listAnswer, roomCheck, after, onto}
-use Rattle.rules.specs.Edits.{becomes, refuses, overOld, written, isThere}
-use Rattle.rules.specs.Swap.{third, flipped, withRow, swapped, isSwappable, swap}
-use Rattle.theory.specs.Sides.{side-facts, slot-below}
+use Rattle.rules.specs.Elements.{elements, row, sides, isSide, Side, slot, origin, previousNumber, previous}
+use Rattle.rules.specs.Tables.{partner, isBorder, columns, wide, v2e, e2e}
+use Rattle.rules.specs.Refusals.{Answer, gives, refused, listAnswer, roomCheck}
+use Rattle.rules.specs.Edits.{becomes, refuses, overOld, withRow, written, isThere}
+use Rattle.rules.specs.Swap.{third, flipped, swapped, isSwappable, swap}
+use Rattle.theory.specs.Sides.{side-facts}
 use Rattle.theory.specs.Steps.{previous-numbered}
 use Rattle.theory.specs.FitRows.{Fit, means-sizes}
-use Rattle.theory.specs.Pairings.{partner-opposed}
-use Rattle.theory.specs.Entries.{length-v2e, means-border, wide-paired, wide-border}
+use Rattle.theory.specs.Entries.{length-v2e, means-border, wide-paired}
 use Rattle.theory.specs.Columns.{length-e2e}
-use Rattle.theory.specs.Edits.{over-same}
+use Rattle.theory.specs.Edits.{over-longer}
 use Rattle.theory.specs.Rows.{row-itself, rows-alike}
 use Rattle.theory.specs.Replacing.{Replaced, same-columns, same-size}
 use Rattle.theory.specs.Swapping.{Diagonal, means-swappable, across, swapped-replaced}
 use Rattle.halfedge.specs.Rows.{rowOf, cornerOf, previousSide, row-at, row-corner, row-turned}
 use Rattle.buffers.specs.Whole.{onto-full}
-use Rattle.build.specs.Building.{Built, Checked, Scratched, counts-are}
+use Rattle.build.specs.Building.{Built, Checked, Scratched}
 use Rattle.edits.specs.Holding.{lentEdit}
-use Rattle.edits.specs.Leaving.{tight, Left, accepted-fit}
-
--- a row of four
-pub four-is : (r : List ℕ) → length r ≡ 4 → rowOf r ≡ r
-four-is (a ∷ b ∷ c ∷ d ∷ []) h = refl
-four-is [] h = absurd (omega arith)
-four-is (a ∷ []) h = absurd (omega arith)
-four-is (a ∷ b ∷ []) h = absurd (omega arith)
-four-is (a ∷ b ∷ c ∷ []) h = absurd (omega arith)
-four-is (a ∷ b ∷ c ∷ d ∷ e ∷ r) h = absurd (omega arith)
-
--- a row is copied to where element f stands; f - 1 as an index is a
-pub row-put : (f : ℕ) {a : ℕ} (r L : List ℕ) {ys : List ℕ} → length r ≡ 4 → 1 ≤ f → 4 * f ≤ length L → a ≡ f - 1
-    → ys ≡ onto r (take (4 * a + 4 - 4 * a) (drop (4 * a) L)) → take (4 * a) L ++ (ys ++ drop (4 * a + 4 - 4 * a) (drop (4 * a) L)) ≡ withRow f (rowOf r) L
-unfolding withRow
-row-put f {a} r L {ys} long from to index copied =
-    let four : 4 * a + 4 - 4 * a ≡ 4 = omega arith in
-    let start : 4 * a ≡ 4 * (f - 1) = omega arith in
-    let end : 4 * a + (4 * a + 4 - 4 * a) ≡ 4 * f = omega arith in
-    let whole : ys ≡ rowOf r =
-    copied ∙ onto-full r (take (4 * a + 4 - 4 * a) (drop (4 * a) L)) (simp (length-take, length-drop) (omega arith)) ∙ sym (four-is r long) in
-    ap (λ (X : List ℕ). take (4 * a) L ++ (X ++ drop (4 * a + 4 - 4 * a) (drop (4 * a) L))) whole
-    ∙ ap (λ (X : List ℕ). take (4 * a) L ++ (rowOf r ++ X)) (drop-drop (4 * a + 4 - 4 * a) (4 * a) L)
-    ∙ ap (λ (k : ℕ). take (4 * a) L ++ (rowOf r ++ drop k L)) end
-    ∙ ap (λ (k : ℕ). take k L ++ (rowOf r ++ drop (4 * f) L)) start
+use Rattle.edits.specs.Leaving.{tight, after-refusal, after-answer, Left, accepted-fit}
 
 -- what is read of side s in the row of its element: its origin, and the corner before
 module _ (L : List ℕ) (s : ℕ) (a : Side L s) where
@@ -137,16 +111,7 @@ module _ {L : List ℕ} {s t : ℕ} (x : Flips L s t) where
 
 -- a buffer that holds as many entries as before, to its end
 pub over-full : (old : ℕ) (xs buffer : List ℕ) → length xs ≡ old → length xs ≡ length buffer → overOld old xs buffer ≡ xs
-over-full old xs buffer e f = over-same old xs buffer e ∙ onto-full xs buffer f
-
--- by a known answer
-old-by : {a : Answer} {r p q : ℕ} (new old : List ℕ) {X : List ℕ} → a ≡ refused r p q → X ≡ after a new old → X ≡ old
-unfolding after
-old-by new old e h = h ∙ ap (λ (y : Answer). after y new old) e
-
-new-by : {a : Answer} {k e : ℕ} (new old : List ℕ) {X : List ℕ} → a ≡ gives k e → X ≡ after a new old → X ≡ new
-unfolding after
-new-by new old g h = h ∙ ap (λ (y : Answer). after y new old) g
+over-full old xs buffer e f = over-longer old xs buffer (omega arith) ∙ onto-full xs buffer f
 
 -- the lists and lengths of a swap
 pub record ToSwap (n : ℕ) (L V2e E2e work : List ℕ) (s t : ℕ) : Type 0 where
@@ -186,42 +151,30 @@ module _ {n : ℕ} {L V2e E2e work : List ℕ} {s t : ℕ} (x : ToSwap n L V2e E
     LeftHere L₂ = Left (roomCheck (length B2e) (listAnswer n L′)) a (tight n L V2e E2e B2e) (becomes n L′) (tight n L₂ V2e′ E2e′ B2e′)
 
     pub late : {r p q : ℕ} {L₂ : List ℕ} → a ≡ refused r p q → L₂ ≡ L → LeftHere L₂
-    unfolding after
     late e f =
-        let v = old-by _ _ e (b .vertices) in
-        let o = old-by _ _ e (b .opposites) in
-        let d = old-by _ _ e (b .border) in
-        record {
-          answer = b .answer;
-          leaves = (λ k. tight n (f k) (v k) (o k) (d k)) ∙ sym (ap (λ (y : Answer). after y (written (tight n L V2e E2e B2e) (becomes n L′)) (tight n L V2e E2e B2e)) e);
-        }
+        let v = b .vertices ∙ after-refusal _ _ e in
+        let o = b .opposites ∙ after-refusal _ _ e in
+        let d = b .border ∙ after-refusal _ _ e in
+        let w = tight n L V2e E2e B2e in
+        record { answer = b .answer; leaves = (λ k. tight n (f k) (v k) (o k) (d k)) ∙ sym (after-refusal (written w (becomes n L′)) w e) }
 
     pub done : {k e : ℕ} → a ≡ gives k e → LeftHere L₁
-    unfolding after written
+    unfolding written
     done g =
         let c = checked-new in
         let all : take (4 * elements L) L ≡ L = take-all (4 * elements L) L (omega (arith, x .checked .fours)) in
         let wide : length (e2e L′) ≡ columns (take (4 * elements L) L) * elements L =
         length-e2e L′ ∙ sym (c .e2e-long) ∙ x .checked .e2e-long ∙ ap (λ (X : List ℕ). columns X * elements L) (sym all) in
         let l = is ∙ sym (over-full (4 * elements L) L′ L (omega (arith, same .long, x .checked .fours)) (same .long)) in
-        let v = new-by _ _ g (b .vertices) ∙ sym (over-full n (v2e n L′) V2e (length-v2e L′ n) (length-v2e L′ n ∙ sym (c .v2e-long))) in
-        let o = new-by _ _ g (b .opposites) ∙ sym (over-full (columns (take (4 * elements L) L) * elements L) (e2e L′) E2e wide (length-e2e L′ ∙ sym (c .e2e-long))) in
-        let d = new-by _ _ g (b .border) in
+        let v = b .vertices ∙ after-answer _ _ g ∙ sym (over-full n (v2e n L′) V2e (length-v2e L′ n) (length-v2e L′ n ∙ sym (c .v2e-long))) in
+        let o = b .opposites ∙ after-answer _ _ g ∙ sym (over-full (columns (take (4 * elements L) L) * elements L) (e2e L′) E2e wide (length-e2e L′ ∙ sym (c .e2e-long))) in
+        let d = b .border ∙ after-answer _ _ g in
         let m = ap elements is in
+        let w = tight n L V2e E2e B2e in
         record {
           answer = b .answer;
-          leaves =
-              (λ k. lentEdit n (m k) (l k) (v k) (o k) (d k) [])
-              ∙ sym (ap (λ (y : Answer). after y (written (tight n L V2e E2e B2e) (becomes n L′)) (tight n L V2e E2e B2e)) g);
+          leaves = (λ k. lentEdit n (m k) (l k) (v k) (o k) (d k) []) ∙ sym (after-answer (written w (becomes n L′)) w g);
         }
-
--- the E2e of the list, in four columns, stands from n on
-pub record Tabled (n : ℕ) (L w : List ℕ) : Type 0 where
-  pub vertices : n ≤ maxVertex
-  pub size : elements L ≤ maxElement
-  pub fours : length L ≡ 4 * elements L
-  pub room : n + 4 * elements L ≤ length w
-  pub opposites : part n (4 * elements L) w ≡ wide L
 
 -- what the tests say of side s: no side, a border side, or by its two elements
 pub not-side : (L : List ℕ) (s : ℕ) → isSide L s ≡ false → false ≡ isSwappable L s
@@ -234,38 +187,6 @@ at-border L s z = sym (false-of (isSwappable L s) (not-T (isSwappable L s) (λ t
 pub by-triangles : (L : List ℕ) (s : ℕ) → Side L s → (partner L s ≡ 0 → ⊥) → isSwappable L s ≡ both (eqb (sides L (s / 8)) 3) (eqb (sides L (partner L s / 8)) 3)
 unfolding isSwappable
 by-triangles L s a d = rw (true-of (isSide L s) a, false-of (isBorder L s) (means-not (means-border L s) .shows d)) refl
-
--- where the entry of side s stands, and what is read there
-module _ {n : ℕ} {L w : List ℕ} (x : Tabled n L w) (s : ℕ) (a : Side L s) where
-  pub slot-inside : n + slot s < length w
-  slot-inside = omega (arith, slot-below L s a, x .room, x .fours)
-
-  pub entry-read : at w (n + slot s) ≡ at (wide L) (slot s)
-  entry-read =
-      let h : slot s < 4 * elements L = omega (arith, slot-below L s a, x .fours) in
-      sym (at-part n (4 * elements L) w (slot s) h) ∙ ap (λ (X : List ℕ). at X (slot s)) (x .opposites)
-
--- the entry t of side s: a border, or the partner
-module _ (L : List ℕ) (s : ℕ) {t : ℕ} (a : Side L s) (own : t ≡ at (wide L) (slot s)) where
-  pub entry-border : t % 8 ≡ 0 → partner L s ≡ 0
-  entry-border e = go (zero-or (partner L s))
-    where
-      go : (partner L s ≡ 0) ⊎ (partner L s ≡ 0 → ⊥) → partner L s ≡ 0
-      go (inl z) = z
-      go (inr d) =
-          let p = own ∙ wide-paired L s a d in
-          absurd (omega (arith, side-facts L (partner L s) (partner-opposed L s d .0) .number-from))
-
-  pub entry-partner : (t % 8 ≡ 0 → ⊥) → (t ≡ partner L s) × (partner L s ≡ 0 → ⊥)
-  entry-partner d = go (zero-or (partner L s))
-    where
-      go : (partner L s ≡ 0) ⊎ (partner L s ≡ 0 → ⊥) → (t ≡ partner L s) × (partner L s ≡ 0 → ⊥)
-      go (inl z) = let p = own ∙ wide-border L s a z in absurd (d (omega arith))
-      go (inr e) = (own ∙ wide-paired L s a e, e)
-
--- where the row of a side is
-pub row-inside : (L : List ℕ) (s : ℕ) → Side L s → (1 ≤ s / 8) × (4 * (s / 8) ≤ length L)
-row-inside L s a = let i = side-facts L s a in (i .element-from, omega (arith, i .element-to))
 
 -- the edit by its two tests
 module _ (n : ℕ) (L : List ℕ) (s : ℕ) where
@@ -281,7 +202,15 @@ module _ (n : ℕ) (L : List ℕ) (s : ℕ) where
   unfolding swap
   swaps e d = rw (e, d, swap)
 
-  -- a list comes only of a diagonal
+  -- it refuses by 11 or 15, and a list comes only of a diagonal
+  pub refuses-by : {r : ℕ} → swap n L s ≡ refuses r → (r ≡ 11) ⊎ (r ≡ 15)
+  refuses-by {r} e = go (test (isThere L s)) (test (isSwappable L s))
+    where
+      go : Test (isThere L s) → Test (isSwappable L s) → (r ≡ 11) ⊎ (r ≡ 15)
+      go (fail t f) c = let d = sym (gone f) ∙ e in inl cc
+      go (pass t f) (fail u g) = let d = sym (unfit f g) ∙ e in inr cc
+      go (pass t f) (pass u g) = let d = sym (swaps f g) ∙ e in let z : _≡_ {A = ℕ} 0 1 = cc in absurd (omega arith)
+
   pub becomes-swapped : {n′ : ℕ} {L′ : List ℕ} → swap n L s ≡ becomes n′ L′ → Diagonal L s × (n ≡ n′) × (swapped L s ≡ L′)
   becomes-swapped {n′} {L′} e = go (test (isThere L s)) (test (isSwappable L s))
     where
@@ -292,20 +221,6 @@ module _ (n : ℕ) (L : List ℕ) (s : ℕ) where
 
 -- the old list was tried in the front of the work, which has become W: it is accepted
 module _ {n : ℕ} {L V2e E2e work : List ℕ} (x : Checked n L V2e E2e work) {t : Answer} {W : List ℕ} (y : Scratched n L t work W) {k e : ℕ} (g : t ≡ gives k e) where
-  pub number : k ≡ borders L
-  number = counts-are n L k e (sym (y .stated) ∙ g)
-
-  pub tabled : {a : ℕ} → a ≡ n → Tabled a L W
-  tabled i =
-      rw i
-      (record {
-        vertices = x .vertices;
-        size = x .size;
-        fours = x .fours;
-        room = omega (arith, x .room, y .long);
-        opposites = y .holds k e g .opposites;
-      })
-
   -- the code is a diagonal's, and p what E2e says of it
   pub to-swap : (s : ℕ) {p : ℕ} → isSwappable L s ≡ true → p ≡ at (wide L) (slot s) → ToSwap n L V2e E2e W s p
   to-swap s f h =

@@ -1,42 +1,40 @@
 // Swapping the diagonal of two triangles, document 02, point 1.
 ghost use mathlib.Core.Path.{_≡_};
 ghost use mathlib.Core.List.{[], _∷_};
-ghost use Prim.Native.Nat.{_*_, _≤_};
-ghost use lib.Dec.{eqb};
+ghost use Prim.Native.Nat.{_*_};
 ghost use lib.ListN.{length};
 ghost use Rattle.lists.specs.Search.{at};
-ghost use Rattle.rules.specs.Elements.{sides, Side, slot};
 ghost use Rattle.rules.specs.Tables.{columns as columnsIn};
-ghost use Rattle.rules.specs.Tables.{wide as wideOf};
 ghost use Rattle.rules.specs.Refusals.{listAnswer, roomCheck};
 ghost use Rattle.rules.specs.Edits.{becomes, onceAccepted, newAnswer};
-ghost use Rattle.rules.specs.Swap.{withRow, swapped, isSwappable, swapAnswer, swapLeaves};
+ghost use Rattle.rules.specs.Swap.{swapped, isSwappable, swapAnswer, swapLeaves};
 ghost use Rattle.rules.specs.Swap.{swap as swapOf};
-ghost use Rattle.halfedge.specs.Rows.{rowOf, cornerOf, previousSide};
+ghost use Rattle.halfedge.specs.Rows.{cornerOf, previousSide};
 ghost use Rattle.answer.specs.Numbers.{numbers};
 ghost use Rattle.build.specs.Building.{Checked};
 ghost use Rattle.edits.specs.Holding.{lentEdit};
 ghost use Rattle.edits.specs.Leaving.{tight, Left};
-ghost use Rattle.swap.specs.Swaps.{Flips, ToSwap, Tabled};
+ghost use Rattle.edits.specs.Trying.{Tabled};
+ghost use Rattle.swap.specs.Swaps.{Flips, ToSwap};
 use answer::Answer;
 use answer::refuse;
 use buffers::clear;
-use buffers::copy;
 use build::build_fit;
 use edits::columns_held;
 use edits::counts_fit;
+use edits::entry_of;
 use edits::is_there;
+use edits::is_triangle;
+use edits::put_row;
+use edits::try_old;
 use halfedge::corner;
 use halfedge::element_of;
 use halfedge::is_border;
 use halfedge::number_of;
 use halfedge::previous_side;
-use halfedge::side_count;
-use halfedge::slot_of;
 use halfedge::wide;
 use sides::is_side;
 use sides::row_at;
-use tabulate::tabulate;
 
 // The corner of a triangle before the origin of its side i.
 fn third(row: [u32; 4], i: u32) -> u32
@@ -50,16 +48,6 @@ fn flip(row: [u32; 4], i: u32, d: u32) -> [u32; 4]
     ensures { λ r. ⌜ r ≡ cornerOf row (previousSide row i) ∷ cornerOf row i ∷ d ∷ 0 ∷ [] ⌝ }
 {
     [third(row, i), corner(row, i), d, 0]
-}
-
-// The row of element f is replaced.
-fn put_row(f: u32, row: [u32; 4], list: &mut [u32])
-    requires { ⌜ (1 ≤ f) × (4 * f ≤ length (now list)) ⌝ }
-    ensures { λ r. ⌜ now (list .exit) ≡ withRow f (rowOf row) (now (list .entry)) ⌝ }
-{
-    let a = 4 * wide(f - 1);
-    let e = a + 4;
-    copy(&row, &mut list[a..e]);
 }
 
 // The rows of the two triangles with side s, of the one, and its partner t, of the other, swapped.
@@ -113,21 +101,6 @@ fn swap_rows(
     a
 }
 
-fn is_triangle(list: &[u32], f: u32) -> bool
-    requires { ⌜ (1 ≤ f) × (4 * f ≤ length (now list)) ⌝ }
-    ensures { λ r. ⌜ r ≡ eqb (sides (now (list .entry)) f) 3 ⌝ }
-{
-    side_count(row_at(list, f)) == 3
-}
-
-// The entry of side s in the E2e of four columns that stands from n on in the work buffer.
-fn entry_of(n: usize, list: &[u32], work: &[u32], s: u32) -> u32
-    requires { ⌜ Tabled n (now list) (now work) × Side (now list) s ⌝ }
-    ensures { λ r. ⌜ r ≡ at (wideOf (now (list .entry))) (slot s) ⌝ }
-{
-    work[n + slot_of(s)]
-}
-
 // Whether s is an inner side between two triangles, by that E2e.
 fn is_swappable(n: usize, list: &[u32], work: &[u32], s: u32) -> bool
     requires { ⌜ Tabled n (now list) (now work) ⌝ }
@@ -162,8 +135,7 @@ fn swap_fit(
     ensures { λ r. ⌜ length (now (work .exit)) ≡ length (now (work .entry)) ⌝ }
 {
     let vertices = wide(n);
-    let end = vertices + 12 * (list.len() / 4);
-    let t = tabulate(n, list, &mut work[0..end]);
+    let t = try_old(n, list, work);
     let Answer::Gives { first, second: _ } = t else {
         return t;
     };

@@ -62,7 +62,7 @@ module _ {L : List ℕ} {s a b c : ℕ} (x : TriangleSide L s a b c) where
     | before k ↦ three k (ap (origin L) k ∙ x .third)
   ]
 
-  corners : T (isCorner L (s / 8) a) × T (isCorner L (s / 8) b) × T (isCorner L (s / 8) c)
+  pub corners : T (isCorner L (s / 8) a) × T (isCorner L (s / 8) b) × T (isCorner L (s / 8) c)
   corners =
       let y = x .runs in
       let i = next-numbered L s (y .side) in
@@ -71,6 +71,12 @@ module _ {L : List ℕ} {s a b c : ℕ} (x : TriangleSide L s a b c) where
     where
       corner : (v r : ℕ) → SideAt L v r → r / 8 ≡ s / 8 → T (isCorner L (s / 8) v)
       corner v r y e = means-begins L (s / 8) v (element-of L s (x .runs .side)) .shows (r, y, e)
+
+  -- it has no others
+  pub its-corner : (v : ℕ) → T (isCorner L (s / 8) v) → (v ≡ a) ⊎ ((v ≡ b) ⊎ (v ≡ c))
+  its-corner v t =
+      let (q, (w, o), e) = means-begins L (s / 8) v (element-of L s (x .runs .side)) .says t in
+      elim (begins q w e) [ one i j ↦ inl (sym o ∙ j) | two i j ↦ inr (inl (sym o ∙ j)) | three i j ↦ inr (inr (sym o ∙ j)) ]
 
   -- where its corners differ, different sides begin at different ones
   pub one-corner : (a ≡ b → ⊥) → (b ≡ c → ⊥) → (c ≡ a → ⊥) → (q w : ℕ) → Side L q → Side L w → q / 8 ≡ s / 8 → w / 8 ≡ s / 8 → origin L q ≡ origin L w

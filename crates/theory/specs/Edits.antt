@@ -2,10 +2,10 @@
 -- Assumes nothing.
 use mathlib.Core.Path.{_≡_, refl, ap, sym, _∙_}
 use mathlib.Core.List.{List, _++_, append-assoc, append-nil}
-use Prim.Native.Nat.{ℕ, _-_, _≤_}
+use Prim.Native.Nat.{ℕ, _+_, _-_, _≤_}
 use native.Mathlib.Omega.{arith}
 use lib.ListN.{length, take, drop, replicate, length-append, length-drop, length-replicate}
-use lib.Seq.{take-append-seam}
+use lib.Seq.{take-append-seam, drop-drop, drop-append-add}
 use Rattle.rules.specs.Refusals.{Answer, gives, refused, listAnswer, onto}
 use Rattle.rules.specs.Edits.{Edited, becomes, refuses, overOld, onceAccepted, newAnswer}
 use Rattle.theory.specs.Answers.{past-room}
@@ -31,6 +31,15 @@ module _ (xs buffer : List ℕ) where
   unfolding onto
   onto-length h = simp (length-append, length-drop) (omega arith)
 
+  pub past-onto : (p : ℕ) → length xs ≤ p → drop p (onto xs buffer) ≡ drop p buffer
+  unfolding onto
+  past-onto p h =
+      let e : length xs + (p - length xs) ≡ p = omega arith in
+      ap (λ (i : ℕ). drop i (onto xs buffer)) (sym e)
+      ∙ drop-append-add xs (drop (length xs) buffer) (p - length xs)
+      ∙ drop-drop (p - length xs) (length xs) buffer
+      ∙ ap (λ (i : ℕ). drop i buffer) e
+
 -- the same over `old` entries, with 0 up to their end
 module _ (old : ℕ) (xs buffer : List ℕ) where
   abbrev zeros : List ℕ
@@ -49,9 +58,15 @@ module _ (old : ℕ) (xs buffer : List ℕ) where
   over-length h i =
       onto-length (xs ++ zeros) buffer (omega (arith, length-append xs zeros, length-replicate {A = ℕ} (old - length xs) 0))
 
-  -- where they are as many as the old ones, no 0 comes after them
-  pub over-same : length xs ≡ old → overOld old xs buffer ≡ onto xs buffer
+  -- where they are as many as the old ones, or more, no 0 comes after them
+  pub over-longer : old ≤ length xs → overOld old xs buffer ≡ onto xs buffer
   unfolding overOld
-  over-same e =
+  over-longer h =
       let z : old - length xs ≡ 0 = omega arith in
       ap (λ (k : ℕ). onto (xs ++ replicate k 0) buffer) z ∙ ap (λ (ys : List ℕ). onto ys buffer) (append-nil xs)
+
+  -- what stands past both stays
+  pub past-over : (p : ℕ) → old ≤ p → length xs ≤ p → drop p (overOld old xs buffer) ≡ drop p buffer
+  unfolding overOld
+  past-over p h i =
+      past-onto (xs ++ zeros) buffer p (omega (arith, length-append xs zeros, length-replicate {A = ℕ} (old - length xs) 0))

@@ -18,7 +18,7 @@ use Rattle.theory.specs.Sides.{three, four, sides-by, side-facts}
 use Rattle.theory.specs.Least.{means-some-number}
 use Rattle.theory.specs.Steps.{wraps, grows, next-number, next-in, next-numbered}
 use Rattle.theory.specs.FitRows.{Fit}
-use Rattle.theory.specs.Links.{lesser, greater, Link, side, diagonal, low, high, link-facts, link-side, link-diagonal, link-ends}
+use Rattle.theory.specs.Links.{lesser, greater, Diagonal, Link, side, diagonal, low, high, link-facts, link-side, link-diagonal, link-ends}
 use Rattle.theory.specs.Links.{low-side, high-side, low-diagonal, high-diagonal, at-corner, Spans, spans-fit}
 use Rattle.theory.specs.Pairings.{means-alike, means-opposed, means-joins}
 
@@ -99,7 +99,13 @@ means-begins L f v el =
           m .shows (r % 8, record { from = h .number-from; to = rw e at (h .number-to); is = rw e at o });
     }
 
-own : (L : List ℕ) (f i : ℕ) → 1 ≤ i → i ≤ sides L f → T (isCorner L f (corner L f i))
+-- a corner of the one of two triangles with the same corners is a corner of the other
+pub doubled-corner : {L : List ℕ} {f g : ℕ} → Doubled L f g → (v : ℕ) → T (isCorner L f v) → T (isCorner L g v)
+doubled-corner {L} {f} x v t =
+    let (i, y) = means-corner L f v .says t in
+    rw (y .is) at (x .corners i (y .from) (omega (arith, y .to, x .mine-three)))
+
+pub own : (L : List ℕ) (f i : ℕ) → 1 ≤ i → i ≤ sides L f → T (isCorner L f (corner L f i))
 own L f i o h = means-corner L f (corner L f i) .shows (i, omega arith)
 
 -- corners p and q of k, p before q, have link i between them: side p, or the last side, or a diagonal
@@ -212,6 +218,9 @@ module _ (L : List ℕ) (c : ℕ) where
   ends-corners {f} {u} {v} (s, e) =
       let (p, q, a, b, w) = rw (e, s .from, s .to) at (placed (s .link)) in
       (means-corner L f u .shows (p, a), means-corner L f v .shows (q, b))
+
+  pub link-corners : Link L c → T (isCorner L (c / 8) (low L c)) × T (isCorner L (c / 8) (high L c))
+  link-corners l = ends-corners (tie-of l refl refl refl)
 
 -- corner i + 1 of f is a corner of g
 abbrev sharedAt : List ℕ → ℕ → ℕ → ℕ → Bool
@@ -447,6 +456,14 @@ module _ (n : ℕ) (L : List ℕ) (fit : Fit n L) where
               let w = one-link (x .other) d (x .other-link) (side t) (x .other-of ∙ sym q) (cc) (cc) in
               elim (x .a-diagonal) [ inl i ↦ omega (arith, side-facts L c s) | inr i ↦ omega (arith, side-facts L d t) ]
         ]
+
+    -- a diagonal of f is crossed where both its ends are corners of g
+    pub diagonal-clashes : (d : ℕ) → Diagonal L d → d / 8 ≡ f → T (isCorner L g (low L d)) → T (isCorner L g (high L d)) → T (meetWell L f g) → ⊥
+    diagonal-clashes d x e p q =
+        let (_, less, _) = link-ends n L fit d (diagonal x) in
+        let (c, w) = linked L g b (low L d) (high L d) (λ z. omega arith) p q in
+        let u : Tied L f (low L d) (high L d) d = tie-of (diagonal x) e (omega arith) (omega arith) in
+        crossing-clashes (crossing L f g u w (inl (omega (arith, x .number-from))))
 
     -- two shared corners whose links don't cross are a side of both, so where f and g clash there is a third
     clash-met : (T (meetWell L f g) → ⊥) → Crossing L f g ⊎ (3 ≤ sharedCorners L f g)

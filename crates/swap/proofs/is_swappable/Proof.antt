@@ -12,7 +12,8 @@ use Rattle.rules.specs.Tables.{partner}
 use Rattle.rules.specs.Swap.{isSwappable}
 use Rattle.theory.specs.Pairings.{partner-opposed}
 use Rattle.halfedge.specs.Codes.{of-border, of-side}
-use Rattle.swap.specs.Swaps.{not-side, at-border, by-triangles, entry-border, entry-partner, row-inside}
+use Rattle.edits.specs.Trying.{entry-border, entry-partner, row-inside}
+use Rattle.swap.specs.Swaps.{not-side, at-border, by-triangles}
 use borrow.Author.Needs.{needs}
 use Rattle.swap.proofs.is_swappable.Statement.{statement}
 use Rattle.swap.proofs.is_swappable.Tie as tie

@@ -6,12 +6,11 @@ use Prim.Native.Nat.{_*_, _-_, _≤_}
 use native.Mathlib.Omega.{arith}
 use lib.ListN.{length, take}
 use borrow.Author.Tests.{not-true, not-false}
-use Rattle.lists.specs.TestLaws.{means-both, means-le}
 use Rattle.rules.specs.Elements.{maxVertex, maxElement}
-use Rattle.rules.specs.Edits.{Edited, Lent, editSizes, editLengths}
+use Rattle.rules.specs.Edits.{Edited, Lent, hasRoom, editSizes, editLengths}
 use Rattle.rules.specs.Swap.{swap}
 use Rattle.theory.specs.Columns.{three-or-four, few-entries}
-use Rattle.edits.specs.Holding.{lentEdit, holds, Held, found-short, found-long}
+use Rattle.edits.specs.Holding.{lentEdit, counts-say, holds, Held, found-short, found-long}
 use Rattle.edits.specs.Leaving.{unsized, unlengthened}
 use Rattle.swap.specs.Calling.{checked-at, whole}
 use borrow.Author.Needs.{needs}
@@ -37,14 +36,14 @@ sized c = sizes (c .before) ∙ not-false _ (c .if1 .left)
 
 within : (c : tie.Else1) → let a = begun (c .before) .args in (a .n ≤ maxVertex) × (a .m ≤ maxElement)
 unfolding editSizes
-within c = let a = begun (c .before) .args in means-both (means-le (a .n) maxVertex) (means-le (a .m) maxElement) .says (rw (sized c) tt)
+within c = let a = begun (c .before) .args in counts-say (a .n) (a .m) (sized c)
 
 -- check 2
 abbrev past : tie.After-columns-held → tie.Else1
 past c = c .before .before
 
-lengths : (w : Lent) {b : Bool} → holds (w .n) (w .m) (w .list) (length (w .vertices)) (length (w .opposites)) (length (w .work)) ≡ b → editLengths w ≡ b
-unfolding editLengths
+lengths : (w : Lent) {b : Bool} → holds (w .n) (w .m) (w .list) (length (w .vertices)) (length (w .opposites)) (length (w .work)) ≡ b → editLengths w true ≡ b
+unfolding hasRoom editLengths
 lengths w e = e
 
 -- the columns are known, and the ends of what the buffers hold
@@ -80,7 +79,7 @@ refuse-requires c κs = search needs
 returns : tie.Need-returns
 returns c =
     let asked = c .before .before in
-    unsized (lent (begun asked)) (edit (begun asked)) (sizes asked ∙ not-true _ (c .before .if1 .taken)) (c .refuse .ensures)
+    unsized (lent (begun asked)) true (edit (begun asked)) (sizes asked ∙ not-true _ (c .before .if1 .taken)) (c .refuse .ensures)
 
 columns-held-requires : tie.Need-columns-held-requires
 columns-held-requires c κs = within (c .before)
@@ -98,7 +97,7 @@ returns-2 c =
     let a = begun (one .before) .args in
     let short = found-short (a .n) (a .m) (a .list .now) _ _ _ (sym (found .columns-held .ensures) ∙ c .before .if2 .taken) in
     let start = begun (one .before) in
-    unlengthened (lent start) (edit start) (sized one) (lengths (lent start) short) (c .refuse2 .ensures)
+    unlengthened (lent start) true (edit start) (sized one) (lengths (lent start) short) (c .refuse2 .ensures)
 
 wide-requires : tie.Need-wide-requires
 wide-requires c κs = search needs

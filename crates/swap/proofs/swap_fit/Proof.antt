@@ -2,19 +2,18 @@
 -- Assumes nothing.
 use mathlib.Core.Path.{_≡_, ap, sym, _∙_}
 use mathlib.Core.Bool.{true}
-use mathlib.Core.List.{_++_}
-use Prim.Native.Nat.{ℕ, _+_, _*_, _-_}
-use lib.ListN.{length, drop}
+use Prim.Native.Nat.{ℕ}
+use lib.ListN.{length}
 use borrow.Author.Tests.{not-true, not-false}
-use Rattle.rules.specs.Elements.{elements}
 use Rattle.rules.specs.Refusals.{gives}
 use Rattle.rules.specs.Edits.{Edited, isThere}
 use Rattle.rules.specs.Swap.{isSwappable, swap}
 use Rattle.theory.specs.Swapping.{means-swappable}
 use Rattle.answer.specs.Numbers.{numbers}
-use Rattle.build.specs.Building.{Checked, front-fits, sized, Scratched, scratched}
+use Rattle.build.specs.Building.{Checked, Scratched}
 use Rattle.edits.specs.Leaving.{old-refused, new-refused, new-tried}
-use Rattle.swap.specs.Swaps.{gone, unfit, swaps, number, tabled, to-swap, Tabled}
+use Rattle.edits.specs.Trying.{Tabled, number, tabled}
+use Rattle.swap.specs.Swaps.{gone, unfit, swaps, to-swap}
 use borrow.Author.Needs.{needs}
 use Rattle.swap.proofs.swap_fit.Statement.{statement}
 use Rattle.swap.proofs.swap_fit.Tie as tie
@@ -22,10 +21,10 @@ use Rattle.swap.proofs.swap_fit.Tie as tie
 abbrev begun : tie.After-wide → tie.Start
 begun c = c .before .before .before .before .before .before
 
-abbrev tabled-at : tie.After-slice-known6 → tie.After-tabulate
-tabled-at c = c .before .before
+abbrev tried-at : tie.After-slice-known6 → tie.After-try-old
+tried-at c = c .before .before
 
-abbrev start : tie.After-tabulate → tie.Start
+abbrev start : tie.After-try-old → tie.Start
 start c = begun (c .before .before .before)
 
 -- what the edit makes of the list, and the room for B2e
@@ -38,24 +37,21 @@ room c = length (c .args .b2e .now)
 known : (c : tie.Start) → let a = c .args in Checked (a .n) (a .list .now) (a .v2e .now) (a .e2e .now) (a .work .now)
 known c = c .pre .0
 
--- the scratch buffer is back in front of the rest of the work
-scratch : (c : tie.After-tabulate) →
-    let a = start c .args in
-    let end = c .before .before .before .wide .result + 12 * elements (a .list .now) in
-    Scratched (a .n) (a .list .now) (numbers (c .tabulate .result)) (a .work .now) (c .tabulate .last .1 .1 .0 ++ drop (end - 0) (a .work .now))
-scratch c = scratched (known (start c)) (c .before .before .before .wide .ensures) (c .tabulate .ensures)
+-- the old list is tried in the front of the work
+scratch : (c : tie.After-try-old) → let a = start c .args in
+    Scratched (a .n) (a .list .now) (numbers (c .try-old .result)) (a .work .now) (c .try-old .last .1 .1 .0)
+scratch c = c .try-old .ensures
 
--- the old list is accepted
-abbrev done-at : tie.After-known-told → tie.After-tabulate
-done-at c = tabled-at (c .before .before .before)
+-- and accepted
+abbrev done-at : tie.After-known-told → tie.After-try-old
+done-at c = tried-at (c .before .before .before)
 
 old : (c : tie.After-known-told) →
     let d = done-at c in
     let a = start d .args in
-    let end = d .before .before .before .wide .result + 12 * elements (a .list .now) in
     Checked (a .n) (a .list .now) (a .v2e .now) (a .e2e .now) (a .work .now)
-    × Scratched (a .n) (a .list .now) (numbers (d .tabulate .result)) (a .work .now) (d .tabulate .last .1 .1 .0 ++ drop (end - 0) (a .work .now))
-    × (numbers (d .tabulate .result) ≡ gives (c .before .t .given .0 .0) (c .before .t .given .0 .1 .0))
+    × Scratched (a .n) (a .list .now) (numbers (d .try-old .result)) (a .work .now) (d .try-old .last .1 .1 .0)
+    × (numbers (d .try-old .result) ≡ gives (c .before .t .given .0 .0) (c .before .t .given .0 .1 .0))
 old c = let d = done-at c in (known (start d), scratch d, ap numbers (c .before .t .given .1))
 
 -- the half-edge is there
@@ -70,9 +66,7 @@ there c = sym (c .before .is-there .ensures) ∙ not-false _ (c .if1 .left)
 
 tables : (c : tie.Else1) →
     let d = done-at (counted (c .before)) in
-    let a = start d .args in
-    let end = d .before .before .before .wide .result + 12 * elements (a .list .now) in
-    Tabled (d .before .before .before .wide .result) (a .list .now) (d .tabulate .last .1 .1 .0 ++ drop (end - 0) (a .work .now))
+    let a = start d .args in Tabled (d .before .before .before .wide .result) (a .list .now) (d .try-old .last .1 .1 .0)
 tables c =
     let k = counted (c .before) in
     let (x, y, g) = old k in tabled x y g (done-at k .before .before .before .wide .ensures)
@@ -87,23 +81,9 @@ fit c = sym (c .before .is-swappable .ensures) ∙ not-false _ (c .if2 .left)
 wide-requires : tie.Need-wide-requires
 wide-requires c κs = search needs
 
-mul-end : tie.Need-mul-end
-mul-end c = search needs
-
-add-end : tie.Need-add-end
-add-end c = search needs
-
-sub-tabulate : tie.Need-sub-tabulate
-sub-tabulate c = search needs
-
-part-tabulate-start : tie.Need-part-tabulate-start
-part-tabulate-start c = search needs
-
-part-tabulate-end : tie.Need-part-tabulate-end
-part-tabulate-end c = let w = c .before in let h = front-fits (known (begun w)) (w .wide .ensures) in search needs
-
-tabulate-requires : tie.Need-tabulate-requires
-tabulate-requires c κs = let w = c .before .before in sized (known (begun w)) (w .wide .ensures)
+try-old-requires : tie.Need-try-old-requires
+try-old-requires c κs =
+    let s = begun (c .before .before) in record { vertices = s .args .v2e .now; opposites = s .args .e2e .now; checked = known s }
 
 enum-known-t : tie.Need-enum-known-t
 enum-known-t c = search needs
@@ -119,7 +99,7 @@ same-length-2 c = search needs
 
 returns : tie.Need-returns
 returns c =
-    let done = tabled-at (c .before .before) in
+    let done = tried-at (c .before .before) in
     let a = start done .args in
     (old-refused (a .n) (a .list .now) (edit (start done)) (room (start done)) (scratch done .stated) (ap numbers (c .enum-told .given .1)), scratch done .long)
 
@@ -209,12 +189,7 @@ swap-fit-spec =
     tie.close
     (tie.spec
     wide-requires
-    mul-end
-    add-end
-    sub-tabulate
-    part-tabulate-start
-    part-tabulate-end
-    tabulate-requires
+    try-old-requires
     enum-known-t
     enum-told
     same-length

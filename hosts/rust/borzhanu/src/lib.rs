@@ -102,7 +102,23 @@
 //! # Ok::<(), borzhanu::Refusal>(())
 //! ```
 //!
-//! [`columns`], [`build`], [`recover`], [`siblings()`], [`swap`] and [`Mesh`] are the kernel's own calls, on buffers that
+//! Near a bracket a mesh is refined. A split puts a new vertex at the midpoint of an edge; the mesh then has its points too:
+//!
+//! ```
+//! use borzhanu::{HalfEdge, OwnedMesh};
+//!
+//! // The same two triangles, each vertex at its point.
+//! let corners = [[0.0, 0.0, 0.0], [4.0, 0.0, 0.0], [4.0, 3.0, 0.0], [0.0, 3.0, 0.0]];
+//! let mut panel = OwnedMesh::with_points(&corners, &[[1, 2, 3, 0], [1, 3, 4, 0]])?;
+//!
+//! // The edge from 3 to 1: vertex 5 is placed at its middle, and both triangles are cut in two.
+//! panel.split(HalfEdge::side(1, 3))?;
+//! assert_eq!(panel.rows(), [[5, 2, 3, 0], [1, 5, 4, 0], [1, 2, 5, 0], [5, 3, 4, 0]]);
+//! assert_eq!(panel.points()[4], [2.0, 1.5, 0.0]);
+//! # Ok::<(), borzhanu::Refusal>(())
+//! ```
+//!
+//! [`columns`], [`build`], [`recover`], [`siblings()`], [`swap`], [`split`] and [`Mesh`] are the kernel's own calls, on buffers that
 //! the caller lends; these allocate nothing. Half-edges are codes there, which [`side`], [`border`] and [`HalfEdge`] make,
 //! and code 0 names nothing:
 //!
@@ -183,8 +199,8 @@ pub const fn border(b: u32) -> u32 {
     8 * b
 }
 
-/// The least length of the work buffer of [`build`], [`recover`], [`siblings()`], [`swap`] and [`Mesh::holes`] for n
-/// vertices and m elements.
+/// The least length of the work buffer of [`build`], [`recover`], [`siblings()`], [`swap`], [`split`] and [`Mesh::holes`]
+/// for n vertices and m elements.
 pub const fn work_length(n: u32, m: usize) -> usize {
     n as usize + 16 * m
 }
@@ -424,6 +440,88 @@ pub fn swap(
             e2e.len(),
             b2e.as_mut_ptr(),
             b2e.len(),
+            work.as_mut_ptr(),
+            work.len(),
+            code,
+        )
+    };
+    counted(returned)
+}
+
+/// Splits an edge of an element list and places its midpoint, and writes the tables of the new list. [`OwnedMesh`] has this
+/// without buffers to lend.
+///
+/// `code` names the edge by a side from a to b, inner or on the border. The new vertex is v = n + 1. The triangle (a, b, c)
+/// of the side becomes (a, v, c), and (v, b, c) is appended; its partner (b, a, d), if there is one, becomes (b, v, d), and
+/// (v, a, d) is appended after that. Every corner keeps its place in the row, and v takes the place of the corner that it
+/// stands for. So an inner edge makes m greater by 2 and the number of edges by 3, one on the border m and k by 1 and the
+/// number of edges by 2.
+///
+/// The list is the first 4 × m entries of `elements`, where `size` has n and m. `v2e` has at least n entries, `e2e` at
+/// least [`columns`] × m, `points` at least 3 × n numbers, three for each vertex, and `work` at least [`work_length`], or
+/// refusal 2 comes. With an answer they have as many for the new n and m too, or refusal 19 comes; and `b2e` has at least
+/// the new k entries (n + 1 are always enough), or 9 comes. After an answer `size` has the new n and m, the new list and its
+/// tables stand at the starts of their buffers, and the new point stands after the others: each of its numbers is
+/// (x + y) × 0.5, x and y being those of a and b, operation by operation as f64 has it. Every entry past both what was held
+/// and what is held now is as it was, and so is every old point. After a refusal `size`, the list, the tables and the
+/// points are as they were. After 1 and 2 `work` is as it was; after everything else all of it is zero.
+///
+/// # Errors
+///
+/// Refusals 1 and 2 for the sizes and lengths; 3, 4, 6 to 8 and 18 where the list is refused; 11 where it has no half-edge
+/// of this code; 15 for a border half-edge and a side with a quadrilateral on either side; 19; 9. In this order.
+///
+/// ```
+/// use borzhanu::{side, split, work_length, Refusal, Size};
+///
+/// // A triangle, in buffers with room for a second.
+/// let mut size = Size { n: 3, m: 1 };
+/// let mut elements = [1, 2, 3, 0, 7, 7, 7, 7];
+/// let (mut v2e, mut e2e, mut b2e) = ([7; 4], [7; 6], [7; 4]);
+/// let mut points = [0.0, 0.0, 0.0, 3.0, 0.0, 0.0, 0.0, 4.0, 0.0, 7.0, 7.0, 7.0];
+/// let mut work = vec![0; work_length(4, 2)];
+///
+/// // The side from 1 to 2. Vertex 4 lies midway.
+/// let counts =
+///     split(&mut size, &mut elements, &mut v2e, &mut e2e, &mut b2e, &mut points, &mut work, side(1, 1))?;
+/// assert_eq!((size, counts.borders, counts.edges), (Size { n: 4, m: 2 }, 4, 5));
+/// assert_eq!(elements, [1, 4, 3, 0, 4, 2, 3, 0]);
+/// assert_eq!(v2e, [16, 24, 32, 8]);
+/// assert_eq!(e2e, [8, 19, 16, 24, 32, 10]);
+/// assert_eq!(b2e, [9, 11, 17, 18]);
+/// assert_eq!(points[9..], [1.5, 0.0, 0.0]);
+///
+/// // No buffer has room for a third.
+/// let refused = split(&mut size, &mut elements, &mut v2e, &mut e2e, &mut b2e, &mut points, &mut work, side(1, 1));
+/// assert_eq!(refused, Err(Refusal::NoRoom));
+/// # Ok::<(), borzhanu::Refusal>(())
+/// ```
+// The buffers are those of the exported call, in its order.
+#[allow(clippy::too_many_arguments)]
+pub fn split(
+    size: &mut Size,
+    elements: &mut [u32],
+    v2e: &mut [u32],
+    e2e: &mut [u32],
+    b2e: &mut [u32],
+    points: &mut [f64],
+    work: &mut [u32],
+    code: u32,
+) -> Result<Counts, Refusal> {
+    // SAFETY: each pointer has its slice's own length, and the kernel stays within these and the two numbers of the size.
+    let returned = unsafe {
+        exports::borzhanu_split(
+            size,
+            elements.as_mut_ptr(),
+            elements.len(),
+            v2e.as_mut_ptr(),
+            v2e.len(),
+            e2e.as_mut_ptr(),
+            e2e.len(),
+            b2e.as_mut_ptr(),
+            b2e.len(),
+            points.as_mut_ptr(),
+            points.len(),
             work.as_mut_ptr(),
             work.len(),
             code,

@@ -2,13 +2,17 @@
 
 use crate::{Counts, HalfEdge, Mesh, Refusal, Tables};
 
-/// A mesh to edit: an element list with its tables, and the work buffer of edits. The tables are at all times those that
-/// [`build`](crate::build) gives of the list: an edit writes both, or is refused and leaves both as they were. What is
-/// lent by [`OwnedMesh::mesh`] and [`OwnedMesh::tables`] has to be given back before the next edit, so none of it can be
-/// out of date.
+/// A mesh to edit: an element list with its tables, a point for each vertex, and the work buffer of edits. The tables are at
+/// all times those that [`build`](crate::build) gives of the list: an edit writes both, or is refused and leaves both as
+/// they were. What is lent by [`OwnedMesh::mesh`] and [`OwnedMesh::tables`] has to be given back before the next edit, so
+/// none of it can be out of date.
 ///
-/// An edit judges the whole list, before and after, so its time is linear in n + m, as that of building is. It allocates
-/// nothing.
+/// Points are there for the edits that make vertices. Who only swaps builds the mesh without them, with
+/// [`OwnedMesh::build`]: every point is then 0, 0, 0. [`OwnedMesh::with_points`] takes them with the list, and
+/// [`OwnedMesh::points_mut`] lends them to be moved.
+///
+/// An edit judges the whole list, before and after, so its time is linear in n + m, as that of building is. A swap
+/// allocates nothing; a split does where a buffer has to grow, by vectors' own rule, so seldom in a run of splits.
 ///
 /// ```
 /// use borzhanu::{HalfEdge, OwnedMesh};
@@ -28,22 +32,47 @@ use crate::{Counts, HalfEdge, Mesh, Refusal, Tables};
 /// assert_eq!(plate.rows()[..2], [[2, 3, 5, 0], [5, 1, 2, 0]]);
 /// # Ok::<(), borzhanu::Refusal>(())
 /// ```
-#[derive(Clone, Debug, PartialEq, Eq)]
+#[derive(Clone, Debug, PartialEq)]
 pub struct OwnedMesh {
     /// Each buffer is as long as what it holds. What it has room for is its vector's capacity.
     tables: Tables,
+    /// One for each vertex.
+    points: Vec<[f64; 3]>,
     /// All zero between the calls.
     work: Vec<u32>,
 }
 
 impl OwnedMesh {
-    /// Builds the mesh of the element list `rows` on n vertices, as [`Tables::build`] does.
+    /// Builds the mesh of the element list `rows` on n vertices, as [`Tables::build`] does. All points are 0, 0, 0.
     ///
     /// # Errors
     ///
     /// Refusals 1, 3, 4, 6 to 8 and 18, where these rows are no mesh.
     pub fn build(n: u32, rows: &[[u32; 4]]) -> Result<OwnedMesh, Refusal> {
-        Tables::build_with_work(n, rows).map(|(tables, work)| OwnedMesh { tables, work })
+        let (tables, work) = Tables::build_with_work(n, rows)?;
+        Ok(OwnedMesh { tables, points: vec![[0.0; 3]; n as usize], work })
+    }
+
+    /// Builds the mesh of the element list `rows` on as many vertices as there are points: vertex v is at
+    /// `points[v - 1]`. The numbers needn't be finite.
+    ///
+    /// # Errors
+    ///
+    /// Refusals 1, 3, 4, 6 to 8 and 18, where these rows are no mesh.
+    ///
+    /// ```
+    /// use borzhanu::{HalfEdge, OwnedMesh};
+    ///
+    /// let corners = [[0.0, 0.0, 5.0], [6.0, 0.0, 5.0], [0.0, 8.0, 5.0]];
+    /// let mut plate = OwnedMesh::with_points(&corners, &[[1, 2, 3, 0]])?;
+    /// plate.split(HalfEdge::side(1, 2))?;
+    /// assert_eq!(plate.points()[3], [3.0, 4.0, 5.0]);
+    /// # Ok::<(), borzhanu::Refusal>(())
+    /// ```
+    pub fn with_points(points: &[[f64; 3]], rows: &[[u32; 4]]) -> Result<OwnedMesh, Refusal> {
+        let n = u32::try_from(points.len()).map_err(|_| Refusal::Sizes)?;
+        let (tables, work) = Tables::build_with_work(n, rows)?;
+        Ok(OwnedMesh { tables, points: points.to_vec(), work })
     }
 
     /// The list and its tables, lent: every query, half-edges as codes.
@@ -69,6 +98,16 @@ impl OwnedMesh {
     /// The element list: four corners to a row, the fourth 0 for a triangle.
     pub fn rows(&self) -> &[[u32; 4]] {
         self.tables.rows()
+    }
+
+    /// The point of each vertex: that of v is `points()[v - 1]`.
+    pub fn points(&self) -> &[[f64; 3]] {
+        &self.points
+    }
+
+    /// The same, to be moved.
+    pub fn points_mut(&mut self) -> &mut [[f64; 3]] {
+        &mut self.points
     }
 
     /// k and the number of edges.
@@ -101,5 +140,44 @@ impl OwnedMesh {
     /// ```
     pub fn swap(&mut self, side: HalfEdge) -> Result<Counts, Refusal> {
         self.tables.swap(side, &mut self.work)
+    }
+
+    /// Splits an edge and places its midpoint. The edge is named by a side from a to b, inner or on the border; the new
+    /// vertex v has the number [`OwnedMesh::n`] afterwards. The triangle (a, b, c) of the side becomes (a, v, c), and
+    /// (v, b, c) is appended to the rows; its partner (b, a, d), if there is one, becomes (b, v, d), and (v, a, d) is
+    /// appended after that. Every corner keeps its place in the row, v takes the place of the one that it stands for, and
+    /// every other row and all points stay. Each number of the new point is (x + y) × 0.5, where x and y are those of a
+    /// and b: exactly midway for whole numbers from −2^52 to 2^52. It gives both counts.
+    ///
+    /// # Errors
+    ///
+    /// After each of these the mesh is as it was:
+    ///
+    /// - [`Refusal::NotThere`] where the mesh has no such half-edge;
+    /// - [`Refusal::EdgeUnfit`] for a border half-edge, whose side can be split, and for a side with a quadrilateral on
+    ///   either side;
+    /// - [`Refusal::NoRoom`] where n is [`MAX_VERTICES`](crate::MAX_VERTICES) already, or the rows would be more than
+    ///   [`MAX_ELEMENTS`](crate::MAX_ELEMENTS). There is room in the buffers up to there: they grow.
+    ///
+    /// ```
+    /// use borzhanu::{HalfEdge, OwnedMesh, Refusal};
+    ///
+    /// // A square plate of two triangles. Its rim is split from 1 to 2, and then the diagonal.
+    /// let corners = [[0.0, 0.0, 0.0], [8.0, 0.0, 0.0], [8.0, 8.0, 0.0], [0.0, 8.0, 0.0]];
+    /// let mut plate = OwnedMesh::with_points(&corners, &[[1, 2, 3, 0], [1, 3, 4, 0]])?;
+    /// let counts = plate.split(HalfEdge::side(1, 1))?;
+    /// assert_eq!(plate.rows(), [[1, 5, 3, 0], [1, 3, 4, 0], [5, 2, 3, 0]]);
+    /// assert_eq!((plate.n(), counts.borders, counts.edges), (5, 5, 7));
+    ///
+    /// plate.split(HalfEdge::side(1, 3))?;
+    /// assert_eq!(plate.rows(), [[6, 5, 3, 0], [1, 6, 4, 0], [5, 2, 3, 0], [1, 5, 6, 0], [6, 3, 4, 0]]);
+    /// assert_eq!(plate.points()[4..], [[4.0, 0.0, 0.0], [4.0, 4.0, 0.0]]);
+    ///
+    /// // A border half-edge is no side.
+    /// assert_eq!(plate.split(HalfEdge::border(1)), Err(Refusal::EdgeUnfit));
+    /// # Ok::<(), borzhanu::Refusal>(())
+    /// ```
+    pub fn split(&mut self, side: HalfEdge) -> Result<Counts, Refusal> {
+        self.tables.split(side, &mut self.points, &mut self.work)
     }
 }

@@ -70,7 +70,7 @@ pub enum Refusal {
         needed: u32,
     },
     /// 15: the half-edge named is a border half-edge, or the side named is a border side or has a quadrilateral on either
-    /// side. An edit gives it, after 11.
+    /// side. An edit gives it, after 11. A border side of a triangle can be split, though.
     EdgeUnfit,
     /// 18: two elements meet otherwise than at one corner or one edge, as two triangles back to back do, and two
     /// quadrilaterals with a diagonal in common. It comes after 8 and before 9.
@@ -80,6 +80,9 @@ pub enum Refusal {
         /// The higher one.
         second: u32,
     },
+    /// 19: the new n or m would be over 1,000,000, or a buffer other than B2e is too short for the new mesh. An edit that
+    /// makes the mesh larger gives it, after 15.
+    NoRoom,
 }
 
 impl Refusal {
@@ -105,6 +108,7 @@ impl Refusal {
             13 => Refusal::OutputShort { needed: first },
             15 => Refusal::EdgeUnfit,
             18 => Refusal::ElementsClash { first, second },
+            19 => Refusal::NoRoom,
             _ => panic!("libborzhanu.a gave refusal {number}, which this crate doesn't know"),
         }
     }
@@ -127,6 +131,7 @@ impl Refusal {
             Refusal::OutputShort { .. } => 13,
             Refusal::EdgeUnfit => 15,
             Refusal::ElementsClash { .. } => 18,
+            Refusal::NoRoom => 19,
         }
     }
 
@@ -143,7 +148,8 @@ impl Refusal {
             | Refusal::NoList
             | Refusal::NotThere
             | Refusal::TableBroken
-            | Refusal::EdgeUnfit => (0, 0),
+            | Refusal::EdgeUnfit
+            | Refusal::NoRoom => (0, 0),
         }
     }
 
@@ -165,8 +171,11 @@ impl Refusal {
             Refusal::NotThere => "the vertex, border or half-edge isn't there, or the question isn't defined for it",
             Refusal::TableBroken => "a table entry that was read names nothing, or a walk is overlong",
             Refusal::OutputShort { .. } => "the output is too short",
-            Refusal::EdgeUnfit => "the edge named is a border or has a quadrilateral beside it",
+            Refusal::EdgeUnfit => "the side or code named is a border or has a quadrilateral beside it",
             Refusal::ElementsClash { .. } => "two elements meet otherwise than at one corner or one edge",
+            Refusal::NoRoom => {
+                "n or m would be over 1,000,000, or a buffer other than B2e is too short for the new mesh"
+            }
         }
     }
 }
@@ -189,7 +198,8 @@ impl fmt::Display for Refusal {
             | Refusal::NoList
             | Refusal::NotThere
             | Refusal::TableBroken
-            | Refusal::EdgeUnfit => Ok(()),
+            | Refusal::EdgeUnfit
+            | Refusal::NoRoom => Ok(()),
         }
     }
 }
@@ -213,7 +223,7 @@ mod tests {
 
     #[test]
     fn header_and_readme_say_the_same() {
-        for number in (1..=13).chain([15, 18]) {
+        for number in (1..=13).chain([15, 18, 19]) {
             let text = Refusal::of(number, 0, 0).text();
             assert_eq!(text_in_header(number), Some(text));
             assert!(README.contains(&format!("| {number} | {text} |")), "README on refusal {number}");

@@ -1,6 +1,6 @@
 //! An element list with its tables, owned.
 
-use crate::{build, columns, swap, work_length};
+use crate::{build, columns, split, swap, work_length};
 use crate::{Counts, HalfEdge, Holes, Mesh, Refusal, Size, VertexKind, Walker};
 
 /// An element list and the tables that were built of it. Whatever is asked of them, the only refusal is
@@ -60,6 +60,36 @@ impl Tables {
         let elements = self.rows.as_flattened_mut();
         self.counts = swap(&mut size, elements, &mut self.v2e, &mut self.e2e, &mut self.b2e, work, side.code())?;
         Ok(self.counts)
+    }
+
+    /// Splits an edge: in list, tables and points, or, refused, in none of these. The buffers are made long enough for the
+    /// new mesh before, and cut to what they hold after.
+    pub(crate) fn split(
+        &mut self,
+        side: HalfEdge,
+        points: &mut Vec<[f64; 3]>,
+        work: &mut Vec<u32>,
+    ) -> Result<Counts, Refusal> {
+        let mut size = Size { n: self.n, m: self.rows.len() as u32 };
+        self.resize(Size { n: size.n + 1, m: size.m + 2 }, self.counts.borders + 1, points, work);
+        let (elements, numbers) = (self.rows.as_flattened_mut(), points.as_flattened_mut());
+        let (v2e, e2e, b2e) = (&mut self.v2e, &mut self.e2e, &mut self.b2e);
+        let answer = split(&mut size, elements, v2e, e2e, b2e, numbers, work, side.code());
+        self.counts = answer.unwrap_or(self.counts);
+        self.n = size.n;
+        self.resize(size, self.counts.borders, points, work);
+        answer
+    }
+
+    /// Each buffer in the length that it has for n vertices, m elements and k borders.
+    fn resize(&mut self, Size { n, m }: Size, k: u32, points: &mut Vec<[f64; 3]>, work: &mut Vec<u32>) {
+        let (vertices, m) = (n as usize, m as usize);
+        self.rows.resize(m, [0; 4]);
+        self.v2e.resize(vertices, 0);
+        self.e2e.resize(self.columns as usize * m, 0);
+        self.b2e.resize(k as usize, 0);
+        points.resize(vertices, [0.0; 3]);
+        work.resize(work_length(n, m), 0);
     }
 
     /// The element list.

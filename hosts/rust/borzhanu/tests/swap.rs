@@ -162,7 +162,7 @@ fn what_is_refused_leaves_the_mesh_as_it_was() {
 #[test]
 fn a_refusal_in_words() {
     assert_eq!((Refusal::EdgeUnfit.number(), Refusal::EdgeUnfit.place()), (15, (0, 0)));
-    assert_eq!(Refusal::EdgeUnfit.to_string(), "the edge named is a border or has a quadrilateral beside it");
+    assert_eq!(Refusal::EdgeUnfit.to_string(), "the side or code named is a border or has a quadrilateral beside it");
 }
 
 #[test]

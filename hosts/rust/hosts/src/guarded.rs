@@ -1,6 +1,7 @@
 //! Memory between two pages that fault when touched.
 
 use std::ffi::c_void;
+use std::mem;
 use std::ptr;
 use std::slice;
 
@@ -25,6 +26,12 @@ pub enum Placement {
 
 pub const PLACEMENTS: [Placement; 2] = [Placement::EndAtGuard, Placement::StartAtGuard];
 
+/// What buffers hold: every pattern of bits is one.
+pub trait Number: Copy {}
+
+impl Number for u32 {}
+impl Number for f64 {}
+
 pub struct Guarded {
     first: *mut u8,
     bytes: usize,
@@ -45,16 +52,16 @@ impl Guarded {
         }
     }
 
-    /// The contents, copied to one end of the memory.
-    pub fn hold(&mut self, contents: &[u32], placement: Placement) -> &mut [u32] {
-        let bytes = 4 * contents.len();
+    /// The contents, copied to one end of the memory, which is aligned for them.
+    pub fn hold<T: Number>(&mut self, contents: &[T], placement: Placement) -> &mut [T] {
+        let bytes = mem::size_of_val(contents);
         assert!(bytes <= self.bytes, "no room for {} entries", contents.len());
         let offset = match placement {
             Placement::EndAtGuard => self.bytes - bytes,
             Placement::StartAtGuard => 0,
         };
         // SAFETY: offset and length lie within the opened pages, which this value alone hands out.
-        let held = unsafe { slice::from_raw_parts_mut(self.first.add(offset) as *mut u32, contents.len()) };
+        let held = unsafe { slice::from_raw_parts_mut(self.first.add(offset) as *mut T, contents.len()) };
         held.copy_from_slice(contents);
         held
     }

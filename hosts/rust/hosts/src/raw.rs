@@ -1,6 +1,6 @@
 //! The archive's queries as include/borzhanu.h declares them, to be told any columns on buffers of any length. The
 //! wrapper's meshes have fit lengths and tell their own columns. And siblings, whose two numbers the wrapper drops, and
-//! swap, where it drops the places of refusals that have none.
+//! edits, where it drops the places of refusals that have none.
 
 use crate::reference::Refused;
 
@@ -74,6 +74,23 @@ extern "C" {
         e2e_len: usize,
         b2e: *mut u32,
         b2e_len: usize,
+        work: *mut u32,
+        work_len: usize,
+        code: u32,
+    ) -> u64;
+
+    pub fn borzhanu_split(
+        size: *mut u32,
+        elements: *mut u32,
+        elements_len: usize,
+        v2e: *mut u32,
+        v2e_len: usize,
+        e2e: *mut u32,
+        e2e_len: usize,
+        b2e: *mut u32,
+        b2e_len: usize,
+        points: *mut f64,
+        points_len: usize,
         work: *mut u32,
         work_len: usize,
         code: u32,

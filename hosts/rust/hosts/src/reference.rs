@@ -2,8 +2,11 @@
 //! a hash map keyed by their vertices, as in section 3.2 of T. J. Alumbaugh and X. Jiao, "Compact Array-Based Mesh Data
 //! Structures". Nothing is written in place: each function gives what a call would answer and write.
 
+pub mod edited;
 pub mod holes;
+mod midway;
 pub mod siblings;
+pub mod split;
 pub mod swap;
 
 use std::collections::HashMap;

@@ -2,10 +2,12 @@
 
 use borzhanu::{Mesh, Refusal, Size, VertexKind, WalkerRecord, MAX_ELEMENTS, MAX_VERTICES};
 use hosts::guarded::{Guarded, Placement};
-use hosts::raw::{borzhanu_siblings, borzhanu_swap, taken_apart};
+use hosts::raw::{borzhanu_siblings, borzhanu_split, borzhanu_swap, taken_apart};
+use hosts::reference::edited::{held, NewList};
 use hosts::reference::holes::{self, Holes};
 use hosts::reference::siblings::{self, Siblings};
-use hosts::reference::swap::{self, Swapped};
+use hosts::reference::split::{held_with_points, split, Split};
+use hosts::reference::swap::swap;
 use hosts::reference::{self, Built, Lengths, Refused, View};
 use hosts::told;
 use std::process;
@@ -35,6 +37,8 @@ pub struct Call<'a> {
     pub out: &'a [u32],
     /// The lengths of the holes.
     pub lengths: &'a [u32],
+    /// Three numbers for each vertex.
+    pub points: &'a [f64],
 }
 
 /// A call and its own numbers.
@@ -52,14 +56,18 @@ pub enum Question {
     /// asked as a query is
     Holes(Way),
     /// through the wrapper
-    Swap(Diagonal),
+    Swap(Edge),
     /// straight to the archive
-    RawSwap(Diagonal),
+    RawSwap(Edge),
+    /// through the wrapper
+    Split(Edge),
+    /// straight to the archive
+    RawSplit(Edge),
 }
 
-/// What a swap is told beside n and the buffers.
+/// What an edit is told beside n and the buffers.
 #[derive(Clone, Copy, Debug)]
-pub struct Diagonal {
+pub struct Edge {
     pub m: u32,
     pub code: u32,
 }
@@ -117,6 +125,9 @@ pub struct Left {
     pub out: Option<Vec<u32>>,
     pub lengths: Option<Vec<u32>>,
     pub record: Option<WalkerRecord>,
+    pub size: Option<Size>,
+    /// It stands after those of the vertices that there were.
+    pub point: Option<[f64; 3]>,
     pub work_cleared: bool,
 }
 
@@ -153,6 +164,7 @@ pub fn fail(what: &str) -> ! {
     for (name, buffer) in ["elements", "v2e", "e2e", "b2e", "work", "out", "lengths"].iter().zip(buffers) {
         println!("  {name}, {}", shown(buffer));
     }
+    println!("  points, {} numbers: {:?}", call.points.len(), &call.points[..call.points.len().min(30)]);
     process::exit(1)
 }
 
@@ -268,10 +280,18 @@ impl Call<'_> {
         Outcome { answer, left: Left { work_cleared: true, ..left } }
     }
 
-    fn expected_swap(&self, Diagonal { m, code }: Diagonal) -> Outcome {
-        let work_cleared = swap::held(self.n, m, self.elements, self.lengths()).is_ok();
-        match swap::swap(self.n, m, self.elements, self.lengths(), code) {
-            Ok(Swapped { list, tables }) => swaps(list, tables),
+    fn expected_swap(&self, Edge { m, code }: Edge) -> Outcome {
+        let work_cleared = held(self.n, m, self.elements, self.lengths()).is_ok();
+        match swap(self.n, m, self.elements, self.lengths(), code) {
+            Ok(new) => edits(new, self.n, None),
+            Err(refused) => Outcome { answer: Err(refused), left: Left { work_cleared, ..Left::default() } },
+        }
+    }
+
+    fn expected_split(&self, Edge { m, code }: Edge) -> Outcome {
+        let work_cleared = held_with_points(self.n, m, self.elements, self.lengths(), self.points).is_ok();
+        match split(self.n, m, self.elements, self.lengths(), self.points, code) {
+            Ok(Split { new, point }) => edits(new, self.n + 1, Some(point)),
             Err(refused) => Outcome { answer: Err(refused), left: Left { work_cleared, ..Left::default() } },
         }
     }
@@ -284,25 +304,29 @@ impl Call<'_> {
             Question::Siblings | Question::RawSiblings => self.expected_siblings(),
             Question::Query(way, query) => self.expected_query(way.told(), query),
             Question::Holes(way) => self.expected_holes(way.told()),
-            Question::Swap(diagonal) | Question::RawSwap(diagonal) => self.expected_swap(diagonal),
+            Question::Swap(edge) | Question::RawSwap(edge) => self.expected_swap(edge),
+            Question::Split(edge) | Question::RawSplit(edge) => self.expected_split(edge),
         }
     }
 
-    /// n and m, which a swap is lent.
+    /// n and m, which an edit is lent.
     fn size(&self) -> [u32; 2] {
         match self.what {
-            Question::Swap(diagonal) | Question::RawSwap(diagonal) => [self.n, diagonal.m],
+            Question::Swap(edge) | Question::RawSwap(edge) | Question::Split(edge) | Question::RawSplit(edge) => {
+                [self.n, edge.m]
+            }
             _ => [0, 0],
         }
     }
 }
 
-/// A swap that answers and leaves this.
-pub fn swaps(list: Vec<u32>, tables: Built) -> Outcome {
-    let Built { v2e, e2e, b2e, edges } = tables;
+/// An edit that answers and leaves this list on n vertices, and a new point if it places one.
+pub fn edits(new: NewList, n: u32, point: Option<[f64; 3]>) -> Outcome {
+    let NewList { list, tables: Built { v2e, e2e, b2e, edges } } = new;
     let answer = Ok((b2e.len() as u32, edges));
+    let size = Some(Size { n, m: list.len() as u32 / 4 });
     let (elements, v2e, e2e, b2e) = (Some(list), Some(v2e), Some(e2e), Some(b2e));
-    Outcome { answer, left: Left { elements, v2e, e2e, b2e, work_cleared: true, ..Left::default() } }
+    Outcome { answer, left: Left { elements, v2e, e2e, b2e, size, point, work_cleared: true, ..Left::default() } }
 }
 
 fn refuses(refused: Refused) -> Outcome {
@@ -342,6 +366,7 @@ pub struct Memory {
     lengths: Guarded,
     record: Guarded,
     size: Guarded,
+    points: Guarded,
 }
 
 /// The buffers of one call, within guarded memory.
@@ -355,6 +380,7 @@ pub struct Held<'a> {
     lengths: &'a mut [u32],
     record: &'a mut [u32],
     size: &'a mut [u32],
+    points: &'a mut [f64],
 }
 
 impl Memory {
@@ -370,6 +396,7 @@ impl Memory {
             lengths: Guarded::new(4 * m),
             record: Guarded::new(3),
             size: Guarded::new(2),
+            points: Guarded::new(2 * 3 * n),
         }
     }
 
@@ -388,6 +415,7 @@ impl Memory {
             lengths: self.lengths.hold(call.lengths, placement),
             record: self.record.hold(&[record.start, record.next, record.count], placement),
             size: self.size.hold(&call.size(), placement),
+            points: self.points.hold(call.points, placement),
         }
     }
 }
@@ -415,8 +443,10 @@ impl Held<'_> {
             Question::Query(Way::Told(columns), query) => taken_apart(self.ask_told(call, columns, query)),
             Question::Holes(Way::Wrapper) => self.ask_wrapper_holes(call).map_err(refused),
             Question::Holes(Way::Told(columns)) => taken_apart(self.ask_told_holes(call, columns)),
-            Question::Swap(diagonal) => self.ask_swap(diagonal.code).map_err(refused),
-            Question::RawSwap(diagonal) => taken_apart(self.ask_raw_swap(diagonal.code)),
+            Question::Swap(edge) => self.ask_swap(edge.code).map_err(refused),
+            Question::RawSwap(edge) => taken_apart(self.ask_raw_swap(edge.code)),
+            Question::Split(edge) => self.ask_split(edge.code).map_err(refused),
+            Question::RawSplit(edge) => taken_apart(self.ask_raw_split(edge.code)),
         }
     }
 
@@ -457,6 +487,35 @@ impl Held<'_> {
                 self.e2e.len(),
                 self.b2e.as_mut_ptr(),
                 self.b2e.len(),
+                self.work.as_mut_ptr(),
+                self.work.len(),
+                code,
+            )
+        }
+    }
+
+    fn ask_split(&mut self, code: u32) -> Result<(u32, u32), Refusal> {
+        // SAFETY: the memory holds the two numbers of the size, and nothing else refers to it meanwhile.
+        let size = unsafe { &mut *(self.size.as_mut_ptr() as *mut Size) };
+        borzhanu::split(size, self.elements, self.v2e, self.e2e, self.b2e, self.points, self.work, code)
+            .map(|counts| (counts.borders, counts.edges))
+    }
+
+    fn ask_raw_split(&mut self, code: u32) -> u64 {
+        // SAFETY: each pointer has its slice's own length, and the kernel stays within these.
+        unsafe {
+            borzhanu_split(
+                self.size.as_mut_ptr(),
+                self.elements.as_mut_ptr(),
+                self.elements.len(),
+                self.v2e.as_mut_ptr(),
+                self.v2e.len(),
+                self.e2e.as_mut_ptr(),
+                self.e2e.len(),
+                self.b2e.as_mut_ptr(),
+                self.b2e.len(),
+                self.points.as_mut_ptr(),
+                self.points.len(),
                 self.work.as_mut_ptr(),
                 self.work.len(),
                 code,
@@ -515,8 +574,8 @@ impl Held<'_> {
         check_buffer("b2e", self.b2e, call.b2e, &want.b2e);
         check_buffer("out", self.out, call.out, &want.out);
         check_buffer("lengths", self.lengths, call.lengths, &want.lengths);
-        // No swap changes the size.
-        check_buffer("size", self.size, &call.size(), &None);
+        check_buffer("size", self.size, &call.size(), &want.size.map(|size| vec![size.n, size.m]));
+        check_points(self.points, call, want.point);
         if !want.work_cleared {
             check_buffer("work", self.work, call.work, &None);
         } else if self.work.iter().any(|&entry| entry != 0) {
@@ -573,4 +632,23 @@ fn check_buffer(name: &str, left: &[u32], before: &[u32], written: &Option<Vec<u
         let at = (written.len()..left.len()).find(|&at| left[at] != before[at]).unwrap_or(0);
         fail(&format!("{name} entry {at} isn't as it was: {}, now {}", before[at], left[at]));
     }
+}
+
+/// All points are as they were, bit by bit, but for a new one. Where a number of that is to be none, it may be any such.
+fn check_points(left: &[f64], call: &Call, point: Option<[f64; 3]>) {
+    let first = 3 * call.n as usize;
+    let new = |at: usize| point.and_then(|point| point.get(at.wrapping_sub(first)).copied());
+    for (at, (left, before)) in left.iter().zip(call.points).enumerate() {
+        match new(at) {
+            Some(expected) if same_number(*left, expected) => {}
+            Some(expected) => fail(&format!("points number {at}: expected {expected:e}, got {left:e}")),
+            None if left.to_bits() == before.to_bits() => {}
+            None => fail(&format!("points number {at} isn't as it was: {before:e}, now {left:e}")),
+        }
+    }
+}
+
+/// The same bits, or both no number.
+pub fn same_number(a: f64, b: f64) -> bool {
+    a.to_bits() == b.to_bits() || a.is_nan() && b.is_nan()
 }

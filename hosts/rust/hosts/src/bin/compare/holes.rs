@@ -86,6 +86,7 @@ fn call<'a>(tables: &'a Tables, way: Way, room: Room, noise: &'a [u32], as_it_is
         work: &noise[..work],
         out: &noise[5..5 + hole],
         lengths: &noise[..lengths],
+        points: &[],
     }
 }
 

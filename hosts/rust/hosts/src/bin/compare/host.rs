@@ -80,6 +80,7 @@ impl Tables {
             work: &[],
             out,
             lengths: &[],
+            points: &[],
         }
     }
 }
@@ -141,6 +142,7 @@ impl Host {
             work: &[],
             out: &[],
             lengths: &[],
+            points: &[],
         });
     }
 
@@ -163,6 +165,7 @@ impl Host {
             work: &noise[..work_length(list.n, m) + work_extra],
             out: &[],
             lengths: &[],
+            points: &[],
         };
         let want = known.unwrap_or_else(|| call.expected());
         self.check(&call, &want);
@@ -183,6 +186,7 @@ impl Host {
             work: &noise[..work_length(n, m as usize) + work_extra],
             out: &[],
             lengths: &[],
+            points: &[],
         });
         self.noise = noise;
         want

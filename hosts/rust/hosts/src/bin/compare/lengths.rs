@@ -1,6 +1,6 @@
 //! Buffers longer and shorter than they should be, and sizes at their maxima and past them.
 
-use crate::call::{Call, Diagonal, Query, Question};
+use crate::call::{Call, Edge, Query, Question};
 use crate::host::Host;
 use borzhanu::{work_length, WalkerRecord, MAX_ELEMENTS, MAX_VERTICES};
 use hosts::meshes::List;
@@ -27,7 +27,7 @@ const QUERIES: [Query; 15] = [
     Query::Step(AT_END),
 ];
 
-/// Each call in turn, a query told any columns, recovery and a swap any number of elements, mostly m.
+/// Each call in turn, a query told any columns, recovery and edits any number of elements, mostly m.
 fn any_questions(host: &mut Host, m: u32) -> Vec<Question> {
     let counts = [m, m, m, m, m + 1, m - 1, MAX_ELEMENTS + 1, u32::MAX];
     let count = counts[host.dice.below(8) as usize];
@@ -35,8 +35,8 @@ fn any_questions(host: &mut Host, m: u32) -> Vec<Question> {
     questions.extend([Question::Siblings, Question::RawSiblings]);
     questions.extend(QUERIES.map(|query| Question::Query(host.any_way(), query)));
     questions.push(Question::Holes(host.any_way()));
-    let diagonal = Diagonal { m: count, code: 9 };
-    questions.extend([Question::Swap(diagonal), Question::RawSwap(diagonal)]);
+    let edge = Edge { m: count, code: 9 };
+    questions.extend([Question::Swap(edge), Question::RawSwap(edge), Question::Split(edge), Question::RawSplit(edge)]);
     questions
 }
 
@@ -66,7 +66,8 @@ pub fn lengths(host: &mut Host) {
                     lens[b] = lens[b].saturating_add_signed(second);
                     let [v2e, e2e, b2e, work] = [lens[1], lens[2], lens[3], lens[4]].map(|len| &small[..len]);
                     let (elements, out, lengths) = (&rows[..lens[0]], &small[..9], &small[9..18]);
-                    host.compare(&Call { what, n, elements, v2e, e2e, b2e, work, out, lengths });
+                    let points = &[7.0; 60][..(3 * vertices + host.dice.below(5)).saturating_sub(1) as usize];
+                    host.compare(&Call { what, n, elements, v2e, e2e, b2e, work, out, lengths, points });
                 }
             }
         }
@@ -85,7 +86,7 @@ pub fn lengths_about(host: &mut Host, list: &List) {
         buffers[at].resize(fit[at].len().saturating_add_signed(change), 7);
         let [elements, v2e, e2e, b2e, work] = &buffers;
         for what in [Question::Build, Question::Recover(m as u32), Question::Siblings] {
-            host.compare(&Call { what, n, elements, v2e, e2e, b2e, work, out: &[], lengths: &[] });
+            host.compare(&Call { what, n, elements, v2e, e2e, b2e, work, out: &[], lengths: &[], points: &[] });
         }
     }
 }
@@ -95,7 +96,7 @@ struct Sizes {
     n: u32,
     /// of the element list
     rows: u32,
-    /// that recovery and a swap are told
+    /// that recovery and edits are told
     m: u32,
     e2e_len: u32,
 }
@@ -106,13 +107,25 @@ fn compare_sizes(host: &mut Host, elements: &[u32], sizes: Sizes) {
     let noise = mem::take(&mut host.noise);
     let ring = Question::Query(host.any_way(), Query::Ring(1));
     let holes = Question::Holes(host.any_way());
-    let swap = Question::RawSwap(Diagonal { m, code: 9 });
-    for what in [Question::Build, Question::Recover(m), Question::Columns, Question::Siblings, ring, holes, swap] {
+    let edge = Edge { m, code: 9 };
+    let points = vec![7.0; 3 * n as usize];
+    for what in [
+        Question::Build,
+        Question::Recover(m),
+        Question::Columns,
+        Question::Siblings,
+        ring,
+        holes,
+        Question::RawSwap(edge),
+        Question::RawSplit(edge),
+    ] {
         let work_len = match what {
             Question::Build | Question::Siblings | Question::Holes(_) if n <= MAX_VERTICES && rows <= MAX_ELEMENTS => {
                 work_length(n, rows as usize)
             }
-            Question::Recover(m) | Question::RawSwap(Diagonal { m, .. }) if n <= MAX_VERTICES && m <= MAX_ELEMENTS => {
+            Question::Recover(m) | Question::RawSwap(Edge { m, .. }) | Question::RawSplit(Edge { m, .. })
+                if n <= MAX_VERTICES && m <= MAX_ELEMENTS =>
+            {
                 work_length(n, m as usize)
             }
             _ => 9,
@@ -127,6 +140,7 @@ fn compare_sizes(host: &mut Host, elements: &[u32], sizes: Sizes) {
             work: &noise[..work_len],
             out: &noise[..9],
             lengths: &noise[9..18],
+            points: &points,
         });
     }
     host.noise = noise;

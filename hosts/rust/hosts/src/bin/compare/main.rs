@@ -7,10 +7,13 @@
 
 mod call;
 mod clashes;
+mod edits;
 mod holes;
 mod host;
 mod lengths;
+mod numbers;
 mod siblings;
+mod splits;
 mod swaps;
 
 use borzhanu::{MAX_ELEMENTS, MAX_VERTICES};
@@ -21,6 +24,7 @@ use host::{Host, Tables};
 use hosts::meshes::{any_housing, book, damage, fan, pillow, sheet, Kinds, List};
 use lengths::{about_the_largest, lengths};
 use siblings::{large_siblings, siblings};
+use splits::{large_splits, split_edges};
 use std::env;
 use std::mem;
 use std::time::Instant;
@@ -234,6 +238,7 @@ fn largest(host: &mut Host) {
     large_siblings(host);
     large_holes(host);
     large_swaps(host);
+    large_splits(host);
     mostly_unused(host);
     about_the_largest(host);
 }
@@ -243,7 +248,7 @@ fn main() {
     let start = Instant::now();
     let mut host = Host::new(seed);
     println!("seed {seed}");
-    let families: [Family; 15] = [
+    let families: [Family; 16] = [
         ("lists of one row", one_row),
         ("lists of two rows", two_rows),
         ("unused vertices", unused_vertices),
@@ -255,6 +260,7 @@ fn main() {
         ("edges of many plates", siblings),
         ("holes", holes),
         ("swapped diagonals", swap_diagonals),
+        ("split edges", split_edges),
         ("small housings", small_housings),
         ("housings", housings),
         ("large housings", large_housings),

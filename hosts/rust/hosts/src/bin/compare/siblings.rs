@@ -61,6 +61,7 @@ pub fn compare_siblings(host: &mut Host, list: &List) -> Outcome {
         work: &noise[..work_length(list.n, m) + work_extra],
         out: &[],
         lengths: &[],
+        points: &[],
     });
     let want = calls[0].expected();
     for call in &calls[..if m > LARGE { 1 } else { 2 }] {

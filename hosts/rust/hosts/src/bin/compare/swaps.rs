@@ -1,14 +1,17 @@
 //! Swaps of diagonals: some whose outcome was worked out by hand, every code of small housings, long runs in which each
 //! swap is given what the one before left, and sizes and lengths about what they must be.
 
-use crate::call::{refused, swaps, Call, Diagonal, Left, Outcome, Question};
+use crate::call::{edits, Call, Edge, Left, Outcome, Question};
+use crate::edits::{
+    any_triangulated, assert_sound, borders, buffers, codes_about, compare_edit, numbers, refused_late,
+};
+use crate::edits::{REFUSED, SOME_CODES};
 use crate::host::Host;
-use borzhanu::{border, side, swap, work_length, Counts, HalfEdge, OwnedMesh, Refusal, Size};
+use borzhanu::{border, side, swap, work_length, HalfEdge, OwnedMesh, Size};
 use borzhanu::{MAX_ELEMENTS, MAX_VERTICES};
-use hosts::meshes::{any_housing, housing_of, sheet, Dice, Kinds, List};
-use hosts::reference::swap::Edited;
-use hosts::reference::{self, columns_of, Built, Refused};
-use std::mem;
+use hosts::meshes::{any_housing, sheet, Dice, Kinds, List};
+use hosts::reference::edited::{Edited, NewList};
+use hosts::reference::{self, columns_of, Refused};
 
 /// n, a list, a code, and the new rows or why there are none.
 type Known = (u32, &'static [[u32; 4]], u32, Result<&'static [[u32; 4]], Refused>);
@@ -75,18 +78,6 @@ const KNOWN: [Known; 40] = [
     (5, &[[3, 2, 4, 5], [2, 1, 4, 0], [1, 2, 3, 0]], 25, Err((18, 1, 2))),
 ];
 
-/// Lists that building refuses. No swap of them is tried.
-const REFUSED: [(u32, &[[u32; 4]], Refused); 8] = [
-    (3, &LISTING, (3, 2, 3)),
-    (4, &[[1, 2, 3, 0], [1, 0, 4, 0]], (3, 2, 2)),
-    (4, &[[1, 2, 3, 0], [1, 3, 4, 1]], (4, 2, 4)),
-    (5, &[[1, 2, 3, 0], [2, 1, 4, 0], [1, 2, 5, 0]], (6, 1, 1)),
-    (4, &[[1, 2, 3, 0], [1, 2, 4, 0]], (7, 1, 1)),
-    (7, &[[1, 2, 3, 0], [1, 3, 4, 0], [1, 5, 6, 0]], (8, 1, 0)),
-    (3, &[[1, 2, 3, 0], [1, 3, 2, 0]], (18, 1, 2)),
-    (5, &[[4, 3, 5, 0], [1, 2, 3, 4], [3, 2, 1, 0]], (18, 2, 3)),
-];
-
 /// How many entries list, V2e, E2e, B2e and work buffer have beyond what they need.
 type Room = [isize; 5];
 
@@ -132,7 +123,7 @@ struct Subject<'a> {
     k: u32,
 }
 
-/// A swap with so much room, through the wrapper and straight. The list is followed by noise, and the tables are noise.
+/// A swap with so much room.
 fn compare_to(
     host: &mut Host,
     Subject { n, list, k }: Subject,
@@ -140,45 +131,17 @@ fn compare_to(
     room: Room,
     expected: impl FnOnce(&Call) -> Outcome,
 ) -> Outcome {
-    let noise = mem::take(&mut host.noise);
     let m = list.len() / 4;
     let needed = [list.len(), n as usize, columns_of(list) as usize * m, k as usize, work_length(n, m)];
     let lens = [0, 1, 2, 3, 4].map(|at| needed[at].saturating_add_signed(room[at]));
-    let elements: Vec<u32> = list.iter().chain(&noise).copied().take(lens[0]).collect();
-    let diagonal = Diagonal { m: m as u32, code };
-    let calls = [Question::Swap(diagonal), Question::RawSwap(diagonal)].map(|what| Call {
-        what,
-        n,
-        elements: &elements,
-        v2e: &noise[1..1 + lens[1]],
-        e2e: &noise[2..2 + lens[2]],
-        b2e: &noise[3..3 + lens[3]],
-        work: &noise[..lens[4]],
-        out: &[],
-        lengths: &[],
-    });
-    let want = expected(&calls[0]);
-    for call in &calls {
-        host.check(call, &want);
-    }
-    host.noise = noise;
-    want
+    let edge = Edge { m: m as u32, code };
+    compare_edit(host, [Question::Swap(edge), Question::RawSwap(edge)], n, list, lens, &[], expected)
 }
 
 /// The same to what the reference expects.
 fn compare_swap(host: &mut Host, list: &List, code: u32, room: Room) -> Outcome {
     let subject = Subject { n: list.n, list: list.entries(), k: borders(list) };
     compare_to(host, subject, code, room, |call| call.expected())
-}
-
-/// A refusal after checks 1 and 2.
-fn refused_late(refused: Refused) -> Outcome {
-    Outcome { answer: Err(refused), left: Left { work_cleared: true, ..Left::default() } }
-}
-
-/// k of a list; 0 where it has none, since building refuses it before 18.
-fn borders(list: &List) -> u32 {
-    reference::tables_by_pairing(list.n, list.entries()).map_or(0, |built| built.b2e.len() as u32)
 }
 
 fn any_room(dice: &mut Dice) -> Room {
@@ -201,7 +164,7 @@ fn known(host: &mut Host) {
     }
     for (n, rows, refused) in REFUSED {
         let list = List::new(n, rows);
-        for code in [0, 8, 9, 11, 12, 16, 17, 18, 25, 33, 80, u32::MAX] {
+        for code in SOME_CODES {
             let want = compare_swap(host, &list, code, ENOUGH);
             assert_eq!(want.answer, Err(refused), "the reference, on {rows:?}");
             let room = any_room(&mut host.dice);
@@ -221,21 +184,8 @@ fn compare_owned(host: &mut Host, list: &List, code: u32, want: &Outcome) {
     assert_sound(&mesh);
 }
 
-fn numbers(answer: Result<Counts, Refusal>) -> Result<(u32, u32), Refused> {
-    answer.map(|counts| (counts.borders, counts.edges)).map_err(refused)
-}
-
-/// The mesh is the one that is built of its list.
-fn assert_sound(mesh: &OwnedMesh) {
-    assert_eq!(OwnedMesh::build(mesh.n(), mesh.rows()).as_ref(), Ok(mesh), "the owned mesh isn't that of its list");
-}
-
-/// Every code of a housing, and some beyond: as large as codes can be, and those that are another's but for a high bit.
 fn every_code(host: &mut Host, list: &List) {
-    let last = 8 * (borders(list).max(list.rows.len() as u32) + 2);
-    let largest = [border(MAX_VERTICES), side(MAX_ELEMENTS, 3), u32::MAX - 7, u32::MAX];
-    let raised = (8..32).map(|bit| host.dice.below(last) | 1 << bit).collect::<Vec<u32>>();
-    for code in (0..last).chain(largest).chain(raised) {
+    for code in codes_about(&mut host.dice, list) {
         let want = compare_swap(host, list, code, ENOUGH);
         if host.dice.once_in(3) {
             let room = any_room(&mut host.dice);
@@ -248,17 +198,6 @@ fn every_code(host: &mut Host, list: &List) {
             compare_owned(host, list, code, &want);
         }
     }
-}
-
-/// A housing of triangles, sometimes of quadrilaterals too, closed or with rims, and sometimes with openings.
-fn any_triangulated(dice: &mut Dice, size: u32) -> List {
-    let kinds = if dice.once_in(3) { Kinds::Mixed } else { Kinds::Triangles };
-    let mut list = housing_of(kinds, dice, size);
-    if dice.once_in(3) {
-        list = list.with_openings(2 + dice.below(9), dice);
-    }
-    let (after, unused) = (dice.below(list.n + 1), dice.below(3));
-    list.with_unused(after, unused).put_down_anyhow(dice)
 }
 
 /// Past what a buffer holds.
@@ -290,7 +229,7 @@ impl Run {
         let before = self.edited.list().to_vec();
         let answer = self.edited.swap(code);
         let want = match answer {
-            Ok(()) => swaps(self.edited.list().to_vec(), self.tables_of_copy()),
+            Ok(()) => edits(self.built_of_copy(), self.size.n, None),
             Err(refused) => refused_late(refused),
         };
         let room = OTHER_ROOM[host.dice.below(LONGER) as usize];
@@ -302,10 +241,10 @@ impl Run {
     }
 
     /// What the reference builds of a copy of the list; the map must have led to the same.
-    fn tables_of_copy(&self) -> Built {
-        let built = reference::tables(self.size.n, self.edited.list()).expect("the reference swapped");
-        assert_eq!(built, self.edited.tables(), "the reference's map, in a run of swaps");
-        built
+    fn built_of_copy(&self) -> NewList {
+        let tables = reference::tables(self.size.n, self.edited.list()).expect("the reference swapped");
+        assert_eq!(tables, self.edited.tables(), "the reference's map, in a run of swaps");
+        NewList { list: self.edited.list().to_vec(), tables }
     }
 
     fn swap_owned_and_lent(&mut self, code: u32, want: &Outcome) {
@@ -351,12 +290,6 @@ impl Run {
         assert_eq!(self.swap(host, code), Ok(()), "the new diagonal, code {code}");
         assert_eq!([self.row(f), self.row(g)], [[a, d, b, 0], [b, c, a, 0]], "the new diagonal, code {code}");
     }
-}
-
-/// The list and the tables of a mesh.
-fn buffers(mesh: &OwnedMesh) -> [&[u32]; 4] {
-    let mesh = mesh.mesh();
-    [mesh.elements(), mesh.v2e(), mesh.e2e(), mesh.b2e()]
 }
 
 /// So many swaps, each on what the one before left; where one answers, sometimes the new diagonal as well.
@@ -426,5 +359,6 @@ fn most_triangles(host: &mut Host) {
         compare_to(host, subject, side(last, 1), short, |_| Outcome { answer: Err((2, 0, 0)), left: Left::default() });
     }
     assert_eq!(edited.swap(side(last, 1)), Ok(()), "the reference, on {last} triangles");
-    compare_to(host, subject, side(last, 1), ENOUGH, |_| swaps(edited.list().to_vec(), edited.tables()));
+    let new = NewList { list: edited.list().to_vec(), tables: edited.tables() };
+    compare_to(host, subject, side(last, 1), ENOUGH, |_| edits(new, n, None));
 }

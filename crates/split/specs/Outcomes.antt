@@ -1,0 +1,128 @@
+-- What follows checks 1 and 2: the old list was tried in the work buffer, which has become W.
+-- Assumes nothing.
+use mathlib.Core.Path.{_≡_, refl, ap, sym, _∙_}
+use mathlib.Core.Bool.{Bool, true, false}
+use mathlib.Core.List.{List, []}
+use Prim.Native.Nat.{ℕ, _+_, _*_}
+use lib.Dec.{leb}
+use lib.Ieee.{Float}
+use lib.ListN.{length, take}
+use Rattle.lists.specs.Tests.{both}
+use Rattle.rules.specs.Elements.{elements}
+use Rattle.rules.specs.Tables.{columns}
+use Rattle.rules.specs.Refusals.{Answer, gives, refused, after}
+use Rattle.rules.specs.Edits.{becomes, refuses, Lent, withWork, onceAccepted, newAnswer, isThere, countsFit, held, hasRoom, written}
+use Rattle.rules.specs.Split.{isSplittable, hasPoints, canHold, split, placed}
+use Rattle.theory.specs.Answers.{gives-refused, given-accepted}
+use Rattle.theory.specs.SplitTests.{vertex, new}
+use Rattle.build.specs.Building.{Scratched}
+use Rattle.edits.specs.Leaving.{after-refusal, after-answer, rest, refused-left, old-refused, new-tried}
+use Rattle.edits.specs.Trying.{number, tabled}
+use Rattle.edits.specs.Fronts.{Ready, checked-front}
+use Rattle.split.specs.Stages.{Admissible, ToWrite, Admitted, denied, allowed, Written, Outcome}
+
+-- of the work buffer, the edit reads the length only
+module _ (w : Lent) (P : List Float) (s : ℕ) (W : List ℕ) (long : length W ≡ length (w .work)) where
+  can-hold-alike : (n : ℕ) (L : List ℕ) → canHold (withWork w W) P n L ≡ canHold w P n L
+  unfolding canHold hasRoom
+  can-hold-alike n L =
+      let m = elements L in
+      ap
+      (λ (k : ℕ).
+      both (countsFit n m)
+      (both (hasPoints n P)
+      (both (leb (4 * m) (length (w .list)))
+      (both (leb n (length (w .vertices))) (both (leb (columns (held w) * m) (length (w .opposites))) (leb (n + 16 * m) k))))))
+      long
+
+  pub split-alike : split (withWork w W) P s ≡ split w P s
+  unfolding split
+  split-alike =
+      ap
+      (λ (b : Bool). elim (isThere (held w) s) [
+        | true ↦ elim (isSplittable (held w) s) [
+          | true ↦ elim b [ true ↦ becomes (vertex w) (new w s) | false ↦ refuses 19 ]
+          | false ↦ refuses 15
+        ]
+        | false ↦ refuses 11
+      ])
+      (can-hold-alike (vertex w) (new w s))
+
+-- the front of the list, to p, is what is held
+module _ (w : Lent) (P : List Float) (s : ℕ) {c : ℕ} (x : Ready w c) {p : ℕ} (rows : p ≡ 4 * w .m) {t : Answer} {W : List ℕ}
+    (tried : Scratched (w .n) (take p (w .list)) t (w .work) W) where
+  abbrev w₀ : Lent
+  w₀ = withWork w []
+
+  scratch : Scratched (w .n) (held w) t (w .work) W
+  scratch = rw rows at tried
+
+  -- a refusal leaves the points, too
+  points-stay : {a : Answer} {r i j : ℕ} → a ≡ refused r i j → P ≡ after a (placed w P s) P
+  points-stay e = sym (after-refusal (placed w P s) P e)
+
+  -- the old list is refused
+  pub old-denied : {r i j : ℕ} → t ≡ refused r i j → Outcome w P s t w₀ P × (length W ≡ length (w .work))
+  old-denied e = (
+    record {
+      left = old-refused (w .n) (held w) (split w P s) (length (w .border)) (scratch .stated) e;
+      points = points-stay e;
+    },
+    scratch .long,
+  )
+
+  -- or accepted
+  module _ {k e : ℕ} (counts : t ≡ gives k e) where
+    pub admissible : Admissible (w .n) (w .m) c k (w .list) W
+    admissible =
+        let y = checked-front w x in
+        record {
+          accepted = given-accepted (w .n) (held w) (y .sizes) (sym (scratch .stated) ∙ counts);
+          inside = x .long .list;
+          number = number y scratch counts;
+          tabled = tabled y scratch counts refl;
+          columned = x .long .columned;
+        }
+
+    abbrev w₁ : Lent
+    w₁ = withWork w W
+
+    same-edit : split w₁ P s ≡ split w P s
+    same-edit = split-alike w P s W (scratch .long)
+
+    -- what is said then is said of the edit
+    by-edit : rest w (hasPoints (w .n) P) (split w P s) ≡ newAnswer (length (w .border)) (split w P s)
+    unfolding onceAccepted
+    by-edit = ap (λ (y : Answer). onceAccepted y (newAnswer (length (w .border)) (split w P s))) (sym (scratch .stated) ∙ counts)
+
+    -- 11, 15, 19 or 9
+    pub new-denied : {a : Answer} {r i j : ℕ} → a ≡ refused r i j → Admitted w₁ P s a → Outcome w P s a w₀ P × (length W ≡ length (w .work))
+    new-denied f (denied d said) = (
+      record {
+        left = refused-left f (said ∙ ap (newAnswer (length (w .border))) same-edit ∙ sym by-edit);
+        points = points-stay f;
+      },
+      scratch .long,
+    )
+    new-denied f (allowed g y) = absurd (gives-refused (sym g ∙ f))
+
+    -- none of these
+    pub new-allowed : {a : Answer} {i j : ℕ} → a ≡ gives i j → Admitted w₁ P s a → ToWrite w₁ P s i j
+    new-allowed f (denied d said) = absurd (gives-refused (sym f ∙ d))
+    new-allowed {i = i} {j = j} f (allowed {t = u} {m′ = m′} g y) =
+        let h : gives i j ≡ gives u m′ = sym f ∙ g in
+        let first : i ≡ u = cc in
+        let second : j ≡ m′ = cc in rw (first, second) y
+
+    pub all-done : {i j : ℕ} → ToWrite w₁ P s i j → {a : Answer} {w′ : Lent} {P′ : List Float} → Written w₀ P s a w′ P′ → Outcome w P s a w′ P′
+    all-done y z =
+        let new-list = becomes (vertex w) (new w s) in
+        record {
+          left =
+              new-tried (w .n) (held w) (split w P s) (length (w .border)) (scratch .stated) counts (sym same-edit ∙ y .edit)
+              (record {
+                answer = z .stated;
+                leaves = z .leaves ∙ sym (after-answer (written w₀ new-list) w₀ (z .answer));
+              });
+          points = z .points ∙ sym (after-answer (placed w P s) P (z .answer));
+        }
