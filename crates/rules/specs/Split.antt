@@ -87,6 +87,7 @@ midpoint P a b =
 unfoldable pub withPoint : ℕ → List Float → List Float → List Float
 withPoint n p P = take (3 * n) P ++ (p ++ drop (3 * n + 3) P)
 
+-- the points once the new one is placed
 abbrev pub placed : Lent → List Float → ℕ → List Float
 placed w P s = withPoint (w .n) (midpoint P (origin (held w) s) (destination (held w) s)) P
 

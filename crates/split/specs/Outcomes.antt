@@ -1,52 +1,44 @@
 -- What follows checks 1 and 2: the old list was tried in the work buffer, which has become W.
 -- Assumes nothing.
 use mathlib.Core.Path.{_≡_, refl, ap, sym, _∙_}
-use mathlib.Core.Bool.{Bool, true, false}
+use mathlib.Core.Bool.{Bool}
 use mathlib.Core.List.{List, []}
-use Prim.Native.Nat.{ℕ, _+_, _*_}
-use lib.Dec.{leb}
+use Prim.Native.Nat.{ℕ, _*_}
 use lib.Ieee.{Float}
 use lib.ListN.{length, take}
-use Rattle.lists.specs.Tests.{both}
+use Rattle.lists.specs.TestLaws.{Test, pass, fail, test}
 use Rattle.rules.specs.Elements.{elements}
 use Rattle.rules.specs.Tables.{columns}
 use Rattle.rules.specs.Refusals.{Answer, gives, refused, after}
-use Rattle.rules.specs.Edits.{becomes, refuses, Lent, withWork, onceAccepted, newAnswer, isThere, countsFit, held, hasRoom, written}
+use Rattle.rules.specs.Edits.{becomes, Lent, withWork, onceAccepted, newAnswer, isThere, held, written}
 use Rattle.rules.specs.Split.{isSplittable, hasPoints, canHold, split, placed}
 use Rattle.theory.specs.Answers.{gives-refused, given-accepted}
-use Rattle.theory.specs.SplitTests.{vertex, new}
+use Rattle.theory.specs.SplitTests.{vertex, new, gone, unfit, full, splits}
 use Rattle.build.specs.Building.{Scratched}
 use Rattle.edits.specs.Leaving.{after-refusal, after-answer, rest, refused-left, old-refused, new-tried}
 use Rattle.edits.specs.Trying.{number, tabled}
 use Rattle.edits.specs.Fronts.{Ready, checked-front}
+use Rattle.split.specs.Testing.{holdsBy, can-hold-by}
 use Rattle.split.specs.Stages.{Admissible, ToWrite, Admitted, denied, allowed, Written, Outcome}
 
 -- of the work buffer, the edit reads the length only
 module _ (w : Lent) (P : List Float) (s : ℕ) (W : List ℕ) (long : length W ≡ length (w .work)) where
   can-hold-alike : (n : ℕ) (L : List ℕ) → canHold (withWork w W) P n L ≡ canHold w P n L
-  unfolding canHold hasRoom
   can-hold-alike n L =
-      let m = elements L in
-      ap
-      (λ (k : ℕ).
-      both (countsFit n m)
-      (both (hasPoints n P)
-      (both (leb (4 * m) (length (w .list)))
-      (both (leb n (length (w .vertices))) (both (leb (columns (held w) * m) (length (w .opposites))) (leb (n + 16 * m) k))))))
-      long
+      let test = holdsBy n (elements L) (columns (held w)) (length (w .list)) (length (w .vertices)) (length (w .opposites)) (length P) in
+      sym (can-hold-by (withWork w W) P n L refl refl) ∙ ap test long ∙ can-hold-by w P n L refl refl
 
-  pub split-alike : split (withWork w W) P s ≡ split w P s
-  unfolding split
-  split-alike =
-      ap
-      (λ (b : Bool). elim (isThere (held w) s) [
-        | true ↦ elim (isSplittable (held w) s) [
-          | true ↦ elim b [ true ↦ becomes (vertex w) (new w s) | false ↦ refuses 19 ]
-          | false ↦ refuses 15
-        ]
-        | false ↦ refuses 11
-      ])
-      (can-hold-alike (vertex w) (new w s))
+  split-alike : split (withWork w W) P s ≡ split w P s
+  split-alike = go (test (isThere (held w) s)) (test (isSplittable (held w) s)) (test (canHold w P (vertex w) (new w s)))
+    where
+      same : {b : Bool} → canHold w P (vertex w) (new w s) ≡ b → canHold (withWork w W) P (vertex w) (new w s) ≡ b
+      same e = can-hold-alike (vertex w) (new w s) ∙ e
+
+      go : Test (isThere (held w) s) → Test (isSplittable (held w) s) → Test (canHold w P (vertex w) (new w s)) → split (withWork w W) P s ≡ split w P s
+      go (fail t f) b c = gone (withWork w W) P s f ∙ sym (gone w P s f)
+      go (pass t f) (fail u g) c = unfit (withWork w W) P s f g ∙ sym (unfit w P s f g)
+      go (pass t f) (pass u g) (fail v h) = full (withWork w W) P s f g (same h) ∙ sym (full w P s f g h)
+      go (pass t f) (pass u g) (pass v h) = splits (withWork w W) P s f g (same h) ∙ sym (splits w P s f g h)
 
 -- the front of the list, to p, is what is held
 module _ (w : Lent) (P : List Float) (s : ℕ) {c : ℕ} (x : Ready w c) {p : ℕ} (rows : p ≡ 4 * w .m) {t : Answer} {W : List ℕ}
