@@ -10,6 +10,7 @@ ghost use Rattle.rules.specs.Elements.{maxVertex, maxElement, sides, Side, slot
 ghost use Rattle.rules.specs.Tables.{borders};
 ghost use Rattle.rules.specs.Tables.{wide as wideOf};
 ghost use Rattle.rules.specs.Edits.{countsFit, withRow, isThere};
+ghost use Rattle.rules.specs.Split.{isSplittable};
 ghost use Rattle.halfedge.specs.Rows.{rowOf};
 ghost use Rattle.answer.specs.Numbers.{numbers};
 ghost use Rattle.build.specs.Building.{Scratched};
@@ -123,6 +124,25 @@ pub fn entry_of(n: usize, list: &[u32], work: &[u32], s: u32) -> u32
     ensures { λ r. ⌜ r ≡ at (wideOf (now (list .entry))) (slot s) ⌝ }
 {
     work[n + slot_of(s)]
+}
+
+// Whether s is a side of a triangle, with a triangle or nothing across it, by the E2e of four columns that stands from n on in the work
+// buffer.
+pub fn is_splittable(n: usize, list: &[u32], work: &[u32], s: u32) -> bool
+    requires { ⌜ Tabled n (now list) (now work) ⌝ }
+    ensures { λ r. ⌜ r ≡ isSplittable (now (list .entry)) s ⌝ }
+{
+    if !is_side(list, s) {
+        return false;
+    }
+    if !is_triangle(list, element_of(s)) {
+        return false;
+    }
+    let t = entry_of(n, list, work, s);
+    if is_border(t) {
+        return true;
+    }
+    is_triangle(list, element_of(t))
 }
 
 // The row of element f is replaced.

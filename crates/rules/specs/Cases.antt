@@ -1,6 +1,6 @@
 -- Document 01, "Housings to hold up to the rules": "The cases marked P are gathered in a small table, and a single proof shows that the
--- rules above give all its rows". The rows that requests of document 02 bring stand at its end, those
--- of point 6, with floats in them, in a second table.
+-- rules above give all its rows". The rows that requests of document 02 bring stand at its end, those of points 6 and 8, with floats in them, in
+-- tables of their own.
 -- Assumes nothing.
 use mathlib.Core.Bool.{Bool, true, false}
 use mathlib.Core.Option.{Option, none, some}
@@ -26,9 +26,11 @@ use Rattle.rules.specs.Queries.{ring, neighbours, nextBorder, loopNext, 
 use Rattle.rules.specs.Queries.{ringAnswer, ringLeaves, neighboursAnswer, neighboursLeaves, borderLoopAnswer, borderLoopLeaves}
 use Rattle.rules.specs.Holes.{lists, broken, HoleBuffers, leastOf, holesUpTo, holeOf, holes, holeCount}
 use Rattle.rules.specs.Holes.{holeLengths, holesFound, holesFit, holesAnswer, holesLeaves}
-use Rattle.rules.specs.Edits.{Lent, overOld, withRow, onceAccepted, newAnswer, isThere, countsFit, hasRoom, editSizes, editLengths, editAnswer, written, editLeaves}
+use Rattle.rules.specs.Edits.{Edited, becomes, refuses, Lent, overOld, withRow, onceAccepted, newAnswer, isThere, countsFit, hasRoom, editSizes, editLengths, editAnswer, written, editLeaves}
 use Rattle.rules.specs.Swap.{third, flipped, swapped, isSwappable, swap, swapAnswer, swapLeaves}
 use Rattle.rules.specs.Split.{withCorner, halved, splitAt, isSplittable, hasPoints, canHold, split, splitAnswer, splitLeaves, midway, coordinate, midpoint, withPoint, splitPoints}
+use Rattle.rules.specs.Contract.{withoutRow, withoutBoth, withoutEdge, instead, renamed, merged, contracted, isNeighbour, isThird, pinches, isUsed, strands, contract}
+use Rattle.rules.specs.Contract.{contractAnswer, contractLeaves, pointOf, withoutPoint, contractPoints}
 
 -- an element's row, or a row of E2e, in three columns or in four; lists are rows joined by ++
 unfoldable pub three : ℕ → ℕ → ℕ → List ℕ
@@ -85,7 +87,11 @@ editRoom n m L v e b work =
       work = replicate work 1;
     }
 
--- so many numbers for points, the i-th of them i, and the bits of points
+-- numbers for points, so many of them, the i-th of them i, and the bits of points
+unfoldable pub wholes : List ℕ → List Float
+wholes [] = []
+wholes (i ∷ is) = ofInt binary64 (pos i) ∷ wholes is
+
 unfoldable pub counted : ℕ → List Float
 counted zero = []
 counted (suc k) = counted k ++ (ofInt binary64 (pos k) ∷ [])
@@ -135,6 +141,13 @@ pub data Case : Type 0 where
   splitRefused : ℕ → ℕ → List ℕ → ℕ → ℕ → ℕ → ℕ → ℕ → ℕ → Answer → List ℕ → Case
   -- the bits of two numbers, and of the one midway
   midwayIs : ℕ → ℕ → ℕ → Case
+  -- what contracting the side with this code makes of n and the list
+  contractMakes : ℕ → List ℕ → ℕ → Edited → Case
+  -- the side with this code contracted, with so many entries more than needed in each buffer: k, the edges, the list and the points, where number
+  -- i of the points was i; the tables are those that build leaves of the list
+  contractIs : ℕ → List ℕ → ℕ → ℕ → ℕ → ℕ → List ℕ → List ℕ → Case
+  -- as splitRefused
+  contractRefused : ℕ → ℕ → List ℕ → ℕ → ℕ → ℕ → ℕ → ℕ → ℕ → Answer → List ℕ → Case
 
 unfoldable pub sameAnswer : Answer → Answer → Bool
 sameAnswer (gives a b) (gives c d) = both (eqb a c) (eqb b d)
@@ -142,20 +155,27 @@ sameAnswer (gives a b) (refused r c d) = false
 sameAnswer (refused q a b) (gives c d) = false
 sameAnswer (refused q a b) (refused r c d) = both (eqb q r) (both (eqb a c) (eqb b d))
 
+unfoldable pub sameEdited : Edited → Edited → Bool
+sameEdited (becomes n L) (becomes m M) = both (eqb n m) (same L M)
+sameEdited (becomes n L) (refuses r) = false
+sameEdited (refuses q) (becomes m M) = false
+sameEdited (refuses q) (refuses r) = eqb q r
+
 -- the rules give this list: its count is returned, and it stands in an output of its length
 unfoldable pub gave : (List ℕ → Answer) → (List ℕ → List ℕ) → List ℕ → Bool
 gave answer leaves xs =
     let out = blank (length xs) in both (sameAnswer (answer out) (gives (length xs) 0)) (same (leaves out) xs)
 
--- after an answer of an edit: n, the list L and the tables that build leaves of it, with these entries after each, and a work buffer of zeros
-unfoldable pub heldIn : Lent → ℕ → List ℕ → List ℕ → ℕ → Bool
-heldIn w n L more work =
+-- after an answer of an edit of n₀ vertices and m₀ elements: n, the list L and the tables that build leaves of it, zeros as far as the old ones
+-- went, "but not in B2e", with these entries after each, and a work buffer of zeros
+unfoldable pub heldIn : Lent → ℕ → ℕ → ℕ → List ℕ → List ℕ → ℕ → Bool
+heldIn w n₀ m₀ n L more work =
     let built = left n L in
     both (eqb (w .n) n)
     (both (eqb (w .m) (elements L))
-    (both (same (w .list) (L ++ more))
-    (both (same (w .vertices) (built .vertices ++ more))
-    (both (same (w .opposites) (built .opposites ++ more))
+    (both (same (w .list) (L ++ (blank (4 * (m₀ - elements L)) ++ more)))
+    (both (same (w .vertices) (built .vertices ++ (blank (n₀ - n) ++ more)))
+    (both (same (w .opposites) (built .opposites ++ (blank (columns L * (m₀ - elements L)) ++ more)))
     (both (same (w .border) (built .border ++ more)) (same (w .work) (blank work)))))))
 
 -- after a refusal: all as in the other, but for the work
@@ -219,7 +239,7 @@ holds (swapIs n L s spare k e L′) =
     let m = elements L in
     let more : List ℕ = replicate spare 9 in
     let w = editRoom n m (L ++ more) (n + spare) (columns L * m + spare) (k + spare) (n + 16 * m + spare) in
-    both (sameAnswer (swapAnswer w s) (gives k e)) (heldIn (swapLeaves w s) n L′ more (length (w .work)))
+    both (sameAnswer (swapAnswer w s) (gives k e)) (heldIn (swapLeaves w s) n m n L′ more (length (w .work)))
 holds (swapRefused n m L v e b work s a work′) =
     let w = editRoom n m L v e b work in
     both (sameAnswer (swapAnswer w s) a) (sameLent (swapLeaves w s) w work′)
@@ -230,7 +250,7 @@ holds (splitIs n L s spare k e L′ p) =
     let w = editRoom n (elements L) list (n + 1 + spare) (columns L * m + spare) (k + spare) (n + 1 + 16 * m + spare) in
     let P = counted (3 * n + 3 + spare) in
     both (sameAnswer (splitAnswer w P s) (gives k e))
-    (both (heldIn (splitLeaves w P s) (n + 1) L′ more (length (w .work)))
+    (both (heldIn (splitLeaves w P s) n (elements L) (n + 1) L′ more (length (w .work)))
     (same (bits (splitPoints w P s)) (take (3 * n) (bits P) ++ (p ++ drop (3 * n + 3) (bits P)))))
 holds (splitRefused n m L v e b points work s a work′) =
     let w = editRoom n m L v e b work in
@@ -238,6 +258,19 @@ holds (splitRefused n m L v e b points work s a work′) =
     both (sameAnswer (splitAnswer w P s) a)
     (both (sameLent (splitLeaves w P s) w work′) (same (bits (splitPoints w P s)) (bits P)))
 holds (midwayIs x y z) = eqb (toBits binary64 (midway (ofBits binary64 x) (ofBits binary64 y))) z
+holds (contractMakes n L s x) = sameEdited (contract n L s) x
+holds (contractIs n L s spare k e L′ p) =
+    let m = elements L in
+    let more : List ℕ = replicate spare 9 in
+    let w = editRoom n m (L ++ more) (n + spare) (columns L * m + spare) (k + spare) (n + 16 * m + spare) in
+    let P = counted (3 * n + spare) in
+    both (sameAnswer (contractAnswer w P s) (gives k e))
+    (both (heldIn (contractLeaves w P s) n m (n - 1) L′ more (length (w .work))) (same (bits (contractPoints w P s)) (bits (wholes p))))
+holds (contractRefused n m L v e b points work s a work′) =
+    let w = editRoom n m L v e b work in
+    let P = counted points in
+    both (sameAnswer (contractAnswer w P s) a)
+    (both (sameLent (contractLeaves w P s) w work′) (same (bits (contractPoints w P s)) (bits P)))
 
 unfoldable pub every : (Case → Bool) → List Case → Bool
 every p [] = true
@@ -489,6 +522,56 @@ splits =
     midwayIs 0x7ff0_0000_0000_0000 0xfff0_0000_0000_0000 0x7ff8_0000_0000_0000 ∷
     []
 
+-- four triangles about vertex 5
+unfoldable pub wheel : List ℕ
+wheel = tri 1 2 5 ++ tri 2 3 5 ++ tri 3 4 5 ++ tri 4 1 5
+
+-- a band about the rims 1, 2, 3 and 4, 5, 6, in two triangles and two quadrilaterals
+unfoldable pub band : List ℕ
+band = tri 1 2 5 ++ tri 1 5 4 ++ quad 2 3 6 5 ++ quad 3 1 4 6
+
+-- those of point 8
+unfoldable pub contractions : List Case
+contractions =
+    -- document 02, point 8: "The one or two triangles on the edge go, the higher-numbered first; each time the last row takes the freed number.
+    -- Every b becomes a, then the last vertex takes number b": the wheel's side 1 to 2; 5 to 1, where a is the last vertex; and 1 to 5, where b is;
+    -- 3 to 5, with row 4 in the place of the two
+    contractMakes 5 wheel 9 (becomes 4 (tri 4 1 2 ++ tri 1 3 2 ++ tri 3 4 2)) ∷
+    contractMakes 5 wheel 11 (becomes 4 (tri 3 4 1 ++ tri 2 3 1)) ∷
+    contractMakes 5 wheel 34 (becomes 4 (tri 3 4 1 ++ tri 2 3 1)) ∷
+    contractMakes 5 wheel 18 (becomes 4 (tri 1 2 3 ++ tri 4 1 3)) ∷
+    -- the last row alone; beside a quadrilateral
+    contractMakes 4 listing 18 (becomes 3 (tri 1 2 3)) ∷
+    contractMakes 5 mixed 10 (becomes 4 (quad 1 2 4 3)) ∷
+    -- "quadrilaterals on the edge or a border code give 15", after 11
+    contractMakes 4 listing 0 (refuses 11) ∷
+    contractMakes 4 listing 40 (refuses 11) ∷
+    contractMakes 4 listing 32 (refuses 15) ∷
+    contractMakes 5 mixed 11 (refuses 15) ∷
+    contractMakes 5 mixed 18 (refuses 15) ∷
+    -- "20: a and b have a common neighbour that is not a third corner of those triangles", 3 by the rim; before 21, with a triangle 1 and 2 and 7
+    -- beyond the edge; a diagonal makes no neighbour
+    contractMakes 6 band 9 (refuses 20) ∷
+    contractMakes 7 (band ++ tri 2 1 7) 9 (refuses 20) ∷
+    contractMakes 5 (tri 1 2 3 ++ tri 1 3 4 ++ quad 3 2 5 4) 9 (becomes 4 (quad 3 1 2 4 ++ tri 1 3 4)) ∷
+    -- "21: a vertex that was used would be left unused": all, a third corner, and that of the partner; not one that was spare
+    contractMakes 3 (tri 1 2 3) 9 (refuses 21) ∷
+    contractMakes 4 listing 11 (refuses 21) ∷
+    contractMakes 5 (listing ++ tri 1 4 5) 11 (refuses 21) ∷
+    contractMakes 5 listing 18 (becomes 4 (tri 1 2 3)) ∷
+    -- the whole call: "Entries between the new and the old length become 0, but not in B2e", and of the points
+    contractIs 5 wheel 9 1 3 6 (tri 4 1 2 ++ tri 1 3 2 ++ tri 3 4 2) (0 ∷ 1 ∷ 2 ∷ 12 ∷ 13 ∷ 14 ∷ 6 ∷ 7 ∷ 8 ∷ 9 ∷ 10 ∷ 11 ∷ 0 ∷ 0 ∷ 0 ∷ 15 ∷ []) ∷
+    contractIs 4 listing 18 2 3 3 (tri 1 2 3) (0 ∷ 1 ∷ 2 ∷ 3 ∷ 4 ∷ 5 ∷ 6 ∷ 7 ∷ 8 ∷ 0 ∷ 0 ∷ 0 ∷ 12 ∷ 13 ∷ []) ∷
+    -- "which build must accept": two fans about one vertex; two triangles on the same corners; 9 by the new k
+    contractRefused 6 4 (listing ++ tri 2 1 5 ++ tri 4 3 6) 6 12 0 18 70 11 (refused 8 3 0) (blank 70) ∷
+    contractRefused 4 4 tetrahedron 4 12 0 12 68 9 (refused 18 1 2) (blank 68) ∷
+    contractRefused 4 2 listing 4 6 2 12 36 9 (refused 9 3 0) (blank 36) ∷
+    -- "The old list must be accepted"; the points under check 2
+    contractRefused 4 2 (tri 1 2 3 ++ tri 1 2 4) 4 6 0 12 36 0 (refused 7 1 1) (blank 36) ∷
+    contractRefused 4 2 listing 4 6 4 11 36 9 (refused 2 0 0) (replicate 36 1) ∷
+    contractRefused 1_000_001 2 [] 4 6 4 0 36 9 (refused 1 0 0) (replicate 36 1) ∷
+    []
+
 -- the rules give every row of the table
 pub cases-hold : T (every holds cases)
 unfolding three quad tri blank room left built sameAnswer gave holds every listing listingE2e tetrahedron mixed triangles
@@ -518,3 +601,15 @@ unfolding three quad tri blank room left sameAnswer holds every listing mixed sp
     withCorner halved splitAt isSplittable hasPoints canHold split midway coordinate midpoint withPoint splitPoints
     ofInt ofBits ofFields toBits round size span climb units odd trailingZeros sum add mul
 splits-hold = tt
+
+pub contractions-hold : T (every holds contractions)
+unfolding three quad tri blank room left sameAnswer sameEdited holds every listing mixed tetrahedron wheel band contractions least count upto tab zeros same
+    sidesBy isSide slot origin nextNumber previousNumber next previous sideAt firstSide countSides firstNumber alike opposed joins callSizes sizesFit
+    unfitCorner repeatedCorner isCorner sharedCorners shareSide meetWell partner isBorder b2e borderNumber borders columns codeAt e2eEntry e2e wide
+    borderInto v2eEntry v2e edges sideOfBorder walkStart turnBy trace walkTo walk crowdedSide alikeSide missed unorderedVertex clashOf clashing
+    checkFound listAnswer callLengths buildLengths lengthChecks roomCheck buildAnswer after onto buildLeaves workAfter
+    editRoom overOld onceAccepted newAnswer isThere countsFit hasRoom editSizes editLengths editAnswer written editLeaves counted wholes bits heldIn sameLent
+    isSplittable hasPoints coordinate withPoint third withRow
+    withoutRow withoutBoth withoutEdge instead renamed merged contracted isNeighbour isThird pinches isUsed strands contract pointOf withoutPoint contractPoints
+    ofInt ofBits ofFields toBits round size span climb units odd trailingZeros sum add mul
+contractions-hold = tt

@@ -40,6 +40,7 @@ pub mod Described
 pub mod Answers
 pub mod SplitAnswers
 pub mod SplitTests
+pub mod Coarsening
 pub mod SwapRefusals
 pub mod Calls
 pub mod Edits

@@ -1,4 +1,4 @@
--- `split::is_splittable` meets its contract: each way out goes by the tests before it.
+-- `edits::is_splittable` meets its contract: each way out goes by the tests before it.
 -- Assumes nothing.
 use mathlib.Core.Path.{_≡_, ap, sym, _∙_}
 use mathlib.Core.Bool.{Bool, true}
@@ -10,11 +10,11 @@ use Rattle.rules.specs.Elements.{Side, sides}
 use Rattle.rules.specs.Tables.{partner}
 use Rattle.theory.specs.Pairings.{partner-opposed}
 use Rattle.halfedge.specs.Codes.{of-border, of-side}
 use Rattle.edits.specs.Trying.{entry-border, entry-partner, row-inside}
-use Rattle.split.specs.Testing.{not-side, not-triangle, nothing-across, by-across}
+use Rattle.edits.specs.Splittable.{not-side, not-triangle, nothing-across, by-across}
 use borrow.Author.Needs.{needs}
-use Rattle.split.proofs.is_splittable.Statement.{statement}
-use Rattle.split.proofs.is_splittable.Tie as tie
+use Rattle.edits.proofs.is_splittable.Statement.{statement}
+use Rattle.edits.proofs.is_splittable.Tie as tie
 
 abbrev start : tie.Else1 → tie.Start
 start c = c .before .before .before .before
