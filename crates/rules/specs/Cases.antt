@@ -141,8 +141,10 @@ pub data Case : Type 0 where
   splitRefused : ℕ → ℕ → List ℕ → ℕ → ℕ → ℕ → ℕ → ℕ → ℕ → Answer → List ℕ → Case
   -- the bits of two numbers, and of the one midway
   midwayIs : ℕ → ℕ → ℕ → Case
-  -- what contracting the side with this code makes of n and the list
-  contractMakes : ℕ → List ℕ → ℕ → Edited → Case
+  -- what a swap, and a contraction, of the side with this code makes of n and the list
+  swapMakes contractMakes : ℕ → List ℕ → ℕ → Edited → Case
+  -- what a split makes of it, with an m, and a list, V2e, E2e, points and work buffer of these lengths
+  splitMakes : ℕ → ℕ → List ℕ → ℕ → ℕ → ℕ → ℕ → ℕ → Edited → Case
   -- the side with this code contracted, with so many entries more than needed in each buffer: k, the edges, the list and the points, where number
   -- i of the points was i; the tables are those that build leaves of the list
   contractIs : ℕ → List ℕ → ℕ → ℕ → ℕ → ℕ → List ℕ → List ℕ → Case
@@ -258,7 +260,9 @@ holds (splitRefused n m L v e b points work s a work′) =
     both (sameAnswer (splitAnswer w P s) a)
     (both (sameLent (splitLeaves w P s) w work′) (same (bits (splitPoints w P s)) (bits P)))
 holds (midwayIs x y z) = eqb (toBits binary64 (midway (ofBits binary64 x) (ofBits binary64 y))) z
+holds (swapMakes n L s x) = sameEdited (swap n L s) x
 holds (contractMakes n L s x) = sameEdited (contract n L s) x
+holds (splitMakes n m L v e points work s x) = sameEdited (split (editRoom n m L v e 0 work) (counted points) s) x
 holds (contractIs n L s spare k e L′ p) =
     let m = elements L in
     let more : List ℕ = replicate spare 9 in
@@ -377,8 +381,7 @@ cases =
     -- "check 1 drops E2e's fours. Length check 2 .. follow"
     answersWith 4 listing 8 (refused 2 0 0) ∷ answersWith 4 listing 9 (refused 2 0 0) ∷ answersWith 5 mixed 6 (refused 2 0 0) ∷
     -- "Lists of different m can share both, as four triangles apart and three quadrilaterals apart"
-    v2eIs 12 triangles shared ∷ e2eIs 12 triangles shared ∷ recovered 12 4 shared shared (some triangles) ∷
-    v2eIs 12 quadrilaterals shared ∷ e2eIs 12 quadrilaterals shared ∷ recovered 12 3 shared shared (some quadrilaterals) ∷
+    recovered 12 4 shared shared (some triangles) ∷ recovered 12 3 shared shared (some quadrilaterals) ∷
     -- "A triangle list that isn't empty, offered in four columns, gives 10"; and three columns come back as triangles only
     recovered 4 2 (32 ∷ 8 ∷ 16 ∷ 24 ∷ []) (quad 8 16 17 0 ++ quad 11 24 32 0) none ∷
     recovered 5 2 (40 ∷ 8 ∷ 16 ∷ 24 ∷ 32 ∷ []) (quad 8 16 17 0 ++ quad 11 24 32 40) (some mixed) ∷
@@ -449,18 +452,18 @@ cases =
     holesRefused 3 (1 ∷ 2 ∷ 3 ∷ []) (24 ∷ 8 ∷ []) 3 3 2 (refused 1 0 0) (1 ∷ 1 ∷ []) ∷
     -- document 02, point 1: "With side a to b, its third corner c, and the partner's third corner d, the side's row becomes (c,a,d) and the
     -- partner's (d,b,c)": the listing's side 3 to 1, and its partner; and a diagonal beside a quadrilateral, in longer buffers
-    swapIs 4 listing 11 0 4 5 (tri 2 3 4 ++ tri 4 1 2) ∷
+    swapMakes 4 listing 11 (becomes 4 (tri 2 3 4 ++ tri 4 1 2)) ∷
     swapIs 4 listing 17 2 4 5 (tri 2 3 4 ++ tri 4 1 2) ∷
     swapIs 6 (listing ++ quad 3 2 5 6) 17 1 6 8 (tri 2 3 4 ++ tri 4 1 2 ++ quad 3 2 5 6) ∷
     -- "11, 15 and the new list": a code that isn't there; of a border half-edge; of a border side; with a quadrilateral on either side
     swapRefused 4 2 listing 4 6 4 36 0 (refused 11 0 0) (blank 36) ∷
-    swapRefused 4 2 listing 4 6 4 36 12 (refused 11 0 0) (blank 36) ∷
-    swapRefused 4 2 listing 4 6 4 36 25 (refused 11 0 0) (blank 36) ∷
-    swapRefused 4 2 listing 4 6 4 36 40 (refused 11 0 0) (blank 36) ∷
+    swapMakes 4 listing 12 (refuses 11) ∷
+    swapMakes 4 listing 25 (refuses 11) ∷
+    swapMakes 4 listing 40 (refuses 11) ∷
     swapRefused 4 2 listing 4 6 0 36 32 (refused 15 0 0) (blank 36) ∷
-    swapRefused 4 2 listing 4 6 0 36 9 (refused 15 0 0) (blank 36) ∷
-    swapRefused 5 2 mixed 5 8 5 37 11 (refused 15 0 0) (blank 37) ∷
-    swapRefused 5 2 mixed 5 8 5 37 17 (refused 15 0 0) (blank 37) ∷
+    swapMakes 4 listing 9 (refuses 15) ∷
+    swapMakes 5 mixed 11 (refuses 15) ∷
+    swapMakes 5 mixed 17 (refuses 15) ∷
     -- "the old list, 9 apart, is tried first", also where the new one would be accepted; the new list: c and d joined already, the new diagonal a
     -- quadrilateral's; 9 by the new k
     swapRefused 4 2 (tri 1 2 3 ++ tri 1 2 4) 4 6 0 36 0 (refused 7 1 1) (blank 36) ∷
@@ -485,25 +488,25 @@ splits =
     -- document 02, point 6: "A triangle (a,b,c) becomes (a,v,c) and appended (v,b,c). Its partner (b,a,d), if there is one, becomes (b,v,d) and
     -- appended (v,a,d), after the first": the listing's side 3 to 1, and its partner; points 1 and 3 at (0,1,2) and (6,7,8)
     splitIs 4 listing 11 0 4 8 (tri 5 2 3 ++ tri 1 5 4 ++ tri 1 2 5 ++ tri 5 3 4) (three 0x4008_0000_0000_0000 0x4010_0000_0000_0000 0x4014_0000_0000_0000) ∷
-    splitIs 4 listing 17 2 4 8 (tri 5 2 3 ++ tri 1 5 4 ++ tri 5 3 4 ++ tri 1 2 5) (three 0x4008_0000_0000_0000 0x4010_0000_0000_0000 0x4014_0000_0000_0000) ∷
+    splitMakes 4 2 (listing ++ blank 8) 5 12 15 69 17 (becomes 5 (tri 5 2 3 ++ tri 1 5 4 ++ tri 5 3 4 ++ tri 1 2 5)) ∷
     -- "a border side may be split", the side 1 to 2; and beside a quadrilateral
     splitIs 4 listing 9 1 5 7 (tri 1 5 3 ++ tri 1 3 4 ++ tri 5 2 3) (three 0x3ff8_0000_0000_0000 0x4004_0000_0000_0000 0x400c_0000_0000_0000) ∷
-    splitIs 5 mixed 9 0 6 8 (tri 1 6 3 ++ quad 1 3 4 5 ++ tri 6 2 3) (three 0x3ff8_0000_0000_0000 0x4004_0000_0000_0000 0x400c_0000_0000_0000) ∷
+    splitMakes 5 2 (mixed ++ blank 4) 6 12 18 54 9 (becomes 6 (tri 1 6 3 ++ quad 1 3 4 5 ++ tri 6 2 3)) ∷
     -- 11; "Refusal 15 is given here only for a quadrilateral or for a border code"
     splitRefused 4 2 (listing ++ blank 8) 5 12 4 15 69 0 (refused 11 0 0) (blank 69) ∷
-    splitRefused 4 2 (listing ++ blank 8) 5 12 4 15 69 12 (refused 11 0 0) (blank 69) ∷
-    splitRefused 4 2 (listing ++ blank 8) 5 12 4 15 69 25 (refused 11 0 0) (blank 69) ∷
-    splitRefused 4 2 (listing ++ blank 8) 5 12 4 15 69 40 (refused 11 0 0) (blank 69) ∷
-    splitRefused 4 2 (listing ++ blank 8) 5 12 4 15 69 32 (refused 15 0 0) (blank 69) ∷
-    splitRefused 5 2 (mixed ++ blank 8) 6 16 5 18 70 11 (refused 15 0 0) (blank 70) ∷
-    splitRefused 5 2 (mixed ++ blank 8) 6 16 5 18 70 17 (refused 15 0 0) (blank 70) ∷
-    splitRefused 5 2 mixed 5 8 0 15 37 18 (refused 15 0 0) (blank 37) ∷
+    splitMakes 4 2 (listing ++ blank 8) 5 12 15 69 12 (refuses 11) ∷
+    splitMakes 4 2 (listing ++ blank 8) 5 12 15 69 25 (refuses 11) ∷
+    splitMakes 4 2 (listing ++ blank 8) 5 12 15 69 40 (refuses 11) ∷
+    splitMakes 4 2 (listing ++ blank 8) 5 12 15 69 32 (refuses 15) ∷
+    splitMakes 5 2 (mixed ++ blank 8) 6 16 18 70 11 (refuses 15) ∷
+    splitMakes 5 2 (mixed ++ blank 8) 6 16 18 70 17 (refuses 15) ∷
+    splitMakes 5 2 mixed 5 8 15 37 18 (refuses 15) ∷
     -- "19: .. a lent buffer but B2e can't hold the new length; after 15, with 9 by the new k last"
-    splitRefused 4 2 (listing ++ blank 7) 5 12 0 15 69 11 (refused 19 0 0) (blank 69) ∷
-    splitRefused 4 2 (listing ++ blank 8) 4 12 0 15 69 11 (refused 19 0 0) (blank 69) ∷
-    splitRefused 4 2 (listing ++ blank 8) 5 11 0 15 69 11 (refused 19 0 0) (blank 69) ∷
-    splitRefused 4 2 (listing ++ blank 8) 5 12 0 14 69 11 (refused 19 0 0) (blank 69) ∷
-    splitRefused 4 2 (listing ++ blank 8) 5 12 0 15 68 11 (refused 19 0 0) (blank 68) ∷
+    splitMakes 4 2 (listing ++ blank 7) 5 12 15 69 11 (refuses 19) ∷
+    splitMakes 4 2 (listing ++ blank 8) 4 12 15 69 11 (refuses 19) ∷
+    splitMakes 4 2 (listing ++ blank 8) 5 11 15 69 11 (refuses 19) ∷
+    splitMakes 4 2 (listing ++ blank 8) 5 12 14 69 11 (refuses 19) ∷
+    splitMakes 4 2 (listing ++ blank 8) 5 12 15 68 11 (refuses 19) ∷
     splitRefused 4 2 (listing ++ blank 8) 5 12 3 15 69 11 (refused 9 4 0) (blank 69) ∷
     splitRefused 4 2 (listing ++ blank 4) 5 9 4 15 53 9 (refused 9 5 0) (blank 53) ∷
     -- "Points are lent as 3 × n numbers, under check 2 too"; "The old list must be accepted"
@@ -588,11 +591,11 @@ unfolding three quad tri blank room left built sameAnswer gave holds every listi
     has holeRoom openings apart between lists broken leastOf holesUpTo holeOf holes holeCount holeLengths holesFound holesFit holesAnswer holesLeaves
     editRoom fan previousNumber previous overOld onceAccepted newAnswer isThere countsFit hasRoom editSizes editLengths editAnswer written editLeaves
     third flipped withRow swapped isSwappable swap
-    heldIn sameLent
+    heldIn sameLent sameEdited
 cases-hold = tt
 
 pub splits-hold : T (every holds splits)
-unfolding three quad tri blank room left sameAnswer holds every listing mixed splits least count upto tab zeros same
+unfolding three quad tri blank room left sameAnswer sameEdited holds every listing mixed splits least count upto tab zeros same
     sidesBy isSide slot origin nextNumber next sideAt firstSide countSides firstNumber alike opposed joins callSizes sizesFit unfitCorner repeatedCorner
     isCorner sharedCorners shareSide meetWell partner isBorder b2e borderNumber borders columns codeAt e2eEntry e2e wide borderInto v2eEntry v2e edges
     sideOfBorder walkStart turnBy trace walkTo walk crowdedSide alikeSide missed unorderedVertex clashOf clashing checkFound listAnswer callLengths

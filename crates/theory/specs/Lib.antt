@@ -41,6 +41,15 @@ pub mod Answers
 pub mod SplitAnswers
 pub mod SplitTests
 pub mod Coarsening
+pub mod Renaming
+pub mod Removing
+pub mod Contracting
+pub mod ContractTests
+pub mod Pinching
+pub mod Using
+pub mod ContractRefusals
+pub mod Rejoining
+pub mod SplitBack
 pub mod SwapRefusals
 pub mod Calls
 pub mod Edits
