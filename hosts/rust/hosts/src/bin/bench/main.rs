@@ -1,5 +1,5 @@
-//! Times building, recovery, rings, siblings, holes, swaps, splits and contractions, and other means beside them, and prints tables in
-//! Markdown.
+//! Times building, recovery, rings, siblings, holes, swaps, splits and contractions, and other means beside them, and
+//! prints tables in Markdown.
 //!
 //!     bench [FOLDER]               with a folder, also writes lists of triangles to FOLDER/build and FOLDER/holes, for
 //!                                  bench_cpp
@@ -750,8 +750,16 @@ fn print_swaps(lists: &[(&str, List)], dice: &mut Dice) {
 }
 
 /// `split` or `contract`.
-type EdgeEdit =
-    fn(&mut Size, &mut [u32], &mut [u32], &mut [u32], &mut [u32], &mut [f64], &mut [u32], u32) -> Result<Counts, Refusal>;
+type EdgeEdit = fn(
+    &mut Size,
+    &mut [u32],
+    &mut [u32],
+    &mut [u32],
+    &mut [u32],
+    &mut [f64],
+    &mut [u32],
+    u32,
+) -> Result<Counts, Refusal>;
 
 /// A list in buffers with room for one split, its points, and what is done to its edges.
 struct Edges<'a> {
