@@ -16,7 +16,7 @@ ghost use Rattle.answer.specs.Numbers.{numbers};
 ghost use Rattle.build.specs.Building.{Scratched};
 ghost use Rattle.edits.specs.Holding.{lentEdit, roomFor, columnsHeld};
 ghost use Rattle.edits.specs.Trying.{Tabled};
-ghost use Rattle.edits.specs.Fronts.{Ready, ToTry, Fronted};
+ghost use Rattle.edits.specs.Fronts.{Fitting, ToTry, Fronted};
 use answer::Answer;
 use buffers::copy;
 use build::build_fit;
@@ -166,7 +166,7 @@ pub fn build_front(
     b2e: &mut [u32],
     work: &mut [u32],
 ) -> Answer
-    requires { ⌜ Ready (lentEdit n m (now list) (now v2e) (now e2e) (now b2e) (now work)) columns ⌝ }
+    requires { ⌜ Fitting (lentEdit n m (now list) (now v2e) (now e2e) (now b2e) (now work)) columns ⌝ }
     ensures { λ r. ⌜ Fronted n (take (4 * m) (now (list .entry))) (numbers r) (now (v2e .entry)) (now (e2e .entry)) (now (b2e .entry)) (now (v2e .exit)) (now (e2e .exit)) (now (b2e .exit)) ⌝ }
     ensures { λ r. ⌜ length (now (work .exit)) ≡ length (now (work .entry)) ⌝ }
 {

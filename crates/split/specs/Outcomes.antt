@@ -17,7 +17,7 @@ use Rattle.theory.specs.SplitTests.{vertex, new, gone, unfit, full, splits}
 use Rattle.build.specs.Building.{Scratched}
 use Rattle.edits.specs.Leaving.{after-refusal, after-answer, rest, refused-left, old-refused, new-tried}
 use Rattle.edits.specs.Trying.{number, tabled}
-use Rattle.edits.specs.Fronts.{Ready, checked-front}
+use Rattle.edits.specs.Fronts.{Ready, fitting, checked-front}
 use Rattle.split.specs.Testing.{holdsBy, can-hold-by}
 use Rattle.split.specs.Stages.{Admissible, ToWrite, Admitted, denied, allowed, Written, Outcome}
 
@@ -67,7 +67,7 @@ module _ (w : Lent) (P : List Float) (s : ℕ) {c : ℕ} (x : Ready w c) {p : �
   module _ {k e : ℕ} (counts : t ≡ gives k e) where
     pub admissible : Admissible (w .n) (w .m) c k (w .list) W
     admissible =
-        let y = checked-front w x in
+        let y = checked-front w (fitting w x) in
         record {
           accepted = given-accepted (w .n) (held w) (y .sizes) (sym (scratch .stated) ∙ counts);
           inside = x .long .list;
