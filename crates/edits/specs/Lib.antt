@@ -5,3 +5,4 @@ pub mod Trying
 pub mod Splittable
 pub mod HeldRows
 pub mod Fronts
+pub mod Pointed
