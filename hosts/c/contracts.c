@@ -175,7 +175,7 @@ static void run_of_contracts(struct list list, int edits, struct dice *dice) {
 }
 
 void runs_of_contracts(struct dice *dice) {
-    static const uint32_t numbers[] = {0, 6, 8, 9, 11, 15, 18, 19, 20, 21};
+    static const uint32_t numbers[] = {0, 6, 8, 11, 15, 18, 19, 20, 21};
     for (int i = 0; i < 16; i++)
         run_on_housings(2 + (uint32_t)i % 4, 90, run_of_contracts, dice);
     run_on_housings(12, 150, run_of_contracts, dice);
@@ -389,7 +389,6 @@ void largest_contracts(struct dice *dice) {
     const uint32_t most = BORZHANU_MAX_ELEMENTS, rim = most - 1;
     struct list list = sheet(1000, 500, 1, 1, TRIANGLES, dice);
     add_spare(&list, list.n / 2, BORZHANU_MAX_VERTICES - list.n);
-    contract_large(&list, borzhanu_side(1, 1), (struct answer){0, 0, 3 * most / 2 - 3}, dice);
     contract_large(&list, borzhanu_side(most, 1), (struct answer){0, 0, 3 * most / 2 - 3}, dice);
     contract_large(&list, borzhanu_side(most + 1, 1), (struct answer){11, 0, 0}, dice);
     drop_list(&list);
