@@ -1,12 +1,12 @@
--- `split_cases::bits_of` asks for the bits of a number alone: what isn't equal to itself is none.
+-- `cases::bits_of` asks for the bits of a number alone: what isn't equal to itself is none.
 -- Assumes nothing.
 use mathlib.Core.Path.{_≡_, subst}
 use mathlib.Core.Bool.{false, not}
 use lib.Dec.{T}
 use lib.Ieee.{Float, nan, inf, fin, eq, ne, isNan}
 use borrow.Author.Needs.{needs}
-use Rattle.split_cases.proofs.bits_of.Statement.{statement}
-use Rattle.split_cases.proofs.bits_of.Tie as tie
+use Rattle.cases.proofs.bits_of.Statement.{statement}
+use Rattle.cases.proofs.bits_of.Tie as tie
 
 is-number : (x : Float) → ne x x ≡ false → T (not (isNan x))
 unfolding eq ne isNan

@@ -1,10 +1,10 @@
--- `split_cases::put_bits` is safe and ends: the measure is what is left of the points.
+-- `cases::put_bits` is safe and ends: the measure is what is left of the points.
 -- Assumes nothing.
 use Prim.Native.Nat.{_-_, _≤_}
 use native.Mathlib.Omega.{arith}
 use borrow.Author.Needs.{needs}
-use Rattle.split_cases.proofs.put_bits.Statement.{statement}
-use Rattle.split_cases.proofs.put_bits.Tie as tie
+use Rattle.cases.proofs.put_bits.Statement.{statement}
+use Rattle.cases.proofs.put_bits.Tie as tie
 
 abbrev Inv-loop : tie.InvT-loop
 Inv-loop points out₀ i₀ out i = i ≤ 45
