@@ -33,7 +33,7 @@ use Rattle.theory.specs.ContractRefusals.{contracted-refused}
 use Rattle.runs.specs.Runs.{BuildRun, RecoverRun, ContractRun, LeftBy}
 use Rattle.runs.specs.Demand3.{list-counted}
 use Rattle.runs.specs.Edits as edits
-use Rattle.runs.specs.Edits.{There, means-there, meshIn, Untouched}
+use Rattle.runs.specs.Edits.{There, means-there, meshIn, Cleared, Untouched}
 
 -- the ends of side s, a and b, have no common neighbour but the third corners of the triangles on it
 abbrev pub Unpinched : List ℕ → ℕ → Type 0
@@ -186,8 +186,8 @@ module _ (w : Lent) (P : List Float) (s : ℕ) (a : Answer) (w′ : Lent) (P′ 
               refused-by : {r p q : ℕ} → listAnswer (n - 1) L′ ≡ refused r p q → (r ≡ 8) ⊎ (r ≡ 18)
               refused-by = contracted-refused n L L′ old s z (contracted-coarsened n L fit s z) (unpinched n L fit s free)
 
-  -- n entries of B2e are always enough
-  pub never-nine : n ≤ length (w .border) → (p q : ℕ) → a ≡ refused 9 p q → ⊥
+  -- n - 1 entries of B2e are always enough
+  pub never-nine : n - 1 ≤ length (w .border) → (p q : ℕ) → a ≡ refused 9 p q → ⊥
   never-nine long = edits.never-nine x w a w′ (run .edit) own sized
     where
       own : (r : ℕ) → x ≡ refuses r → r ≡ 9 → ⊥
@@ -296,7 +296,10 @@ module _ (w : Lent) (P : List Float) (s : ℕ) (a : Answer) (w′ : Lent) (P′ 
     pub inner-falls : (partner L s ≡ 0 → ⊥) → w′ .m + 2 ≡ w .m
     inner-falls z = omega (arith, rows-now, rows-then, contracted-inner n L (g .fit) s (y .splittable) z)
 
-    -- what lies past the old lengths stays untouched
+    -- "Entries between the new and the old length become 0, but not in B2e", and what lies past the old lengths stays untouched
+    pub cleared : Cleared w w′
+    cleared = edits.cleared x w a w′ (run .edit) gave made accepted (y .borders-are)
+
     pub untouched : Untouched w w′ k
     untouched = edits.untouched x w a w′ (run .edit) gave made accepted (y .borders-are)
 
