@@ -11,18 +11,18 @@ use lib.ListN.{length, take}
 use lib.Seq.{length-take-le, getD-take, ext-getD}
 use Rattle.lists.specs.TestLaws.{true-of, false-of, decide, means-not, means-eq, means-lt, zero-or}
 use Rattle.lists.specs.Search.{at}
-use Rattle.lists.specs.SearchLaws.{le-not-lt}
 use Rattle.lists.specs.Parts.{length-part}
 use Rattle.rules.specs.Elements.{maxElement, elements, row, number, slot}
 use Rattle.rules.specs.Pairing.{Element}
-use Rattle.rules.specs.Tables.{partner, isBorder, wide}
+use Rattle.rules.specs.Tables.{partner, wide}
 use Rattle.rules.specs.Edits.{withRow}
 use Rattle.rules.specs.Contract.{withoutRow, withoutBoth, withoutEdge}
 use Rattle.theory.specs.FitRows.{Fit}
-use Rattle.theory.specs.Entries.{means-border}
 use Rattle.theory.specs.Rows.{row-length, row-entry, row-other}
 use Rattle.theory.specs.Swapping.{across, apart}
 use Rattle.theory.specs.Splitting.{Splittable, split-diagonal}
+use Rattle.theory.specs.Removing.{without-size, both-size}
+use Rattle.theory.specs.Contracting.{without-border, without-inner}
 use Rattle.halfedge.specs.Rows.{rowOf}
 use Rattle.edits.specs.RowPut.{four-is}
 use Rattle.edits.specs.Trying.{entry-border, entry-partner}
@@ -76,14 +76,6 @@ module _ (m f : ℕ) (list : List ℕ) (from : 1 ≤ f) (to : f ≤ m) (inside :
             ∙ (λ i. take (4 * (count i - 1)) (withRow f (held i) L)),
       )
 
--- what is left once row f has gone
-pub without-length : (f : ℕ) (L : List ℕ) → Element L f → length L ≡ 4 * elements L → length (withoutRow f L) ≡ 4 * (elements L - 1)
-unfolding withoutRow
-without-length f L el fours =
-    let last = row L (elements L) in
-    let four : length last ≡ 4 = length-part (4 * (elements L - 1)) 4 L (omega (arith, el)) in
-    length-take-le (4 * (elements L - 1)) (withRow f last L) (omega (arith, row-length f last L four el))
-
 -- two go, "the higher-numbered first"
 module _ (f g : ℕ) (L : List ℕ) where
   when-below : f < g → withoutBoth f g L ≡ withoutRow f (withoutRow g L)
@@ -93,18 +85,6 @@ module _ (f g : ℕ) (L : List ℕ) where
   when-above : (f < g → ⊥) → withoutBoth f g L ≡ withoutRow g (withoutRow f L)
   unfolding withoutBoth
   when-above h = rw (false-of (ltb f g) (means-not (means-lt f g) .shows h), withoutBoth)
-
-  pub both-length : Element L f → Element L g → (f ≡ g → ⊥) → length L ≡ 4 * elements L → length (withoutBoth f g L) ≡ 4 * (elements L - 2)
-  both-length mine other apart fours = go (decide (means-lt f g))
-    where
-      then : (i j : ℕ) → Element L i → Element L j → i < j → length (withoutRow i (withoutRow j L)) ≡ 4 * (elements L - 2)
-      then i j a b h =
-          let e = without-length j L b fours in
-          let k : Element (withoutRow j L) i = omega (arith, a, b) in omega (arith, without-length i (withoutRow j L) k (omega arith))
-
-      go : (f < g) ⊎ (f < g → ⊥) → length (withoutBoth f g L) ≡ 4 * (elements L - 2)
-      go (inl h) = ap length (when-below h) ∙ then f g mine other h
-      go (inr h) = ap length (when-above h) ∙ then g f other mine (omega (arith, le-not-lt g f h, apart))
 
 -- M is the list once one row has gone, and N once another has, too
 module _ (m : ℕ) (L list M N : List ℕ) where
@@ -125,16 +105,6 @@ module _ (m : ℕ) (L list M N : List ℕ) where
 
   pub go-above : (f g : ℕ) → g ≤ f → One f → Other g → (length N ≡ length list) × (take (4 * (m - 2)) N ≡ withoutBoth f g L)
   go-above f g h x y = let (a, b) = both-go g f x y in (a, b ∙ sym (when-above f g L (λ l. omega arith)))
-
--- "The one or two triangles on the edge go"
-module _ (L : List ℕ) (s : ℕ) where
-  at-border : partner L s ≡ 0 → withoutEdge L s ≡ withoutRow (s / 8) L
-  unfolding withoutEdge
-  at-border z = rw (true-of (isBorder L s) (means-border L s .shows z), withoutEdge)
-
-  at-inner : (partner L s ≡ 0 → ⊥) → withoutEdge L s ≡ withoutBoth (s / 8) (partner L s / 8) L
-  unfolding withoutEdge
-  at-inner d = rw (false-of (isBorder L s) (means-not (means-border L s) .shows d), withoutEdge)
 
 -- how many of m rows stay, by the entry t of the side in E2e
 unfoldable pub fewerBy : ℕ → ℕ → ℕ
@@ -177,14 +147,14 @@ module _ {m : ℕ} {list : List ℕ} {s t : ℕ} (x : ToClose m list s t) where
   -- where E2e has a border half-edge, one row goes
   module _ (border : t % 8 ≡ 0) where
     edge-border : withoutEdge L s ≡ withoutRow (s / 8) L
-    edge-border = at-border L s (entry-border L s (x .splittable .side) (x .entry) border)
+    edge-border = without-border L s (entry-border L s (x .splittable .side) (x .entry) border)
 
     pub border-goes : (N : List ℕ) → (length N ≡ length list) × (take (4 * (m - 1)) N ≡ withoutRow (s / 8) L)
         → (length N ≡ length list) × (take (4 * fewerBy m t) N ≡ withoutEdge L s)
     border-goes N (long, is) = (long, ap (λ (k : ℕ). take (4 * k) N) (one-fewer m t border) ∙ is ∙ sym edge-border)
 
     border-fewer : fewerBy m t ≡ elements (withoutEdge L s)
-    border-fewer = omega (arith, one-fewer m t border, ap length edge-border, without-length (s / 8) L mine fours, rows)
+    border-fewer = omega (arith, one-fewer m t border, ap length edge-border, without-size (s / 8) L fours mine, rows)
 
   -- else two go
   module _ (inner : t % 8 ≡ 0 → ⊥) where
@@ -201,7 +171,7 @@ module _ {m : ℕ} {list : List ℕ} {s t : ℕ} (x : ToClose m list s t) where
         apart (x .n) L (x .fit) s (split-diagonal (x .splittable) (paired .1)) (e ∙ ap (λ (k : ℕ). k / 8) (paired .0))
 
     edge-inner : withoutEdge L s ≡ withoutBoth (s / 8) (t / 8) L
-    edge-inner = at-inner L s (paired .1) ∙ ap (λ (k : ℕ). withoutBoth (s / 8) (k / 8) L) (sym (paired .0))
+    edge-inner = without-inner L s (paired .1) ∙ ap (λ (k : ℕ). withoutBoth (s / 8) (k / 8) L) (sym (paired .0))
 
     pub inner-goes : (N : List ℕ) → (length N ≡ length list) × (take (4 * (m - 2)) N ≡ withoutBoth (s / 8) (t / 8) L)
         → (length N ≡ length list) × (take (4 * fewerBy m t) N ≡ withoutEdge L s)
@@ -212,7 +182,7 @@ module _ {m : ℕ} {list : List ℕ} {s t : ℕ} (x : ToClose m list s t) where
 
     inner-fewer : fewerBy m t ≡ elements (withoutEdge L s)
     inner-fewer =
-        omega (arith, two-fewer m t inner, ap length edge-inner, both-length (s / 8) (t / 8) L mine other rows-differ fours, rows)
+        omega (arith, two-fewer m t inner, ap length edge-inner, both-size L fours (s / 8) (t / 8) mine other rows-differ, rows)
 
     two-there : 2 ≤ m
     two-there = omega (arith, row-there, other-there, rows-differ)

@@ -7,10 +7,11 @@ use native.Mathlib.Omega.{arith}
 use lib.ListN.{length, take, drop, set, length-append, length-drop}
 use lib.Seq.{length-take-le, take-at}
 use Rattle.lists.specs.Search.{at}
-use Rattle.lists.specs.SearchLaws.{length-tab, is-tab}
+use Rattle.lists.specs.SearchLaws.{is-tab}
 use Rattle.lists.specs.Stores.{by-set, Kept, kept-itself, kept-set, kept-later}
 use Rattle.rules.specs.Elements.{origin, destination}
 use Rattle.rules.specs.Contract.{withoutEdge, instead, renamed, merged}
+use Rattle.theory.specs.Renaming.{renamed-length}
 use Rattle.gaps.specs.Closing.{fewerBy, ToClose, fewer-below}
 
 -- W is the list U with the entries before p renamed
@@ -40,10 +41,6 @@ module _ (old new : ℕ) (U : List ℕ) where
     all-renamed h =
         let long = x .kept .long in is-tab (length U) (λ j. instead old new (at U j)) W long (λ j k. x .done j (omega arith))
 
-pub length-renamed : (old new : ℕ) (U : List ℕ) → length (renamed old new U) ≡ length U
-unfolding renamed
-length-renamed old new U = length-tab (length U) (λ p. instead old new (at U p))
-
 -- M is the list once the rows on the edge have gone, and its front, to `end`, is renamed
 module _ {m : ℕ} {list : List ℕ} {s t : ℕ} (x : ToClose m list s t) {a b : ℕ} (from : a ≡ origin (take (4 * m) list) s)
     (to : b ≡ destination (take (4 * m) list) s) (M : List ℕ) (long : length M ≡ length list)
@@ -57,7 +54,7 @@ module _ {m : ℕ} {list : List ℕ} {s t : ℕ} (x : ToClose m list s t) {a b :
   front-renamed {part} e =
       let L = take (4 * m) list in
       let whole : end - 0 ≡ 4 * fewerBy m t = omega (arith, ends) in
-      let many : length part ≡ end - 0 = ap length e ∙ length-renamed b a (take (end - 0) M) ∙ length-take-le (end - 0) M (omega (arith, end-inside)) in
+      let many : length part ≡ end - 0 = ap length e ∙ renamed-length b a (take (end - 0) M) ∙ length-take-le (end - 0) M (omega (arith, end-inside)) in
       let rows : take (end - 0) M ≡ withoutEdge L s = ap (λ (k : ℕ). take k M) whole ∙ is in (
         omega (arith, length-append part (drop (end - 0) M), length-drop (end - 0) M, many, end-inside, long),
         take-at part (drop (end - 0) M) (4 * fewerBy m t) (many ∙ whole) ∙ e ∙ (λ i. renamed (to i) (from i) (rows i)),
