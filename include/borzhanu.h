@@ -116,8 +116,8 @@ enum {
        two triangles on the edge, as on a thin tube or by a small hole: it would be pinched there. It comes
        after 15. */
     BORZHANU_EDGE_PINCHED = 20,
-    /* An edge can't be contracted without leaving a vertex unused that was used: a third corner that has no
-       other element, or, with the last triangle, all that is left. It comes after 20. */
+    /* Contracting the edge would leave a vertex unused that was used: a third corner that belongs to no other
+       element. It comes after 20. */
     BORZHANU_VERTEX_STRANDED = 21
 };
 
@@ -485,11 +485,11 @@ uint64_t borzhanu_split(uint32_t size[2],
  * that of a border half-edge, or one of the elements beside the side is a quadrilateral; 20 where a vertex
  * that no triangle on the edge has is joined by an edge both to a and to b, be it by the sides of
  * quadrilaterals (a diagonal joins nothing); 21 where a vertex other than b that was used would be left
- * unused, as the third corner of a triangle that hangs on the edge alone; then what building says of the new
- * list, with the place that it names there: 8 where a and b are both on a border and the edge isn't, so that
- * two fans would be left at one point, and 18 where two elements would meet otherwise than at one corner or
- * one edge, as on a tetrahedron; and 9, by the new k. Nothing else comes. After a refusal size, list, tables
- * and points are as they were. After 1 and 2 work is as it was; after everything else it is all zero.
+ * unused, as a third corner that belongs to no other element; then what building says of the new list, with
+ * the place that it names there: 8 where a and b are both on a border and the edge isn't, so that two fans
+ * would be left at one point, and 18 where two elements would meet otherwise than at one corner or one edge,
+ * as on a tetrahedron; and 9, by the new k. Nothing else comes. After a refusal size, list, tables and points
+ * are as they were. After 1 and 2 work is as it was; after everything else it is all zero.
  *
  * A split and then the contraction of the same code give n, m, list, tables and points back, with 0 where the
  * new ones stood.

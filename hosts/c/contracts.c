@@ -130,9 +130,31 @@ static void check_known(const struct known *c, struct dice *dice) {
     drop_buffers(&call);
 }
 
+/* Of the wheel's rim, 1 to 2: the points of 1, which stays, and of 5, which becomes 2, are of the same bits as before,
+   numbers or not. */
+static void check_moved_bits(uint64_t bits, struct dice *dice) {
+    static const uint32_t wheel[4][4] = {{1, 2, 5, 0}, {2, 3, 5, 0}, {3, 4, 5, 0}, {4, 1, 5, 0}};
+    struct list list = list_of_rows(5, 4, wheel);
+    struct slice results[ROLES];
+    uint32_t size[SIZE_LENGTH];
+    struct call call = contract_of(&list, no_more, 3, size, borzhanu_side(1, 1), dice);
+    for (size_t i = 0; i < 3; i++) {
+        put_bits(call.given[POINTS], i, bits);
+        put_bits(call.given[POINTS], 12 + i, bits);
+    }
+    if (compare(&call, results).refusal != 0)
+        fail("an edge isn't contracted");
+    for (size_t i = 0; i < 6; i++)
+        if (memcmp(results[POINTS].at + 2 * i, &bits, sizeof bits) != 0)
+            fail("a point has other bits than before");
+    drop_buffers(&call);
+}
+
 void known_contracts(struct dice *dice) {
     for (size_t i = 0; i < COUNT(known); i++)
         check_known(&known[i], dice);
+    for (size_t i = 0; i < SPECIAL_NUMBERS; i++)
+        check_moved_bits(special_numbers[i], dice);
     known_refusals(&contract_call, dice);
 }
 
