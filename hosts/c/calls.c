@@ -332,8 +332,8 @@ static void check_cleared(const struct call *call, const struct slice *left) {
     }
 }
 
-/* What doesn't depend on the reference: what must be as it was is, the work buffer is clean, and an edit has cleared what
-   it took away. */
+/* What doesn't depend on the reference: what must be as it was is, the work buffer is clean, and an edit has cleared
+   what it took away. */
 static void check_left(const struct call *call, const struct slice *left, struct answer got) {
     for (int role = 0; role < ROLES; role++) {
         if (role == WORK && got.refusal != 1 && got.refusal != 2) {

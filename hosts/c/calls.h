@@ -53,8 +53,8 @@ size_t room_of(enum role role);
 
 /* Compares a call, in both placements, and hands over the answer; `results`, where not null, then shows what each
    buffer holds, until the next call. A query told 0 is made again told the list's own columns, which must change
-   nothing. A mismatch is printed and ends the program. Points are compared bit by bit, but that a midpoint's number which
-   is to be no number may be any such. */
+   nothing. A mismatch is printed and ends the program. Points are compared bit by bit, but that a midpoint's number
+   which is to be no number may be any such. */
 struct answer compare(const struct call *call, struct slice *results);
 
 /* Compares a call whose answer is known beforehand; where its second number isn't named, it is 0. */

@@ -19,8 +19,8 @@ static struct call contract_of(const struct list *list, struct room room, size_t
 
 enum { ROWS = 8 };
 
-/* A list, the code of a contraction, how many entries B2e has, and what is answered; where that is no refusal, the vertex
-   that goes and the new list. */
+/* A list, the code of a contraction, how many entries B2e has, and what is answered; where that is no refusal, the
+   vertex that goes and the new list. */
 struct known {
     const char *name;
     uint32_t n, m, rows[ROWS][4], code, b2e_len;
@@ -36,7 +36,8 @@ struct known {
 /* two wheels on one rim, 2 to 5, about 1 and 6 */
 #define OCTAHEDRON \
     .n = 6, .m = 8, \
-    .rows = {{1, 2, 3, 0}, {1, 3, 4, 0}, {1, 4, 5, 0}, {1, 5, 2, 0}, {6, 3, 2, 0}, {6, 4, 3, 0}, {6, 5, 4, 0}, {6, 2, 5, 0}}
+    .rows = {{1, 2, 3, 0}, {1, 3, 4, 0}, {1, 4, 5, 0}, {1, 5, 2, 0}, \
+             {6, 3, 2, 0}, {6, 4, 3, 0}, {6, 5, 4, 0}, {6, 2, 5, 0}}
 /* a band about the rims 1, 2, 3 and 4, 5, 6 */
 #define BAND {1, 2, 5, 0}, {1, 5, 4, 0}, {2, 3, 6, 5}, {3, 1, 4, 6}
 #define PINCHED .b2e_len = 9, .answer = {20, 0, 0}
@@ -114,7 +115,8 @@ static void check_known_points(struct slice points, const struct known *c) {
 }
 
 static void check_known(const struct known *c, struct dice *dice) {
-    struct list list = list_of_rows(c->n, c->m, c->rows), contracted = list_of_rows(c->n - 1, c->elements, c->contracted);
+    struct list list = list_of_rows(c->n, c->m, c->rows);
+    struct list contracted = list_of_rows(c->n - 1, c->elements, c->contracted);
     struct slice results[ROLES];
     uint32_t size[SIZE_LENGTH];
     struct call call = contract_of(&list, no_more, c->b2e_len, size, c->code, dice);
@@ -328,8 +330,8 @@ static void try_short_b2e(const struct call *call, struct answer answer, struct 
     }
 }
 
-/* A contraction of each code in buffers that are just long enough, B2e for the new k where there is one: on a border that
-   is less than the old list needs. */
+/* A contraction of each code in buffers that are just long enough, B2e for the new k where there is one: on a border
+   that is less than the old list needs. */
 static void try_lengths(struct list list, struct dice *dice) {
     uint32_t size[SIZE_LENGTH];
     disguise(&list, dice);
@@ -416,7 +418,7 @@ void largest_contracts(struct dice *dice) {
     drop_list(&list);
     list = fan(rim, 1);
     for (uint32_t i = 1; i <= 3; i++)
-        contract_large(&list, borzhanu_side(1, i), (struct answer){0, rim - (i == 2), 2 * rim - (i == 2 ? 2 : 3)}, dice);
+        contract_large(&list, borzhanu_side(1, i), (struct answer){0, rim - (i == 2), 2 * rim - 3 + (i == 2)}, dice);
     drop_list(&list);
     uint32_t size[SIZE_LENGTH];
     list = list_of_rows(4, 2, listing);

@@ -69,8 +69,8 @@ extern const struct refused_list {
 } refused_lists[REFUSED_LISTS];
 extern const uint32_t some_codes[SOME_CODES];
 
-/* What an edit that is lent points refuses before its own causes come up, in buffers with room and without: these lists,
-   whatever the code, and each cause of 11 and of 15. */
+/* What an edit that is lent points refuses before its own causes come up, in buffers with room and without: these
+   lists, whatever the code, and each cause of 11 and of 15. */
 void known_refusals(const struct exported *exported, struct dice *dice);
 
 /* One past the codes that a list could have. */

@@ -11,13 +11,13 @@ struct run {
     uint32_t size[SIZE_LENGTH], k, edges;
 };
 
-/* A list that building accepts, with its tables, in buffers with so much room and B2e with some; each may be longer still.
-   The run stays where it is in memory until it is dropped. */
+/* A list that building accepts, with its tables, in buffers with so much room and B2e with some; each may be longer
+   still. The run stays where it is in memory until it is dropped. */
 void start_run(struct run *run, const struct list *list, struct room room, struct dice *dice);
 void drop_run(struct run *run);
 
-/* Each makes the edit with this code. Where it answers, the buffers hold what it left, which is what it must be; a split
-   and a contraction change k and the number of edges as they must. */
+/* Each makes the edit with this code. Where it answers, the buffers hold what it left, which is what it must be; a
+   split and a contraction change k and the number of edges as they must. */
 struct answer swap_in_run(struct run *run, uint32_t code);
 struct answer split_in_run(struct run *run, uint32_t code);
 struct answer contract_in_run(struct run *run, uint32_t code);

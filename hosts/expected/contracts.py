@@ -1,7 +1,7 @@
-# What crates/contract_cases must write, worked out from the rules that docs/TRACE.md quotes: every pair of sides and every
-# pair of elements is looked at, neighbours are sets, and rows are known by the numbers of their elements. Of the crate only
-# its cases are read.
-# From the top folder: python3 hosts/expected/contracts.py crates/contract_cases/stdin | cmp - crates/contract_cases/stdout
+# What crates/contract_cases must write, worked out from the rules that docs/TRACE.md quotes: every pair of sides and
+# every pair of elements is looked at, neighbours are sets, and rows are known by the numbers of their elements. Of the
+# crate only its cases are read. From the top folder:
+# python3 hosts/expected/contracts.py crates/contract_cases/stdin | cmp - crates/contract_cases/stdout
 import sys
 sys.dont_write_bytecode=True
 from edits import MOST,POINTS,bits,corners,edge,held,holds,print_cases,refusal,sides,written
