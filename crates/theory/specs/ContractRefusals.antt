@@ -33,7 +33,7 @@ use Rattle.theory.specs.ContractTests.{Third, means-third, means-pinches
 use Rattle.theory.specs.Coarsening.{Stays, Coarsened, mergedTo, renumbered}
 
 -- u and v are one, or the two ends of the edge
-data Merged (a b u v : ℕ) : Type 0 where
+pub data Merged (a b u v : ℕ) : Type 0 where
   equal : u ≡ v → Merged a b u v
   forth : u ≡ a → v ≡ b → Merged a b u v
   back : u ≡ b → v ≡ a → Merged a b u v
@@ -140,7 +140,7 @@ module _ (n : ℕ) (L N : List ℕ) (old : Accepted n L) (s : ℕ) (x : Splittab
     other-cut = record { side = across .0; is = inr refl }
 
   -- a side that joins a and b is of a triangle on the edge
-  no-edge : (r : ℕ) → Runs L r a b ⊎ Runs L r b a → Stays L s (r / 8) → ⊥
+  pub no-edge : (r : ℕ) → Runs L r a b ⊎ Runs L r b a → Stays L s (r / 8) → ⊥
   no-edge r (inl y) k = k s mine (ap (λ (u : ℕ). u / 8) (lone n L g r s (y .side) (x .side) (y .from) (y .to)))
   no-edge r (inr y) k =
       let d : s ≡ r → ⊥ = λ e. ends (ap (origin L) e ∙ y .from) in
@@ -200,7 +200,7 @@ module _ (n : ℕ) (L N : List ℕ) (old : Accepted n L) (s : ℕ) (x : Splittab
   ]
 
   -- two vertices that get one number
-  one-number : (u v : ℕ) → renumbered n L s u ≡ renumbered n L s v → Merged a b u v
+  pub one-number : (u v : ℕ) → renumbered n L s u ≡ renumbered n L s v → Merged a b u v
   one-number u v e =
       let (p, q) : Instead b a u (mergedTo L s u) × Instead b a v (mergedTo L s v) = (instead-is b a u, instead-is b a v) in
       same-merged p q (same-last (not-merged ends p) (not-merged ends q) (instead-is n b (mergedTo L s u)) (instead-is n b (mergedTo L s v)) e)

@@ -47,6 +47,7 @@ pub mod Contracting
 pub mod ContractTests
 pub mod Pinching
 pub mod Using
+pub mod Unpinched
 pub mod ContractRefusals
 pub mod Rejoining
 pub mod SplitBack
@@ -60,6 +61,8 @@ pub mod Reaching
 pub mod Holes
 pub mod Built
 pub mod Rims
+pub mod ContractBorders
+pub mod ContractCounts
 pub mod Rings
 pub mod Opposites
 pub mod Loops

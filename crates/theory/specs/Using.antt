@@ -117,7 +117,7 @@ module _ (n : ℕ) (L : List ℕ) (fit : Fit n L) (s : ℕ) (x : Splittable L s)
           ]
 
   -- an element goes or stays
-  goes-or-stays : (f : ℕ) → ((r : ℕ) × Cut L s r × (f ≡ r / 8)) ⊎ Stays L s f
+  pub goes-or-stays : (f : ℕ) → ((r : ℕ) × Cut L s r × (f ≡ r / 8)) ⊎ Stays L s f
   goes-or-stays f = go (decide (means-eq f (s / 8))) (decide (means-both (means-itself (isSide L t)) (means-eq f (t / 8))))
     where
       go : (f ≡ s / 8) ⊎ (f ≡ s / 8 → ⊥) → (Side L t × (f ≡ t / 8)) ⊎ (Side L t × (f ≡ t / 8) → ⊥)
