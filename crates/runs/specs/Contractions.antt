@@ -2,93 +2,39 @@
 -- What every edit promises stands in `Edits`.
 -- Assumes nothing.
 use mathlib.Core.Path.{_≡_, ap, sym, _∙_}
-use mathlib.Core.Bool.{Bool, true, false}
+use mathlib.Core.Bool.{Bool, true}
 use mathlib.Core.Logic.{_⊎_, inl, inr, _↔_}
 use mathlib.Core.List.{List}
-use Prim.Native.Nat.{ℕ, _+_, _*_, _-_, _/_, _≤_, _<_}
+use Prim.Native.Nat.{ℕ, _+_, _*_, _-_, _≤_, _<_}
 use native.Mathlib.Omega.{arith}
 use native.Mathlib.Nat.{mul-le-mul-left}
 use lib.Dec.{T}
 use lib.Ieee.{Float}
 use lib.ListN.{length}
 use Rattle.lists.specs.TestLaws.{true-of, false-of, decide, means-not, means-eq}
-use Rattle.rules.specs.Elements.{elements, Side, origin, destination}
+use Rattle.rules.specs.Elements.{elements, origin, destination}
 use Rattle.rules.specs.Pairing.{Accepted, sizesFit}
 use Rattle.rules.specs.Tables.{partner, borders, columns, edges}
 use Rattle.rules.specs.Refusals.{Answer, gives, refused, Buffers, buildLengths, listAnswer, roomCheck, after}
 use Rattle.rules.specs.Queries.{Mesh}
 use Rattle.rules.specs.Edits.{Edited, becomes, refuses, Lent, held, isThere, editSizes, editLengths}
 use Rattle.rules.specs.Split.{isSplittable, hasPoints}
-use Rattle.rules.specs.Contract.{merged, contracted, pinches, strands, contract, withoutPoint, contractPoints}
+use Rattle.rules.specs.Contract.{merged, contracted, contract, withoutPoint, contractPoints}
 use Rattle.theory.specs.FitRows.{Fit, means-sizes}
-use Rattle.theory.specs.Steps.{next-side}
 use Rattle.theory.specs.Answers.{room-short, accepted-answer}
 use Rattle.theory.specs.Orders.{Good, good}
 use Rattle.theory.specs.Splitting.{Splittable, means-splittable}
-use Rattle.theory.specs.ContractTests.{Neighbours, Third, means-third, means-pinches, gone, unfit, pinched, stranded, contracts, refuses-by, becomes-contracted}
-use Rattle.theory.specs.Using.{Used, means-used, means-strands}
-use Rattle.theory.specs.Coarsening.{Stays, mergedTo}
-use Rattle.theory.specs.Contracting.{merged-coarsened, contracted-coarsened, contracted-border, contracted-inner, contracted-columns}
+use Rattle.theory.specs.ContractTests.{Neighbours, Third, gone, unfit, pinched, stranded, contracts, refuses-by, becomes-contracted}
+use Rattle.theory.specs.Using.{Used}
+use Rattle.theory.specs.Contracting.{contracted-coarsened, contracted-columns}
+use Rattle.theory.specs.Unpinched.{Unpinched, KeepsUsed, pinched-by, unpinched, says-unpinched, stranded-by, keeps-used, says-used}
 use Rattle.theory.specs.ContractRefusals.{contracted-refused}
+use Rattle.theory.specs.SplitCounts.{Grown}
+use Rattle.theory.specs.ContractCounts.{fallen-inner, fallen-border}
 use Rattle.runs.specs.Runs.{BuildRun, RecoverRun, ContractRun, LeftBy}
 use Rattle.runs.specs.Demand3.{list-counted}
 use Rattle.runs.specs.Edits as edits
 use Rattle.runs.specs.Edits.{There, means-there, meshIn, Cleared, Untouched}
-
--- the ends of side s, a and b, have no common neighbour but the third corners of the triangles on it
-abbrev pub Unpinched : List ℕ → ℕ → Type 0
-Unpinched L s = (v : ℕ) → Neighbours L (origin L s) v → Neighbours L (destination L s) v → Third L s v
-
--- every vertex but b that was used is used still, once b is merged into a
-abbrev pub KeepsUsed : List ℕ → ℕ → Type 0
-KeepsUsed L s = (v : ℕ) → (v ≡ destination L s → ⊥) → Used L v → Used (merged L s) v
-
--- what the tests of 20 and 21 say of a list with fit rows
-module _ (n : ℕ) (L : List ℕ) (fit : Fit n L) (s : ℕ) where
-  neighbour-in : {u v : ℕ} → Neighbours L u v → (1 ≤ v) × (v ≤ n)
-  neighbour-in (r, inl x) =
-      let q = next-side L r (x .side) in
-      (omega (arith, fit .from _ q, x .to), omega (arith, fit .to _ q, x .to))
-  neighbour-in (r, inr x) = (omega (arith, fit .from r (x .side), x .from), omega (arith, fit .to r (x .side), x .from))
-
-  pub pinched-by : (v : ℕ) → Neighbours L (origin L s) v → Neighbours L (destination L s) v → (Third L s v → ⊥) → pinches n L s ≡ true
-  pinched-by v f g no-third =
-      let (l, h) = neighbour-in f in
-      true-of (pinches n L s)
-      (means-pinches n L s .shows (v, record { from = l; to = h; of-origin = f; of-destination = g; no-third = no-third }))
-
-  pub unpinched : Unpinched L s → pinches n L s ≡ false
-  unpinched f =
-      false-of (pinches n L s)
-      (means-not (means-pinches n L s) .shows (λ (v, x). x .no-third (f v (x .of-origin) (x .of-destination))))
-
-  pub says-unpinched : pinches n L s ≡ false → Unpinched L s
-  says-unpinched e v f g = elim (decide (means-third L s v)) [
-    | inl t ↦ t
-    | inr d ↦ let z = sym (pinched-by v f g d) ∙ e in let y : _≡_ {A = ℕ} 0 1 = cc in absurd (omega arith)
-  ]
-
-  pub stranded-by : (v : ℕ) → (v ≡ destination L s → ⊥) → Used L v → (Used (merged L s) v → ⊥) → strands n L s ≡ true
-  stranded-by v d (q, (a, e)) left =
-      true-of (strands n L s)
-      (means-strands n L s .shows
-      (v, record { from = omega (arith, fit .from q a); to = omega (arith, fit .to q a); other = d; used = (q, (a, e)); left = left }))
-
-  pub keeps-used : KeepsUsed L s → strands n L s ≡ false
-  keeps-used f =
-      false-of (strands n L s) (means-not (means-strands n L s) .shows (λ (v, x). x .left (f v (x .other) (x .used))))
-
-  pub says-used : strands n L s ≡ false → KeepsUsed L s
-  says-used e v d u = elim (decide (means-used (merged L s) v)) [
-    | inl t ↦ t
-    | inr left ↦ let z = sym (stranded-by v d u left) ∙ e in let y : _≡_ {A = ℕ} 0 1 = cc in absurd (omega arith)
-  ]
-
-  -- a vertex is left unused where no element that stays has it for a corner; b counts as a
-  pub left-unused : Splittable L s → (v : ℕ) → ((q : ℕ) → Side L q → mergedTo L s (origin L q) ≡ v → Stays L s (q / 8) → ⊥) → Used (merged L s) v → ⊥
-  left-unused x v none (q, (i, e)) =
-      let c = merged-coarsened n L fit s x in
-      none (c .old q) (c .side q i) (sym (c .from q i) ∙ e) (c .stays q i)
 
 -- a list that comes of an accepted one has fit sizes
 pub contract-sizes : (n : ℕ) (L : List ℕ) (s : ℕ) {n′ : ℕ} {L′ : List ℕ} → Accepted n L → contract n L s ≡ becomes n′ L′ → T (sizesFit n′ L′)
@@ -283,18 +229,32 @@ module _ (w : Lent) (P : List Float) (s : ℕ) (a : Answer) (w′ : Lent) (P′ 
         let side = y .splittable .side in
         omega (arith, edits.same-n x w a w′ (run .edit) gave made accepted (y .borders-are), g .fit .from s side, g .fit .to s side)
 
-    -- and m by one on a border edge, by two on an inner one
-    rows-now : w′ .m ≡ elements L′
-    rows-now = edits.same-m x w a w′ (run .edit) gave made accepted (y .borders-are)
-
     rows-then : elements L ≡ w .m
     rows-then = edits.held-rows w _ (y .sizes) (y .lengths) .1
 
-    pub border-falls : partner L s ≡ 0 → w′ .m + 1 ≡ w .m
-    border-falls z = omega (arith, rows-now, rows-then, contracted-border n L (g .fit) s (y .splittable) z)
+    -- n, m, k and the number of edges fall by 1, 2, 0 and 3 on an inner edge, and by 1, 1, 1 and 2 on a border edge
+    pub record FallenBy (m′ k′ e′ : ℕ) : Type 0 where
+      pub vertices : w′ .n + 1 ≡ n
+      pub elements : w′ .m + m′ ≡ w .m
+      pub borders : k + k′ ≡ borders L
+      pub edges : e + e′ ≡ edges L
 
-    pub inner-falls : (partner L s ≡ 0 → ⊥) → w′ .m + 2 ≡ w .m
-    inner-falls z = omega (arith, rows-now, rows-then, contracted-inner n L (g .fit) s (y .splittable) z)
+    fallen-by : {m′ k′ e′ : ℕ} → Grown L′ L m′ k′ e′ → FallenBy m′ k′ e′
+    fallen-by z =
+        record {
+          vertices = vertices-fall;
+          elements = omega (arith, edits.same-m x w a w′ (run .edit) gave made accepted (y .borders-are), rows-then, z .elements-by);
+          borders = omega (arith, y .borders-are, z .borders-by);
+          edges = omega (arith, y .edges-are, z .edges-by);
+        }
+
+    pub inner-falls : (partner L s ≡ 0 → ⊥) → FallenBy 2 0 3
+    inner-falls z =
+        fallen-by (fallen-inner n L (y .old) s (y .splittable) (unpinched n L (g .fit) s (y .free)) (keeps-used n L (g .fit) s (y .kept)) z)
+
+    pub border-falls : partner L s ≡ 0 → FallenBy 1 1 2
+    border-falls z =
+        fallen-by (fallen-border n L (y .old) s (y .splittable) (unpinched n L (g .fit) s (y .free)) (keeps-used n L (g .fit) s (y .kept)) z)
 
     -- "Entries between the new and the old length become 0, but not in B2e", and what lies past the old lengths stays untouched
     pub cleared : Cleared w w′
