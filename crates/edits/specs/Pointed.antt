@@ -13,7 +13,7 @@ use Rattle.rules.specs.Split.{hasPoints}
 use Rattle.theory.specs.Calls as calls
 use Rattle.edits.specs.Holding.{holds}
 use Rattle.edits.specs.Leaving as leaving
-use Rattle.edits.specs.Leaving.{after-refusal, after-answer, Left, refused-left, work-apart, rest, leavesBy, unsized, unlengthened}
+use Rattle.edits.specs.Leaving.{after-refusal, after-answer, Left, work-apart, rest, leavesBy, unsized, unlengthened}
 
 -- check 2, by the points and by the other lengths
 module _ (w : Lent) where
@@ -54,15 +54,14 @@ module _ (w : Lent) (P : List Float) (x : Edited) (new : List Float) where
       unfolding onceAccepted
       stated = of-edit ∙ ap (λ (y : Answer). onceAccepted y (newAnswer (length (w .border)) x)) (sym (sym said ∙ counts))
 
+      pub edit-tried : {w′ : Lent} {P′ : List Float} → w′ ≡ after a (written w₀ x) w₀ → P′ ≡ after a new P → Outcome a w′ P′
+      edit-tried l p = record { left = record { answer = stated; leaves = l }; points = p }
+
       pub edit-refused : {r i j : ℕ} → a ≡ refused r i j → Outcome a w₀ P
-      edit-refused e = record { left = refused-left e stated; points = sym (after-refusal new P e) }
+      edit-refused e = edit-tried (sym (after-refusal (written w₀ x) w₀ e)) (sym (after-refusal new P e))
 
       pub edit-made : {i j : ℕ} {w′ : Lent} {P′ : List Float} → a ≡ gives i j → w′ ≡ written w₀ x → P′ ≡ new → Outcome a w′ P′
-      edit-made g l p =
-          record {
-            left = record { answer = stated; leaves = l ∙ sym (after-answer (written w₀ x) w₀ g) };
-            points = p ∙ sym (after-answer new P g);
-          }
+      edit-made g l p = edit-tried (l ∙ sym (after-answer (written w₀ x) w₀ g)) (p ∙ sym (after-answer new P g))
 
   -- the whole call
   abbrev pub Whole : Answer → Lent → List Float → Type 0

@@ -106,7 +106,7 @@ fn is_used(list: &[u32], v: u32) -> bool
     false
 }
 
-// Whether each of three vertices is.
+// Whether each of three vertices is a corner of some element.
 pub fn all_used(list: &[u32], a: u32, c: u32, d: u32) -> bool
     requires { ⌜ (1 ≤ a) × (1 ≤ c) × (1 ≤ d) × (length (now list) ≡ 4 * elements (now list)) ⌝ }
     ensures { λ r. ⌜ r ≡ allUsed (now (list .entry)) a c d ⌝ }

@@ -8,34 +8,16 @@ use Prim.Native.Nat.{ℕ, _+_, _-_, _≤_, _<_}
 use native.Mathlib.Omega.{arith}
 use lib.Dec.{eqb}
 use Rattle.lists.specs.Tests.{both, either}
-use Rattle.lists.specs.TestLaws.{Means, means-one, means-both, means-either, means-not, means-eq}
+use Rattle.lists.specs.TestLaws.{Means, means-true, means-false, means-one, means-both, means-either, means-not, means-eq}
 use Rattle.lists.specs.Search.{at}
-use Rattle.rules.specs.Elements.{next}
 use Rattle.rules.specs.Contract.{isNeighbour}
 use Rattle.theory.specs.Least.{means-some-number}
-use Rattle.theory.specs.Steps.{next-side}
 use Rattle.theory.specs.FitRows.{Fit}
 use Rattle.theory.specs.Triangles.{Runs}
 use Rattle.theory.specs.Coarsening.{pinchesBy}
-use Rattle.theory.specs.ContractTests.{Neighbours, means-neighbour}
+use Rattle.theory.specs.ContractTests.{Neighbours, means-neighbour, neighbour-in}
 use Rattle.pinched.specs.Marks.{Marked, Joined, joined-to, joined-parts}
 use Rattle.pinched.specs.Corners.{Other, joined-itself, itself-joined}
-
-pub means-true : {P : Type 0} → P → Means true P
-means-true p = record { says = λ t. p; shows = λ q. tt }
-
-pub means-false : {P : Type 0} → (P → ⊥) → Means false P
-means-false f = record { says = λ t. absurd t; shows = f }
-
-pub means-by : {b : Bool} {P Q : Type 0} → Means b P → (P → Q) → (Q → P) → Means b Q
-means-by m f g = record { says = λ t. f (m .says t); shows = λ q. m .shows (g q) }
-
--- what a test that was passed, or failed, says
-pub passed : {b : Bool} {P : Type 0} → Means b P → b ≡ true → P
-passed m e = m .says (rw e tt)
-
-pub failed : {b : Bool} {P : Type 0} → Means b P → b ≡ false → P → ⊥
-failed m e p = rw e at (m .shows p)
 
 -- v is a vertex that M marks, other than c and d
 pub record Counts (M : List ℕ) (c d v : ℕ) : Type 0 where
@@ -94,7 +76,7 @@ module _ (n : ℕ) (L : List ℕ) (fit : Fit n L) (a b c d : ℕ) {M N : List �
   pinched-is m =
       means-one m (means-some-number n _)
       (λ (v, y, k).
-      let h = neighbour-fits v y in
+      let (_, h) = neighbour-in fit y in
       (v, k .from, h, each v .shows (marked-neighbour v (k .from) h (k .marked), (y, λ e. elim e [ inl z ↦ k .not-c z | inr z ↦ k .not-d z ]))))
       (λ (v, h, k, t).
       let (x, (y, z)) = each v .says t in
@@ -102,7 +84,3 @@ module _ (n : ℕ) (L : List ℕ) (fit : Fit n L) (a b c d : ℕ) {M N : List �
     where
       each : (v : ℕ) → Means (both (isNeighbour L a v) (both (isNeighbour L b v) (not (either (eqb v c) (eqb v d))))) (Neighbours L a v × (Neighbours L b v × (((v ≡ c) ⊎ (v ≡ d)) → ⊥)))
       each v = means-both (means-neighbour L a v) (means-both (means-neighbour L b v) (means-not (means-either (means-eq v c) (means-eq v d))))
-
-      neighbour-fits : (v : ℕ) → Neighbours L b v → v ≤ n
-      neighbour-fits v (s, inl q) = omega (arith, q .to, fit .to (next L s) (next-side L s (q .side)))
-      neighbour-fits v (s, inr q) = omega (arith, q .from, fit .to s (q .side))

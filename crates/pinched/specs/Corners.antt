@@ -6,7 +6,7 @@ use mathlib.Core.List.{List}
 use Prim.Native.Nat.{ℕ, _+_, _*_, _/_, _%_, _≤_, _<_}
 use native.Mathlib.Omega.{arith}
 use Rattle.lists.specs.TestLaws.{zero-or}
-use Rattle.rules.specs.Elements.{row, corner, sides, origin, next, nextNumber}
+use Rattle.rules.specs.Elements.{row, sides, origin, next, nextNumber}
 use Rattle.rules.specs.Pairing.{Element}
 use Rattle.theory.specs.Steps.{wraps, grows, NextNumber, next-number, next-numbered, next-side}
 use Rattle.theory.specs.FitRows.{Fit}

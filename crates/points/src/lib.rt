@@ -69,7 +69,7 @@ pub fn place_midpoint(points: &mut [f64], n: u32, a: u32, b: u32)
     put_point(n, midpoint(p, q), points);
 }
 
-// The last of n points takes the place of that of vertex b, and zeros its own.
+// The last of n points takes the place of that of vertex b, and zeros take its own.
 pub fn close_point(points: &mut [f64], n: u32, b: u32)
     requires { ⌜ (1 ≤ b) × (b ≤ n) × (3 * n ≤ length (now points)) ⌝ }
     ensures { λ r. ⌜ now (points .exit) ≡ withoutPoint n b (now (points .entry)) ⌝ }

@@ -552,15 +552,15 @@ contractions =
     contractMakes 4 listing 32 (refuses 15) ∷
     contractMakes 5 mixed 11 (refuses 15) ∷
     contractMakes 5 mixed 18 (refuses 15) ∷
-    -- "20: a and b have a common neighbour that is not a third corner of those triangles", 3 by the rim; before 21, with a triangle 1 and 2 and 7
-    -- beyond the edge; a diagonal makes no neighbour
+    -- "20: a and b have a common neighbour that is not a third corner of those triangles", 3 by the rim; before 21, with a triangle 2, 1, 7 beyond
+    -- the edge; a diagonal makes no neighbour
     contractMakes 6 band 9 (refuses 20) ∷
     contractMakes 7 (band ++ tri 2 1 7) 9 (refuses 20) ∷
     contractMakes 5 (tri 1 2 3 ++ tri 1 3 4 ++ quad 3 2 5 4) 9 (becomes 4 (quad 3 1 2 4 ++ tri 1 3 4)) ∷
-    -- "21: a vertex that was used would be left unused": all, a third corner, and that of the partner; not one that was spare
+    -- "21: a vertex that was used would be left unused": all, the side's own third corner, and that of its partner; not one that was spare
     contractMakes 3 (tri 1 2 3) 9 (refuses 21) ∷
-    contractMakes 4 listing 11 (refuses 21) ∷
     contractMakes 5 (listing ++ tri 1 4 5) 11 (refuses 21) ∷
+    contractMakes 5 (listing ++ tri 1 4 5) 17 (refuses 21) ∷
     contractMakes 5 listing 18 (becomes 4 (tri 1 2 3)) ∷
     -- the whole call: "Entries between the new and the old length become 0, but not in B2e", and of the points
     contractIs 5 wheel 9 1 3 6 (tri 4 1 2 ++ tri 1 3 2 ++ tri 3 4 2) (0 ∷ 1 ∷ 2 ∷ 12 ∷ 13 ∷ 14 ∷ 6 ∷ 7 ∷ 8 ∷ 9 ∷ 10 ∷ 11 ∷ 0 ∷ 0 ∷ 0 ∷ 15 ∷ []) ∷

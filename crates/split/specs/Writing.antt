@@ -1,7 +1,6 @@
 -- Nothing refuses: the midpoint, the new rows and their tables are written.
 -- Assumes nothing.
 use mathlib.Core.Path.{_≡_, ap, sym, _∙_}
-use mathlib.Core.Logic.{_⊎_, inl, inr}
 use mathlib.Core.List.{List, []}
 use Prim.Native.Nat.{ℕ, _+_, _*_, _≤_}
 use native.Mathlib.Omega.{arith}
@@ -21,16 +20,12 @@ use Rattle.theory.specs.Edits.{onto-front, onto-length, over-longer}
 use Rattle.theory.specs.Splitting.{split-fours, same-columns}
 use Rattle.theory.specs.SplitAnswers.{split-answer}
 use Rattle.theory.specs.SplitTests.{vertex, new}
-use Rattle.edits.specs.Holding.{lentEdit}
+use Rattle.edits.specs.Holding.{lentEdit, more-entries}
 use Rattle.edits.specs.Leaving.{after-answer}
 use Rattle.edits.specs.HeldRows.{held-elements, held-side, held-origin, held-destination}
 use Rattle.edits.specs.Fronts.{Fitting, Fronted}
 use Rattle.split.specs.NewRows.{ToSplit, grown}
 use Rattle.split.specs.Stages.{ToWrite, Written}
-
-more-entries : (c : ℕ) {m m′ : ℕ} → (c ≡ 3) ⊎ (c ≡ 4) → m ≤ m′ → c * m ≤ c * m′
-more-entries c (inl e) h = rw e (omega arith)
-more-entries c (inr e) h = rw e (omega arith)
 
 module _ (w : Lent) (P : List Float) {s t m′ : ℕ} (x : ToWrite w P s t m′) where
   abbrev L : List ℕ

@@ -26,7 +26,7 @@ use Rattle.theory.specs.Triangles.{Runs, TriangleSide, next-runs, previo
 use Rattle.theory.specs.Orders.{Good, good, lone}
 use Rattle.theory.specs.Diamonds.{corners}
 use Rattle.theory.specs.Refining.{Cut}
-use Rattle.theory.specs.Splitting.{Splittable}
+use Rattle.theory.specs.Splitting.{Splittable, triangle-of}
 use Rattle.theory.specs.Answers.{check-clear, refused-here, fit-rows-clear, gives-refused}
 use Rattle.theory.specs.Renaming.{Instead, becomes, stays, instead-is}
 use Rattle.theory.specs.ContractTests.{Third, means-third, means-pinches}
@@ -120,7 +120,7 @@ module _ (n : ℕ) (L N : List ℕ) (old : Accepted n L) (s : ℕ) (x : Splittab
 
   one : TriangleSide L s a b (third L s)
   unfolding third
-  one = record { runs = record { side = x .side; from = refl; to = refl }; third = refl; triangle = x .triangle }
+  one = triangle-of L s (x .side) (x .triangle)
 
   -- the triangle beyond the edge
   module _ (z : partner L s ≡ 0 → ⊥) where
@@ -129,9 +129,9 @@ module _ (n : ℕ) (L N : List ℕ) (old : Accepted n L) (s : ℕ) (x : Splittab
         let (c, o) = partner-opposed L s z in
         let (e, f) = means-opposed L s (partner L s) .says o in (c, e, f)
 
-    beyond : TriangleSide L (partner L s) b a (third L (partner L s))
+    other-triangle : TriangleSide L (partner L s) b a (third L (partner L s))
     unfolding third
-    beyond =
+    other-triangle =
         let (c, e, f) = across in
         let three : sides L (partner L s / 8) ≡ 3 = elim (x .across) [ inl i ↦ absurd (z i) | inr i ↦ i ] in
         record { runs = record { side = c; from = sym f; to = sym e }; third = refl; triangle = three }
@@ -237,7 +237,7 @@ module _ (n : ℕ) (L N : List ℕ) (old : Accepted n L) (s : ℕ) (x : Splittab
           | inl e ↦ goes mine (next-numbered L s (x .side) .same) (next-runs one) w (rw e at z) l
           | inr (p, e) ↦
               let c = other-cut p in
-              goes c (next-numbered L (partner L s) (c .side) .same) (next-runs (beyond p)) q (rw e at o) k
+              goes c (next-numbered L (partner L s) (c .side) .same) (next-runs (other-triangle p)) q (rw e at o) k
         ]
 
     -- and of a side to a and one to b from the same vertex
@@ -247,7 +247,7 @@ module _ (n : ℕ) (L N : List ℕ) (old : Accepted n L) (s : ℕ) (x : Splittab
           | inl e ↦ goes mine (previous-numbered L s (x .side) .same) (previous-runs one) q (rw e at o) k
           | inr (p, e) ↦
               let c = other-cut p in
-              goes c (previous-numbered L (partner L s) (c .side) .same) (previous-runs (beyond p)) w (rw e at z) l
+              goes c (previous-numbered L (partner L s) (c .side) .same) (previous-runs (other-triangle p)) w (rw e at z) l
         ]
 
     abbrev was : ℕ → ℕ

@@ -17,6 +17,8 @@ use Rattle.rules.specs.Swap.{third}
 use Rattle.rules.specs.Split.{isSplittable}
 use Rattle.rules.specs.Contract.{contracted, isNeighbour, isThird, pinches, strands, contract}
 use Rattle.theory.specs.Least.{means-some, means-some-number}
+use Rattle.theory.specs.Steps.{next-side}
+use Rattle.theory.specs.FitRows.{Fit}
 use Rattle.theory.specs.Entries.{means-border}
 use Rattle.theory.specs.Triangles.{Runs}
 use Rattle.theory.specs.Splitting.{Splittable, means-splittable}
@@ -24,6 +26,13 @@ use Rattle.theory.specs.Splitting.{Splittable, means-splittable}
 -- a side joins u and v
 abbrev pub Neighbours : List ℕ → ℕ → ℕ → Type 0
 Neighbours L u v = (r : ℕ) × (Runs L r u v ⊎ Runs L r v u)
+
+-- and it is a vertex
+pub neighbour-in : {n : ℕ} {L : List ℕ} → Fit n L → {u v : ℕ} → Neighbours L u v → (1 ≤ v) × (v ≤ n)
+neighbour-in {L = L} fit (r, inl x) =
+    let q = next-side L r (x .side) in
+    (omega (arith, fit .from _ q, x .to), omega (arith, fit .to _ q, x .to))
+neighbour-in fit (r, inr x) = (omega (arith, fit .from r (x .side), x .from), omega (arith, fit .to r (x .side), x .from))
 
 pub means-neighbour : (L : List ℕ) (u v : ℕ) → Means (isNeighbour L u v) (Neighbours L u v)
 unfolding isNeighbour

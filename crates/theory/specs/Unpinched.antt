@@ -4,16 +4,15 @@ use mathlib.Core.Path.{_≡_, sym, _∙_}
 use mathlib.Core.Bool.{true, false}
 use mathlib.Core.Logic.{inl, inr}
 use mathlib.Core.List.{List}
-use Prim.Native.Nat.{ℕ, _/_, _≤_}
+use Prim.Native.Nat.{ℕ, _/_}
 use native.Mathlib.Omega.{arith}
 use Rattle.lists.specs.TestLaws.{true-of, false-of, decide, means-not}
 use Rattle.rules.specs.Elements.{Side, origin, destination}
 use Rattle.rules.specs.Contract.{merged, pinches, strands}
 use Rattle.theory.specs.FitRows.{Fit}
-use Rattle.theory.specs.Steps.{next-side}
 use Rattle.theory.specs.Splitting.{Splittable}
 use Rattle.theory.specs.Coarsening.{Stays, mergedTo}
-use Rattle.theory.specs.ContractTests.{Neighbours, Third, means-third, means-pinches}
+use Rattle.theory.specs.ContractTests.{Neighbours, neighbour-in, Third, means-third, means-pinches}
 use Rattle.theory.specs.Using.{Used, means-used, means-strands}
 use Rattle.theory.specs.Contracting.{merged-coarsened}
 
@@ -27,15 +26,9 @@ KeepsUsed L s = (v : ℕ) → (v ≡ destination L s → ⊥) → Used L v → U
 
 -- what the tests of 20 and 21 say of a list with fit rows
 module _ (n : ℕ) (L : List ℕ) (fit : Fit n L) (s : ℕ) where
-  neighbour-in : {u v : ℕ} → Neighbours L u v → (1 ≤ v) × (v ≤ n)
-  neighbour-in (r, inl x) =
-      let q = next-side L r (x .side) in
-      (omega (arith, fit .from _ q, x .to), omega (arith, fit .to _ q, x .to))
-  neighbour-in (r, inr x) = (omega (arith, fit .from r (x .side), x .from), omega (arith, fit .to r (x .side), x .from))
-
   pub pinched-by : (v : ℕ) → Neighbours L (origin L s) v → Neighbours L (destination L s) v → (Third L s v → ⊥) → pinches n L s ≡ true
   pinched-by v f g no-third =
-      let (l, h) = neighbour-in f in
+      let (l, h) = neighbour-in fit f in
       true-of (pinches n L s)
       (means-pinches n L s .shows (v, record { from = l; to = h; of-origin = f; of-destination = g; no-third = no-third }))
 

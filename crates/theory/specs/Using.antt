@@ -20,7 +20,7 @@ use Rattle.theory.specs.Entries.{means-border}
 use Rattle.theory.specs.Triangles.{TriangleSide, itself, after, before, around, next-runs, previous-runs}
 use Rattle.theory.specs.Refining.{Cut}
 use Rattle.theory.specs.Swapping.{across, starts, ends}
-use Rattle.theory.specs.Splitting.{Splittable, split-diagonal}
+use Rattle.theory.specs.Splitting.{Splittable, split-diagonal, triangle-of}
 use Rattle.theory.specs.Diamonds.{runs-differ}
 use Rattle.theory.specs.Renaming.{instead-other}
 use Rattle.theory.specs.Coarsening.{Stays, Coarsened, mergedTo, beyond, allUsed}
@@ -128,7 +128,7 @@ module _ (n : ℕ) (L : List ℕ) (fit : Fit n L) (s : ℕ) (x : Splittable L s)
 
   triangle : (r : ℕ) → Side L r → sides L (r / 8) ≡ 3 → TriangleSide L r (origin L r) (destination L r) (third L r)
   unfolding third
-  triangle r i e = record { runs = record { side = i; from = refl; to = refl }; third = refl; triangle = e }
+  triangle = triangle-of L
 
   -- each of them was used, and isn't b
   mine-kept : Used L c × (c ≡ b → ⊥)

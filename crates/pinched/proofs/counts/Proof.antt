@@ -2,7 +2,8 @@
 -- Assumes nothing.
 use native.Mathlib.Omega.{arith}
 use borrow.Author.Needs.{needs}
-use Rattle.pinched.specs.Common.{means-false, counts-by}
+use Rattle.lists.specs.TestLaws.{means-false}
+use Rattle.pinched.specs.Common.{counts-by}
 use Rattle.pinched.proofs.counts.Statement.{statement}
 use Rattle.pinched.proofs.counts.Tie as tie
 

@@ -4,11 +4,12 @@ use mathlib.Core.Path.{_≡_}
 use Prim.Native.Nat.{_+_, _*_, _-_, _≤_}
 use native.Mathlib.Omega.{arith}
 use borrow.Author.Needs.{needs}
+use Rattle.lists.specs.TestLaws.{means-true, means-by, passed, failed}
 use Rattle.halfedge.specs.Rows.{cornerOf}
 use Rattle.theory.specs.Triangles.{Runs}
 use Rattle.pinched.specs.Marks.{before-first, in-element}
 use Rattle.pinched.specs.Corners.{Read, other-fits, read}
-use Rattle.pinched.specs.Common.{Counts, Met, means-true, means-by, passed, failed, met-in, met-next, unmet-next, means-last}
+use Rattle.pinched.specs.Common.{Counts, Met, met-in, met-next, unmet-next, means-last}
 use Rattle.pinched.proofs.meets_by_element.Statement.{statement}
 use Rattle.pinched.proofs.meets_by_element.Tie as tie
 

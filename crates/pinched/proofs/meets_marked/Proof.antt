@@ -3,8 +3,9 @@
 use Prim.Native.Nat.{_+_, _*_, _-_, _≤_}
 use native.Mathlib.Omega.{arith}
 use borrow.Author.Needs.{needs}
+use Rattle.lists.specs.TestLaws.{means-true, means-false, passed, failed}
 use Rattle.pinched.specs.Marks.{before-all, all-joined}
-use Rattle.pinched.specs.Common.{Counts, Met, means-true, means-false, passed, failed, unmet-both}
+use Rattle.pinched.specs.Common.{Counts, Met, unmet-both}
 use Rattle.pinched.proofs.meets_marked.Statement.{statement}
 use Rattle.pinched.proofs.meets_marked.Tie as tie
 
