@@ -76,7 +76,7 @@ static const struct known known[] = {
     {"a band of three", .n = 6, .m = 4, .rows = {BAND}, .code = 9, PINCHED},
     {"20 before 21", .n = 7, .m = 5, .rows = {BAND, {2, 1, 7, 0}}, .code = 9, PINCHED},
     {"20 before 9", .n = 6, .m = 4, .rows = {BAND}, .code = 9, .b2e_len = 0, .answer = {20, 0, 0}},
-    {"a third corner of one element is none of the edge", .n = 5, .m = 3,
+    {"the third corner alone is common", .n = 5, .m = 3,
      .rows = {{1, 2, 3, 0}, {1, 3, 4, 0}, {3, 2, 5, 0}}, .code = 9, .b2e_len = 4, .answer = {0, 4, 5}, .gone = 2,
      .elements = 2, .contracted = {{3, 1, 2, 0}, {1, 3, 4, 0}}},
     {"two triangles on a tube of three", .n = 6, .m = 6,
@@ -217,7 +217,7 @@ static void check_begins(struct slice now, struct slice held, const char *what) 
 
 static void take_back(struct run *run, uint32_t code) {
     struct mesh old = mesh_left(run->call.given, run->k);
-    struct slice points = copied((struct slice){run->call.given[POINTS].at, 6 * (size_t)old.n});
+    struct slice points = copied((struct slice){run->call.given[POINTS].at, ENTRIES_OF_A_POINT * (size_t)old.n});
     uint32_t size[SIZE_LENGTH] = {run->size[0], run->size[1]};
     if (split_in_run(run, code).refusal == 0) {
         if (contract_in_run(run, code).refusal != 0 || run->k != old.b2e.len)

@@ -43,7 +43,7 @@ const EDGE_UNFIT: Refused = (15, 0, 0);
 const PINCHED: Refused = (20, 0, 0);
 const STRANDED: Refused = (21, 0, 0);
 
-const KNOWN: [Known; 62] = [
+const KNOWN: [Known; 63] = [
     // on the border: b in the middle, b the last vertex, a the last vertex
     (4, &LISTING, 9, Ok(&[[1, 3, 2, 0]])),
     (4, &LISTING, 10, Ok(&[[1, 2, 3, 0]])),
@@ -105,13 +105,14 @@ const KNOWN: [Known; 62] = [
     (9, &HOLE, 9, Err(PINCHED)),
     // 20 before 21
     (5, &[[1, 2, 3, 0], [2, 1, 4, 0], [4, 1, 5, 0], [2, 4, 5, 0]], 9, Err(PINCHED)),
-    // nothing left; one third corner left, or both; 21 before 8
+    // nothing left; the partner's third corner, the own one
     (3, &TRIANGLE, 9, Err(STRANDED)),
     (5, &[[1, 4, 5, 0]], 10, Err(STRANDED)),
     (4, &LISTING, 11, Err(STRANDED)),
     (4, &LISTING, 17, Err(STRANDED)),
     (5, &[[1, 2, 3, 0], [1, 3, 4, 0], [2, 5, 3, 0]], 11, Err(STRANDED)),
     (5, &[[1, 2, 3, 0], [1, 3, 4, 0], [1, 4, 5, 0]], 19, Err(STRANDED)),
+    (5, &[[1, 2, 3, 0], [1, 3, 4, 0], [1, 4, 5, 0]], 11, Err(STRANDED)),
     // two fans: at a, by either side; where a is the last vertex, at the number that it would get
     (6, &STRIP, 25, Err((8, 3, 0))),
     (6, &STRIP, 19, Err((8, 4, 0))),
