@@ -1,7 +1,7 @@
 // An edge contracted and the gaps closed, document 02, point 8.
 ghost use mathlib.Core.Path.{_≡_};
 ghost use mathlib.Core.List.{[]};
-ghost use Prim.Native.Nat.{_+_, _*_, _-_, _≤_};
+ghost use Prim.Native.Nat.{_+_, _*_, _≤_};
 ghost use lib.ListN.{length, take, getD};
 ghost use Rattle.lists.specs.Search.{at};
 ghost use Rattle.rules.specs.Elements.{elements as elementsOf, Side, slot, origin, destination};
@@ -57,7 +57,7 @@ fn third_of(list: &[u32], s: u32) -> u32
     origin_of(list, previous_code(list, s))
 }
 
-// The third corner beyond the edge; t is the entry of s in E2e, its partner or a border half-edge.
+// The third corner beyond the edge of side s; t is its entry in E2e, its partner or a border half-edge.
 fn beyond_of(list: &[u32], s: u32, t: u32) -> u32
     requires { ⌜ Side (now list) s × (t ≡ at (wideOf (now list)) (slot s)) ⌝ }
     ensures { λ r. ⌜ r ≡ beyond (now (list .entry)) s ⌝ }
@@ -68,6 +68,7 @@ fn beyond_of(list: &[u32], s: u32, t: u32) -> u32
     third_of(list, t)
 }
 
+// The edge of side s; t is its entry in E2e.
 fn edge_of(list: &[u32], s: u32, t: u32) -> Edge
     requires { ⌜ Side (now list) s × (t ≡ at (wideOf (now list)) (slot s)) ⌝ }
     ensures { λ r. ⌜ Ends (now (list .entry)) s (r .a) (r .b) (r .c) (r .d) ⌝ }
@@ -192,14 +193,14 @@ fn try_new(
         second: _,
     } = a
     else {
-        copy(&work[end..end], list);
+        copy(&work[end..last], list);
         return a;
     };
     a
 }
 
-// Vertex b goes, and so do the elements from `elements` on: what stood in V2e and E2e between the new lengths and the old ones becomes 0, the
-// point of the last vertex goes to b, and the new n and m are written.
+// n falls by one, and m to `elements`: what stood in V2e and E2e between the new lengths and the old ones becomes 0, and the point of the last
+// vertex goes to b.
 fn close(
     size: &mut [u32; 2],
     elements: u32,
