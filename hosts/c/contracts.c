@@ -1,6 +1,7 @@
 #include "contracts.h"
 
 #include "borzhanu.h"
+#include "editing.h"
 #include "points.h"
 #include "room.h"
 #include "runs.h"
