@@ -61,12 +61,14 @@ module _ {n : ℕ} {L : List ℕ} (fit : Fit n L) {s x y b r : ℕ} (runs : Runs
   unmet-next f g h = unmet-both f (λ x. g (next-met x)) (omega arith) h
 
   -- where none was met before s, the test of r is that of all up to s
-  pub means-last : {lo : ℕ} {q : Bool} → lo ≤ s → (Met L lo s b (Counts M c d) → ⊥) → Means q (Counts M c d r) → Means q (Met L lo (s + 1) b (Counts M c d))
+  pub means-last : {lo : ℕ} {q : Bool} → lo ≤ s → (Met L lo s b (Counts M c d) → ⊥) → Means q (Counts M c d r)
+      → Means q (Met L lo (s + 1) b (Counts M c d))
   means-last {q = true} h f m = means-true (met-in (met-next (m .says tt)) h (omega arith))
   means-last {q = false} h f m = means-false (unmet-next f (m .shows) (omega arith))
 
 -- the neighbours of a were marked in a blank buffer
-module _ (n : ℕ) (L : List ℕ) (fit : Fit n L) (a b c d : ℕ) {M N : List ℕ} (blank : (i : ℕ) → i < n → at M i ≡ 0) (marks : Marked (Neighbours L a) M N) where
+module _ (n : ℕ) (L : List ℕ) (fit : Fit n L) (a b c d : ℕ) {M N : List ℕ} (blank : (i : ℕ) → i < n → at M i ≡ 0)
+    (marks : Marked (Neighbours L a) M N) where
   marked-neighbour : (v : ℕ) → 1 ≤ v → v ≤ n → at N (v - 1) ≡ 1 → Neighbours L a v
   marked-neighbour v h k e =
       elim (marks .only v h e) [ inl z ↦ absurd (omega (arith, blank (v - 1) (omega arith))) | inr x ↦ x ]
@@ -82,5 +84,7 @@ module _ (n : ℕ) (L : List ℕ) (fit : Fit n L) (a b c d : ℕ) {M N : List �
       let (x, (y, z)) = each v .says t in
       (v, y, record { from = h; marked = marks .added v x; not-c = λ e. z (inl e); not-d = λ e. z (inr e) }))
     where
-      each : (v : ℕ) → Means (both (isNeighbour L a v) (both (isNeighbour L b v) (not (either (eqb v c) (eqb v d))))) (Neighbours L a v × (Neighbours L b v × (((v ≡ c) ⊎ (v ≡ d)) → ⊥)))
+      each : (v : ℕ)
+          → Means (both (isNeighbour L a v) (both (isNeighbour L b v) (not (either (eqb v c) (eqb v d)))))
+          (Neighbours L a v × (Neighbours L b v × (((v ≡ c) ⊎ (v ≡ d)) → ⊥)))
       each v = means-both (means-neighbour L a v) (means-both (means-neighbour L b v) (means-not (means-either (means-eq v c) (means-eq v d))))

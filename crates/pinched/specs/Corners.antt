@@ -73,7 +73,8 @@ module _ {n : ℕ} {L : List ℕ} (fit : Fit n L) {s x y a r : ℕ} (runs : Runs
       run (inr (p, q)) = inr (record { side = runs .side; from = runs .from ∙ p; to = runs .to ∙ q })
 
   -- with it, what the sides from lo up to s join to a is marked
-  pub marked-next : {lo hi : ℕ} {M N O : List ℕ} → Marked (Joined L lo s a) M N → Marked (Itself r) N O → lo ≤ s → hi ≡ s + 1 → Marked (Joined L lo hi a) M O
+  pub marked-next : {lo hi : ℕ} {M N O : List ℕ} → Marked (Joined L lo s a) M N → Marked (Itself r) N O → lo ≤ s → hi ≡ s + 1
+      → Marked (Joined L lo hi a) M O
   marked-next p q h e = rw e (marked-range p (marked-by q itself-joined joined-itself) h (omega arith) (omega arith))
 
 -- what the row r of element f, with k sides, tells of its sides: every side but the last runs to the corner that follows, the last to the first
@@ -93,7 +94,8 @@ module _ (L : List ℕ) (f : ℕ) (el : Element L f) {r : List ℕ} (is : r ≡ 
       at-number i a b .its-origin ∙ sym (row-corner L f i a (omega (arith, few L f))) ∙ ap (λ (p : List ℕ). cornerOf p i) (sym is)
 
   -- side i runs from corner i to corner j, where j is the number that follows
-  runs-read : (i j : ℕ) → 1 ≤ i → i ≤ sides L f → 1 ≤ j → j ≤ sides L f → nextNumber (sides L f) i ≡ j → Runs L (8 * f + i) (cornerOf r i) (cornerOf r j)
+  runs-read : (i j : ℕ) → 1 ≤ i → i ≤ sides L f → 1 ≤ j → j ≤ sides L f → nextNumber (sides L f) i ≡ j
+      → Runs L (8 * f + i) (cornerOf r i) (cornerOf r j)
   runs-read i j a b c d e =
       let x = at-number i a b in
       let y = next-numbered L (8 * f + i) (x .is-side) in

@@ -57,7 +57,8 @@ marked-one v M a b =
     only u c e (inr d) = inl (sym (at-other M (v - 1) 1 (u - 1) (λ q. d (omega arith))) ∙ e)
 
 -- first the vertices with P, then those with Q: those with R
-marked-both : {P Q R : ℕ → Type 0} {M N O : List ℕ} → Marked P M N → Marked Q N O → ((v : ℕ) → R v → P v ⊎ Q v) → ((v : ℕ) → P v → R v) → ((v : ℕ) → Q v → R v) → Marked R M O
+marked-both : {P Q R : ℕ → Type 0} {M N O : List ℕ} → Marked P M N → Marked Q N O → ((v : ℕ) → R v → P v ⊎ Q v)
+    → ((v : ℕ) → P v → R v) → ((v : ℕ) → Q v → R v) → Marked R M O
 marked-both {P} {Q} {R} {M} {N} {O} x y f g h =
     record {
       long = y .long ∙ x .long;
@@ -124,7 +125,8 @@ module _ {L : List ℕ} {u v : ℕ} where
       record { side = r; from = omega arith; below = omega (arith, f .element-to); runs = x }
 
 -- the sides up to p, then those from there on
-pub marked-range : {L : List ℕ} {a lo p q hi : ℕ} {M N O : List ℕ} → Marked (Joined L lo p a) M N → Marked (Joined L q hi a) N O → lo ≤ q → q ≤ p → p ≤ hi → Marked (Joined L lo hi a) M O
+pub marked-range : {L : List ℕ} {a lo p q hi : ℕ} {M N O : List ℕ} → Marked (Joined L lo p a) M N → Marked (Joined L q hi a) N O
+    → lo ≤ q → q ≤ p → p ≤ hi → Marked (Joined L lo hi a) M O
 marked-range {L} {a} {lo} {p} {q} {hi} x y h k l =
     marked-both {R = Joined L lo hi a} x y
     (λ v j. joined-parts p q hi k (omega arith) j)

@@ -26,10 +26,12 @@ use Rattle.rules.specs.Queries.{ring, neighbours, nextBorder, loopNext, 
 use Rattle.rules.specs.Queries.{ringAnswer, ringLeaves, neighboursAnswer, neighboursLeaves, borderLoopAnswer, borderLoopLeaves}
 use Rattle.rules.specs.Holes.{lists, broken, HoleBuffers, leastOf, holesUpTo, holeOf, holes, holeCount}
 use Rattle.rules.specs.Holes.{holeLengths, holesFound, holesFit, holesAnswer, holesLeaves}
-use Rattle.rules.specs.Edits.{Edited, becomes, refuses, Lent, overOld, withRow, onceAccepted, newAnswer, isThere, countsFit, hasRoom, editSizes, editLengths, editAnswer, written, editLeaves}
+use Rattle.rules.specs.Edits.{Edited, becomes, refuses, Lent, overOld, withRow, onceAccepted, newAnswer}
+use Rattle.rules.specs.Edits.{isThere, countsFit, hasRoom, editSizes, editLengths, editAnswer, written, editLeaves}
 use Rattle.rules.specs.Swap.{third, flipped, swapped, isSwappable, swap, swapAnswer, swapLeaves}
 use Rattle.rules.specs.Split.{withCorner, halved, splitAt, isSplittable, hasPoints, canHold, split, splitAnswer, splitLeaves, midway, coordinate, midpoint, withPoint, splitPoints}
-use Rattle.rules.specs.Contract.{withoutRow, withoutBoth, withoutEdge, instead, renamed, merged, contracted, isNeighbour, isThird, pinches, isUsed, strands, contract}
+use Rattle.rules.specs.Contract.{withoutRow, withoutBoth, withoutEdge, instead, renamed, merged}
+use Rattle.rules.specs.Contract.{contracted, isNeighbour, isThird, pinches, isUsed, strands, contract}
 use Rattle.rules.specs.Contract.{contractAnswer, contractLeaves, pointOf, withoutPoint, contractPoints}
 
 -- an element's row, or a row of E2e, in three columns or in four; lists are rows joined by ++

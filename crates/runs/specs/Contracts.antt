@@ -54,7 +54,8 @@ use Rattle.walker.specs.declared.Call.the-variants.{Start, Step}
 use Rattle.walker.specs.Walkers.{recordOf, movedOf, calledBy}
 use Rattle.walker.proofs.call_at.Kinds as call-at-kinds
 use Rattle.walker.proofs.call_at.Reads as call-at-reads
-use Rattle.runs.specs.Runs.{StartRun, StepRun, BuildRun, RecoverRun, SiblingsRun, SwapRun, SplitRun, ContractRun, RingRun, NeighboursRun, BorderLoopRun, HolesRun}
+use Rattle.runs.specs.Runs.{StartRun, StepRun, BuildRun, RecoverRun, SiblingsRun, SwapRun}
+use Rattle.runs.specs.Runs.{SplitRun, ContractRun, RingRun, NeighboursRun, BorderLoopRun, HolesRun}
 
 -- next_side(row, i) and previous_side(row, i)
 module _ (κs : Lfts 0) (a : Dens κs next-side-kinds.ps) (r : resT next-side-kinds.r κs .Denot) (s : AtExit (endedOf 0 next-side-kinds.ps next-side-kinds.r) κs) where

@@ -54,7 +54,8 @@ use Rattle.holes.specs.Marks.{lentHoles}
 use Rattle.borzhanu.specs.Walkers.{walkerIn}
 use Rattle.answer.specs.Packing.{told}
 use Rattle.runs.specs.Contracts.{buffers, of}
-use Rattle.runs.specs.Bounds.{build-fits, columns-fits, recover-fits, siblings-fits, swap-fits, split-fits, contract-fits, opposite-fits, next-fits, previous-fits, element-fits, origin-fits, destination-fits}
+use Rattle.runs.specs.Bounds.{build-fits, columns-fits, recover-fits, siblings-fits, swap-fits, split-fits}
+use Rattle.runs.specs.Bounds.{contract-fits, opposite-fits, next-fits, previous-fits, element-fits, origin-fits, destination-fits}
 use Rattle.runs.specs.Bounds.{across-fits, half-edge-border-fits, vertex-border-fits, ring-fits, neighbours-fits}
 use Rattle.runs.specs.Bounds.{border-loop-fits, holes-fits, start-fits, step-fits}
 

@@ -48,7 +48,8 @@ pub record Stranded (n : ℕ) (L : List ℕ) (s v : ℕ) : Type 0 where
 
 module _ (n : ℕ) (L : List ℕ) (s : ℕ) where
   means-left : (v : ℕ)
-      → Means (both (not (eqb v (destination L s))) (both (isUsed L v) (not (isUsed (merged L s) v)))) ((v ≡ destination L s → ⊥) × (Used L v × (Used (merged L s) v → ⊥)))
+      → Means (both (not (eqb v (destination L s))) (both (isUsed L v) (not (isUsed (merged L s) v))))
+      ((v ≡ destination L s → ⊥) × (Used L v × (Used (merged L s) v → ⊥)))
   means-left v =
       means-both (means-not (means-eq v (destination L s))) (means-both (means-used L v) (means-not (means-used (merged L s) v)))
 
