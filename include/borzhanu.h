@@ -18,8 +18,8 @@
  *   E2e  columns * m entries  what lies opposite each side: a side or a border half-edge
  *   B2e  k entries            the side opposite each border half-edge, in rising order
  *
- * An edit that makes vertices is lent the points too: three doubles for each vertex, those of vertex v
- * from points[3 * (v - 1)] on.
+ * An edit that makes vertices, or takes one away, is lent the points too: three doubles for each vertex,
+ * those of vertex v from points[3 * (v - 1)] on.
  *
  * Columns. E2e has 3 * m entries where no element is a quadrilateral, 4 * m where at least one is: for
  * each element as many as the widest element of the list has sides. That number, 3 or 4, is called
@@ -57,7 +57,8 @@ extern "C" {
 #define BORZHANU_MAX_BORDERS 4000000u
 
 /* Why a call refused. Checks are made in this order, 18 after 8 and before 9, each over the whole list
-   before the next. An edit tries the old list so, then 11, 15 and 19, then the new list, with 9 last. */
+   before the next. An edit tries the old list so, then 11 and 15, then 19, or 20 and 21, then the new list,
+   with 9 last. */
 enum {
     /* The call has answered. */
     BORZHANU_ANSWERED = 0,
@@ -106,11 +107,18 @@ enum {
     BORZHANU_TEXT_UNFIT = 14,
     /* The edge that an edit was given isn't one between two triangles: the code is that of a border
        half-edge or of a border side, or an element beside it is a quadrilateral. A border side of a
-       triangle can be split, named as a side. */
+       triangle can be split and contracted, named as a side. */
     BORZHANU_EDGE_UNFIT = 15,
     /* An edit that makes the mesh larger finds no room: the new n or m would be over 1,000,000, or a
        buffer other than B2e is too short for the new mesh. It comes after 15. */
-    BORZHANU_NO_ROOM = 19
+    BORZHANU_NO_ROOM = 19,
+    /* The ends of the edge to be contracted have a common neighbour that isn't a third corner of the one or
+       two triangles on the edge, as on a thin tube or by a small hole: it would be pinched there. It comes
+       after 15. */
+    BORZHANU_EDGE_PINCHED = 20,
+    /* Contracting the edge would leave a vertex unused that was used: a third corner that belongs to no other
+       element. It comes after 20. */
+    BORZHANU_VERTEX_STRANDED = 21
 };
 
 /* What borzhanu_vertex_is_border answers. */
@@ -177,6 +185,10 @@ static inline const char *borzhanu_refusal_text(uint32_t refusal) {
         return "the side or code named is a border or has a quadrilateral beside it";
     case BORZHANU_NO_ROOM:
         return "n or m would be over 1,000,000, or a buffer other than B2e is too short for the new mesh";
+    case BORZHANU_EDGE_PINCHED:
+        return "the edge's ends have a common neighbour that isn't a third corner of its triangles";
+    case BORZHANU_VERTEX_STRANDED:
+        return "a vertex that was used would be left unused";
     default:
         return "a refusal that this header doesn't know";
     }
@@ -333,7 +345,8 @@ static inline uint32_t borzhanu_sibling(const uint32_t *siblings, size_t sibling
  *
  * The buffers of an edit may be longer than what they hold. The list is the first 4 * m entries of
  * elements, whose length needn't be a multiple of four. List and tables are written from their buffers'
- * starts; entries past both the old and the new ones are never looked at and stay as they were.
+ * starts; entries past both the old and the new ones are never looked at and stay as they were. Where an edit
+ * makes the mesh smaller, entries between the new and the old length become 0, but not in b2e.
  */
 
 /*
@@ -436,6 +449,63 @@ uint64_t borzhanu_split(uint32_t size[2],
                         uint32_t *b2e, size_t b2e_len,
                         double *points, size_t points_len,
                         uint32_t *work, size_t work_len, uint32_t code);
+
+/*
+ * Contracts an edge and closes the gaps, as coarsening does. `code` names a side from a to b, inner or on the
+ * border: b is merged into a. The triangle of the side and its partner, if there is one, go, the
+ * higher-numbered first; each time the last row of the list takes the freed number. Every b becomes a; then
+ * the last vertex, which is n, takes number b, with its point. The point of a stays. Where the row or the
+ * vertex that goes is itself the last, nothing takes its number; where a is the last vertex, it is number b
+ * afterwards. So n shrinks by 1, and m by 2, or by 1 on the border. Answers k and the number of edges, as
+ * building does: on an inner edge k stays and there are 3 edges fewer, on the border k shrinks by 1 and there
+ * are 2 edges fewer.
+ *
+ *   size      two entries, n and m; never null, and no part of another buffer
+ *   elements  at least 4 * m entries
+ *   v2e       at least n entries
+ *   e2e       at least columns * m entries, the columns being those of the m elements
+ *   b2e       at least the new k entries; n - 1 are always enough
+ *   points    at least 3 * n doubles; finite or not, none is reckoned with
+ *   work      at least n + 16 * m entries
+ *
+ * After an answer size is the new n and m, elements is the new list, and v2e, e2e and b2e are the tables that
+ * building gives of it. With n and m the old numbers and m' the new number of elements:
+ *
+ *   elements  0 from elements[4 * m'] to elements[4 * m - 1]
+ *   v2e       0 in v2e[n - 1]
+ *   e2e       0 from e2e[columns * m'] to e2e[columns * m - 1]; the columns stay
+ *   b2e       as it was past its first k entries: entries of the old B2e may stand there
+ *   points    those of b are the three numbers that those of n were, bit for bit, and the last three, from
+ *             points[3 * (n - 1)] on, are +0.0; all others are as they were
+ *
+ * Past the old lengths every buffer is as it was. What the tables and work hold before doesn't matter.
+ *
+ * It refuses 1, by n and m alone; 2, by the lengths above but for b2e's; 3, 4, 6 to 8 and 18 where building
+ * refuses the list with that; 11 where no side and no border half-edge has this code; 15 where the code is
+ * that of a border half-edge, or one of the elements beside the side is a quadrilateral; 20 where a vertex
+ * that no triangle on the edge has is joined by an edge both to a and to b, be it by the sides of
+ * quadrilaterals (a diagonal joins nothing); 21 where a vertex other than b that was used would be left
+ * unused, as a third corner that belongs to no other element; then what building says of the new list, with
+ * the place that it names there: 8 where a and b are both on a border and the edge isn't, so that two fans
+ * would be left at one point, and 18 where two elements would meet otherwise than at one corner or one edge,
+ * as on a tetrahedron; and 9, by the new k. Nothing else comes. After a refusal size, list, tables and points
+ * are as they were. After 1 and 2 work is as it was; after everything else it is all zero.
+ *
+ * A split and then the contraction of the same code give n, m, list, tables and points back, with 0 where the
+ * new ones stood.
+ *
+ * Rows and vertices get other numbers: a code or a vertex number from before an answer may mean another side
+ * or vertex after it, or none. So in a loop of contractions the next edge is looked for when the one before is
+ * done, as hosts/examples/coarsen.c does. A borzhanu_mesh of these buffers has to be put together anew: n, m,
+ * with them the lengths, and on the border k have changed.
+ */
+uint64_t borzhanu_contract(uint32_t size[2],
+                           uint32_t *elements, size_t elements_len,
+                           uint32_t *v2e, size_t v2e_len,
+                           uint32_t *e2e, size_t e2e_len,
+                           uint32_t *b2e, size_t b2e_len,
+                           double *points, size_t points_len,
+                           uint32_t *work, size_t work_len, uint32_t code);
 
 /*
  * The queries take a mesh: n, columns, an element list (4 * m entries), V2e (n), E2e (columns * m) and
@@ -631,8 +701,8 @@ uint64_t borzhanu_walker_step(uint32_t n, uint32_t columns,
 /*
  * A mesh as the queries take it. Its buffers are lent, not copied; the lengths are in entries. Put it
  * together once, with the columns that borzhanu_columns answered, or with 0 and then
- * borzhanu_mesh_look. When the element list changes, look again, but for a swap or a split, after which the
- * columns are the same. A swap leaves all other members right too; after a split n and lengths are others.
+ * borzhanu_mesh_look. When the element list changes, look again, but for an edit, after which the columns are
+ * the same. A swap leaves all other members right too; after a split or a contraction n and lengths are others.
  */
 typedef struct borzhanu_mesh {
     uint32_t n;

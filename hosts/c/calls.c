@@ -2,6 +2,7 @@
 #include "calls.h"
 
 #include "borzhanu.h"
+#include "contracting.h"
 #include "guarded.h"
 #include "splitting.h"
 #include "swapping.h"
@@ -98,6 +99,16 @@ static struct answer expect_split(const struct call *call, const struct slice *b
     return reference_split(&lent, call->number);
 }
 
+static uint64_t kernel_contract(const struct call *call, const struct slice *b) {
+    return borzhanu_contract(b[SIZE].at, TABLES(b), (double *)(void *)b[POINTS].at, b[POINTS].len / 2, b[WORK].at,
+                             b[WORK].len, call->number);
+}
+
+static struct answer expect_contract(const struct call *call, const struct slice *b) {
+    struct lent lent = lent_by(b, 1);
+    return reference_contract(&lent, call->number);
+}
+
 static uint64_t kernel_walker_start(const struct call *call, const struct slice *b) {
     return borzhanu_walker_start(MESH(call, b), call->number, (borzhanu_walker *)(void *)b[RECORD].at);
 }
@@ -158,6 +169,7 @@ const struct exported recover_call = EXPORTED(recover, BIT(ELEMENTS) | BIT(WORK)
 const struct exported siblings_call = EXPORTED(siblings, BIT(V2E) | BIT(SIBLINGS) | BIT(WORK));
 const struct exported swap_call = EDIT(swap, 0);
 const struct exported split_call = EDIT(split, BIT(POINTS));
+const struct exported contract_call = EDIT(contract, BIT(POINTS));
 const struct exported holes_call = QUERY(holes, BIT(HOLE) | BIT(LENGTHS) | BIT(WORK));
 const struct exported start_call = QUERY(walker_start, BIT(RECORD));
 const struct exported step_call = QUERY(walker_step, BIT(RECORD));
@@ -264,22 +276,31 @@ static void check_same(const char *what, int role, const uint32_t *want, const u
             fail_entry(what, role, i, want[i], got[i]);
 }
 
-/* How many entries of a role the list and tables that an edit left take, in buffers that may be longer. */
-static size_t held_entries(const struct slice *left, int role) {
-    const uint32_t *size = left[SIZE].at;
-    struct slice list = {left[ELEMENTS].at, 4 * (size_t)size[1]};
-    if (list.len > left[ELEMENTS].len)
+/* How many entries of a role list, tables and points take, in buffers of an edit that may be longer; B2e isn't among
+   these. */
+static size_t held_entries(const struct slice *buffers, int role) {
+    const uint32_t *size = buffers[SIZE].at;
+    struct slice list = {buffers[ELEMENTS].at, 4 * (size_t)size[1]};
+    if (list.len > buffers[ELEMENTS].len)
         fail("the m that was left has no room in the list");
     if (role == ELEMENTS)
         return list.len;
     if (role == V2E)
         return size[0];
+    if (role == POINTS)
+        return ENTRIES_OF_A_POINT * (size_t)size[0];
     return role == E2E ? columns_of(list) * (size_t)size[1] : SIZE_LENGTH;
 }
 
-/* An edit that is lent points writes one, after those that are there. */
+/* What was held before an edit or is held after it, whichever is more. */
+static size_t most_held(const struct call *call, const struct slice *left, int role) {
+    size_t before = held_entries(call->given, role), after = held_entries(left, role);
+    return before > after ? before : after;
+}
+
+/* A split writes a point after those that are there. */
 static size_t first_written(const struct call *call, int role) {
-    return role == POINTS ? ENTRIES_OF_A_POINT * (size_t)call->given[SIZE].at[0] : 0;
+    return role == POINTS && call->exported == &split_call ? held_entries(call->given, role) : 0;
 }
 
 /* How many entries of a role an answer writes; the entries past them stay as they were. */
@@ -288,10 +309,8 @@ static size_t written_entries(const struct call *call, const struct slice *left,
         return 0;
     if (role == HOLE)
         return call->given[B2E].len;
-    if (role == POINTS)
-        return ENTRIES_OF_A_POINT;
     if (call->exported->is_edit && role != B2E)
-        return held_entries(left, role);
+        return most_held(call, left, role) - first_written(call, role);
     return role == B2E || role == OUT || role == LENGTHS ? answer.first : call->given[role].len;
 }
 
@@ -299,7 +318,22 @@ static void check_as_it_was(const struct call *call, const struct slice *left, i
     check_same("what should be as it was isn't", role, call->given[role].at, left[role].at, start, end);
 }
 
-/* What doesn't depend on the reference: what must be as it was is, and the work buffer is clean. */
+/* Between the new and the old length an edit leaves zeros; of points these are +0.0. */
+static void check_cleared(const struct call *call, const struct slice *left) {
+    static const enum role shortened[] = {ELEMENTS, V2E, E2E, POINTS};
+    for (size_t i = 0; i < sizeof shortened / sizeof *shortened; i++) {
+        enum role role = shortened[i];
+        if ((call->exported->writes & BIT(role)) == 0)
+            continue;
+        size_t before = held_entries(call->given, role);
+        for (size_t at = held_entries(left, role); at < before; at++)
+            if (left[role].at[at] != 0)
+                fail_entry("what a smaller mesh has left behind isn't 0", role, at, 0, left[role].at[at]);
+    }
+}
+
+/* What doesn't depend on the reference: what must be as it was is, the work buffer is clean, and an edit has cleared
+   what it took away. */
 static void check_left(const struct call *call, const struct slice *left, struct answer got) {
     for (int role = 0; role < ROLES; role++) {
         if (role == WORK && got.refusal != 1 && got.refusal != 2) {
@@ -313,6 +347,8 @@ static void check_left(const struct call *call, const struct slice *left, struct
             check_as_it_was(call, left, role, first + written, call->given[role].len);
         }
     }
+    if (call->exported->is_edit && got.refusal == 0)
+        check_cleared(call, left);
 }
 
 static struct answer taken_apart(uint64_t returned) {
@@ -349,7 +385,7 @@ static int is_nan(const uint32_t *entries) {
     return number != number;
 }
 
-/* Where a number of a new point is no number, which one it is isn't promised: any is taken for the one expected. */
+/* Where a number of a midpoint is no number, which one it is isn't promised: any is taken for the one expected. */
 static void accept_any_nan(const struct call *call, const struct slice *expected, const struct slice *left) {
     size_t first = first_written(call, POINTS);
     for (size_t at = first; at < first + ENTRIES_OF_A_POINT; at += 2)
@@ -364,7 +400,7 @@ static void call_kernel(const struct call *call, struct answer want, const struc
     if (memcmp(&want, &got, sizeof want) != 0)
         fail_answer(want, got);
     check_left(call, buffers, got);
-    if (got.refusal == 0 && (call->exported->writes & BIT(POINTS)))
+    if (got.refusal == 0 && call->exported == &split_call)
         accept_any_nan(call, expected, buffers);
     for (int role = 0; role < ROLES; role++)
         if (call->exported->writes & BIT(role))

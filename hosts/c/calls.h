@@ -31,7 +31,8 @@ struct call {
     struct slice given[ROLES];
 };
 
-extern const struct exported build_call, columns_call, recover_call, siblings_call, swap_call, split_call;
+extern const struct exported build_call, columns_call, recover_call, siblings_call;
+extern const struct exported swap_call, split_call, contract_call;
 extern const struct exported vertex_test, border_list, holes_call, start_call, step_call;
 extern const struct exported code_calls[CODE_CALLS], vertex_lists[VERTEX_LISTS];
 /* all of these that are told columns, but for holes, which has a work buffer */
@@ -52,8 +53,8 @@ size_t room_of(enum role role);
 
 /* Compares a call, in both placements, and hands over the answer; `results`, where not null, then shows what each
    buffer holds, until the next call. A query told 0 is made again told the list's own columns, which must change
-   nothing. A mismatch is printed and ends the program. Points are compared bit by bit, but that a new number which is to
-   be no number may be any such. */
+   nothing. A mismatch is printed and ends the program. Points are compared bit by bit, but that a midpoint's number
+   which is to be no number may be any such. */
 struct answer compare(const struct call *call, struct slice *results);
 
 /* Compares a call whose answer is known beforehand; where its second number isn't named, it is 0. */

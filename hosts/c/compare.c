@@ -10,6 +10,7 @@
 #include "asking.h"
 #include "borzhanu.h"
 #include "columns.h"
+#include "contracts.h"
 #include "header.h"
 #include "holes.h"
 #include "meeting.h"
@@ -516,6 +517,13 @@ static const struct {
     {"runs of splits", runs_of_splits},
     {"lengths of splits", lengths_of_splits},
     {"the largest splits", largest_splits},
+    {"known contractions", known_contracts},
+    {"contractions, every code", contracts_of_every_code},
+    {"runs of contractions", runs_of_contracts},
+    {"splits taken back", splits_taken_back},
+    {"contractions to the last", contracts_to_the_last},
+    {"lengths of contractions", lengths_of_contracts},
+    {"the largest contractions", largest_contracts},
 };
 
 static double seconds(void) {

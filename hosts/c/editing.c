@@ -60,17 +60,25 @@ static struct answer judged(const struct draft *draft, struct slice work) {
 
 /* ---- the new list ---- */
 
+static void clear_between(struct slice s, size_t start, size_t end) {
+    for (size_t i = start; i < end; i++)
+        s.at[i] = 0;
+}
+
 /* Building writes the tables into the buffers lent, or nothing. */
 static struct answer build_lent(const struct lent *lent, const struct draft *draft) {
     uint32_t n = draft->n;
-    struct slice list = draft->list;
-    struct mesh mesh = {n,          0, list, first_entries(lent->v2e, n),
-                        first_entries(lent->e2e, columns_of(list) * (list.len / 4)), lent->b2e};
+    struct slice list = draft->list, held = held_list(lent);
+    size_t old_e2e_len = columns_of(held) * (held.len / 4), e2e_len = columns_of(list) * (list.len / 4);
+    struct mesh mesh = {n, 0, list, first_entries(lent->v2e, n), first_entries(lent->e2e, e2e_len), lent->b2e};
     struct answer answer = reference_build(&mesh, lent->work);
     if (answer.refusal != 0)
         return answer;
     if (list.len != 0)
         memcpy(lent->elements.at, list.at, list.len * sizeof(uint32_t));
+    clear_between(lent->elements, list.len, held.len);
+    clear_between(lent->v2e, n, lent->size[0]);
+    clear_between(lent->e2e, e2e_len, old_e2e_len);
     lent->size[0] = n;
     lent->size[1] = (uint32_t)(list.len / 4);
     return answer;
@@ -116,10 +124,28 @@ struct met side_between(struct slice list, uint32_t from, uint32_t to) {
     return (struct met){NULL, 0, 0};
 }
 
-int is_triangle(struct met side) {
-    return side.row[3] == 0;
+static int is_border_among(uint32_t k, uint32_t code) {
+    return code % 8 == 0 && code / 8 >= 1 && code / 8 <= k;
 }
 
-int is_border_among(uint32_t k, uint32_t code) {
-    return code % 8 == 0 && code / 8 >= 1 && code / 8 <= k;
+/* What isn't there is none. */
+static int is_quadrilateral(struct met side) {
+    return side.row != NULL && side.row[3] != 0;
+}
+
+uint32_t find_edge(struct slice list, uint32_t k, uint32_t code, struct edge *edge) {
+    if (is_border_among(k, code))
+        return 15;
+    edge->side = side_with_code(list, code);
+    if (edge->side.row == NULL)
+        return 11;
+    edge->partner = side_between(list, edge->side.to, edge->side.from);
+    return is_quadrilateral(edge->side) || is_quadrilateral(edge->partner) ? 15 : 0;
+}
+
+uint32_t corner_apart(struct met side) {
+    uint32_t i = 0;
+    while (side.row[i] == side.from || side.row[i] == side.to)
+        i++;
+    return side.row[i];
 }

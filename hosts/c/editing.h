@@ -27,7 +27,7 @@ int has_room(const struct lent *lent, size_t n, size_t m);
 typedef uint32_t edit(struct draft *draft, const struct lent *lent, uint32_t k, uint32_t code);
 
 /* Checks 1 and 2, the old list judged by building, the edit, and the new list built into the buffers lent, which gets 9
-   too. What a refusal leaves is as it was, but for the work buffer. */
+   too; what list and tables took more before is 0 then. What a refusal leaves is as it was, but for the work buffer. */
 struct answer edited(const struct lent *lent, edit *edit, uint32_t code);
 
 /* A side as it is met when the list is read: its row, and the corners that it joins. No row: it isn't there. */
@@ -40,7 +40,16 @@ struct met {
 struct met side_with_code(struct slice list, uint32_t code);
 /* Reads all sides until one runs between these two corners. */
 struct met side_between(struct slice list, uint32_t from, uint32_t to);
-int is_triangle(struct met side);
-int is_border_among(uint32_t k, uint32_t code);
+
+/* The two sides of an edge; on a border the partner isn't there. */
+struct edge {
+    struct met side, partner;
+};
+
+/* The edge of the side with this code, in a list with k borders. Returns 11 where the code isn't there, and 15 where it
+   is a border's or where an element beside the edge is a quadrilateral. */
+uint32_t find_edge(struct slice list, uint32_t k, uint32_t code, struct edge *edge);
+/* The corner of a triangle that isn't on this side. */
+uint32_t corner_apart(struct met side);
 
 #endif

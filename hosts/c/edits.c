@@ -2,6 +2,7 @@
 
 #include "borzhanu.h"
 #include "pillows.h"
+#include "points.h"
 #include "room.h"
 
 #include <stdio.h>
@@ -24,6 +25,31 @@ struct call edit_of(const struct exported *exported, const struct list *list, si
     size[0] = list->n;
     size[1] = (uint32_t)list->m;
     call.given[SIZE] = (struct slice){size, SIZE_LENGTH};
+    return call;
+}
+
+size_t length_for(enum role role, size_t columns, size_t n, size_t m) {
+    if (role == ELEMENTS)
+        return 4 * m;
+    if (role == V2E)
+        return n;
+    if (role == E2E)
+        return columns * m;
+    return role == WORK ? n + 16 * m : 3 * n;
+}
+
+struct call edit_with_points(const struct exported *exported, const struct list *list, struct room room, size_t b2e_len,
+                             uint32_t *size, uint32_t code, struct dice *dice) {
+    struct call call = edit_of(exported, list, b2e_len, size, code);
+    uint32_t columns = columns_of(call.given[ELEMENTS]);
+    size_t n = (size_t)list->n + room.vertices, m = list->m + room.elements;
+    call.given[POINTS] = (struct slice){NULL, 0};
+    own_buffers(&call);
+    for (int i = 0; i < MOST_LENT; i++)
+        if (lent[i] != B2E && lent[i] != POINTS)
+            set_length(&call.given[lent[i]], lent[i], length_for(lent[i], columns, n, m));
+    free(call.given[POINTS].at);
+    call.given[POINTS] = any_points(length_for(POINTS, columns, n, m), dice);
     return call;
 }
 
@@ -128,7 +154,7 @@ void check_left(const struct mesh *left, const struct list *edited) {
 
 /* ---- how often each refusal came ---- */
 
-enum { NUMBERS = 20 };
+enum { NUMBERS = 22 };
 
 static unsigned long seen[NUMBERS];
 
@@ -160,6 +186,77 @@ const struct refused_list refused_lists[REFUSED_LISTS] = {
 };
 
 const uint32_t some_codes[SOME_CODES] = {0, 4, 8, 9, 10, 11, 12, 16, 17, 18, 19, 20, 32, 40, 48, 4294967295};
+
+enum { ROWS = 4 };
+
+/* A list, a code and what comes of it. */
+struct refused_code {
+    const char *name;
+    uint32_t n, m, rows[ROWS][4], code, refusal;
+};
+
+#define LISTING 4, 2, {{1, 2, 3, 0}, {1, 3, 4, 0}}
+#define TETRAHEDRON 4, 4, {{1, 2, 3, 0}, {1, 4, 2, 0}, {2, 4, 3, 0}, {3, 4, 1, 0}}
+#define MIXED_LIST 5, 2, {{1, 2, 3, 0}, {1, 3, 4, 5}}
+
+static const struct refused_code refused_codes[] = {
+    {"code 0", LISTING, 0, 11},
+    {"side 1 of element 0", LISTING, 1, 11},
+    {"side 7 of element 0", LISTING, 7, 11},
+    {"a triangle's fourth side", LISTING, 12, 11},
+    {"a triangle's fifth side", LISTING, 13, 11},
+    {"a triangle's sixth side", LISTING, 14, 11},
+    {"a triangle's seventh side", LISTING, 15, 11},
+    {"a quadrilateral's fifth side", MIXED_LIST, 21, 11},
+    {"a quadrilateral's seventh side", MIXED_LIST, 23, 11},
+    {"a triangle's fourth side beside a quadrilateral", MIXED_LIST, 12, 11},
+    {"an element past the last", LISTING, 25, 11},
+    {"a border past the last", LISTING, 40, 11},
+    {"a border where there is none", TETRAHEDRON, 8, 11},
+    {"an element far past the last", LISTING, 8000001, 11},
+    {"a side but for its high bit", LISTING, 2147483659, 11},
+    {"the greatest border code", LISTING, 4294967288, 11},
+    {"the greatest code", LISTING, 4294967295, 11},
+    {"code 0 of nothing", 0, 0, {{0}}, 0, 11},
+    {"a side of nothing", 0, 0, {{0}}, 9, 11},
+    {"a border of vertices alone", 3, 0, {{0}}, 8, 11},
+    {"the first border half-edge", LISTING, 8, 15},
+    {"a border half-edge with a side's element", LISTING, 16, 15},
+    {"the last border half-edge", LISTING, 32, 15},
+    {"the border half-edge of a lone triangle", 3, 1, {{1, 2, 3, 0}}, 24, 15},
+    {"a quadrilateral's border half-edge", MIXED_LIST, 40, 15},
+    {"a quadrilateral beyond", MIXED_LIST, 11, 15},
+    {"a quadrilateral on this side", MIXED_LIST, 17, 15},
+    {"a quadrilateral's border side", MIXED_LIST, 20, 15},
+    {"a lone quadrilateral", 4, 1, {{1, 2, 3, 4}}, 9, 15},
+    {"quadrilaterals on both sides", 6, 2, {{1, 2, 3, 4}, {4, 5, 6, 1}}, 12, 15},
+};
+
+/* With room and without, also in B2e: 11, 15 and what is said of the old list come before 19 and 9. */
+static void check_refused_in_any_room(const struct exported *exported, const char *name, const struct list *list,
+                                      uint32_t code, struct answer answer, struct dice *dice) {
+    static const struct room rooms[] = {{0, 0}, {1, 0}, {0, 2}, {1, 2}, {7, 9}};
+    uint32_t size[SIZE_LENGTH];
+    for (size_t i = 0; i < 2 * COUNT(rooms); i++) {
+        struct call call = edit_with_points(exported, list, rooms[i / 2], i % 2 == 0 ? 0 : 12, size, code, dice);
+        if (!is_answer(compare(&call, NULL), answer))
+            fail_known(name);
+        drop_buffers(&call);
+    }
+}
+
+void known_refusals(const struct exported *exported, struct dice *dice) {
+    for (size_t i = 0; i < COUNT(refused_codes); i++) {
+        const struct refused_code *c = &refused_codes[i];
+        struct list list = list_of_rows(c->n, c->m, c->rows);
+        check_refused_in_any_room(exported, c->name, &list, c->code, (struct answer){c->refusal, 0, 0}, dice);
+    }
+    for (size_t i = 0; i < REFUSED_LISTS * SOME_CODES; i++) {
+        const struct refused_list *c = &refused_lists[i / SOME_CODES];
+        struct list list = list_of_rows(c->n, c->m, c->rows);
+        check_refused_in_any_room(exported, c->name, &list, some_codes[i % SOME_CODES], c->answer, dice);
+    }
+}
 
 uint32_t one_past_codes(const struct list *list) {
     uint32_t most = list->n > list->m ? list->n : (uint32_t)list->m;

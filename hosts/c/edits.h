@@ -16,6 +16,17 @@ int lent_to(const struct call *call);
 struct call edit_of(const struct exported *exported, const struct list *list, size_t b2e_len, uint32_t *size,
                     uint32_t code);
 
+/* How many vertices and elements more the buffers of an edit can hold. */
+struct room {
+    uint32_t vertices, elements;
+};
+
+/* An edit that is lent points, in buffers of the call's own. Tables and work are noise, points are of all kinds. */
+struct call edit_with_points(const struct exported *exported, const struct list *list, struct room room, size_t b2e_len,
+                             uint32_t *size, uint32_t code, struct dice *dice);
+/* The length of a role's buffer for n vertices and m elements, in numbers; B2e isn't among these. */
+size_t length_for(enum role role, size_t columns, size_t n, size_t m);
+
 /* The buffers of a call become copies of its own. */
 void own_buffers(struct call *call);
 void drop_buffers(struct call *call);
@@ -57,6 +68,10 @@ extern const struct refused_list {
     struct answer answer;
 } refused_lists[REFUSED_LISTS];
 extern const uint32_t some_codes[SOME_CODES];
+
+/* What an edit that is lent points refuses before its own causes come up, in buffers with room and without: these
+   lists, whatever the code, and each cause of 11 and of 15. */
+void known_refusals(const struct exported *exported, struct dice *dice);
 
 /* One past the codes that a list could have. */
 uint32_t one_past_codes(const struct list *list);

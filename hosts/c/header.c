@@ -11,14 +11,14 @@ static void fail_number(const char *what, uint32_t number) {
     stop();
 }
 
-/* Each name stands for its place in the list. */
-static void check_names(const uint32_t *names, size_t count, const char *what) {
-    for (uint32_t number = 0; number < count; number++)
-        if (names[number] != number)
-            fail_number(what, number);
+/* Each name stands for its place in the list, counted from `first`. */
+static void check_names(const uint32_t *names, uint32_t first, size_t count, const char *what) {
+    for (uint32_t i = 0; i < count; i++)
+        if (names[i] != first + i)
+            fail_number(what, first + i);
 }
 
-/* The refusals up to 15, with 5, which no call gives, in its place; 18 and 19; and what a vertex can be. */
+/* The refusals up to 15, with 5, which no call gives, in its place; 18 to 21; and what a vertex can be. */
 static void check_numbers(void) {
     static const uint32_t refusals[] = {
         BORZHANU_ANSWERED,     BORZHANU_SIZES,           BORZHANU_LENGTHS,
@@ -28,13 +28,12 @@ static void check_numbers(void) {
         BORZHANU_TABLE_BROKEN, BORZHANU_OUTPUT_SHORT,    BORZHANU_TEXT_UNFIT,
         BORZHANU_EDGE_UNFIT,
     };
+    static const uint32_t later[] = {BORZHANU_ELEMENTS_CLASH, BORZHANU_NO_ROOM, BORZHANU_EDGE_PINCHED,
+                                     BORZHANU_VERTEX_STRANDED};
     static const uint32_t vertices[] = {BORZHANU_INNER, BORZHANU_RIM, BORZHANU_UNUSED};
-    check_names(refusals, sizeof refusals / sizeof *refusals, "another name for refusal");
-    if (BORZHANU_ELEMENTS_CLASH != 18)
-        fail_number("another name for refusal", 18);
-    if (BORZHANU_NO_ROOM != 19)
-        fail_number("another name for refusal", 19);
-    check_names(vertices, sizeof vertices / sizeof *vertices, "another name for a vertex that is");
+    check_names(refusals, 0, sizeof refusals / sizeof *refusals, "another name for refusal");
+    check_names(later, 18, sizeof later / sizeof *later, "another name for refusal");
+    check_names(vertices, 0, sizeof vertices / sizeof *vertices, "another name for a vertex that is");
 }
 
 /* `whole` and `rest` are what was counted: the code is 8 * whole + rest */
@@ -72,7 +71,7 @@ static int same_sentence(uint32_t a, uint32_t b) {
 }
 
 static int is_refusal(uint32_t number) {
-    return number <= BORZHANU_EDGE_UNFIT || number == BORZHANU_ELEMENTS_CLASH || number == BORZHANU_NO_ROOM;
+    return number <= BORZHANU_EDGE_UNFIT || (number >= BORZHANU_ELEMENTS_CLASH && number <= BORZHANU_VERTEX_STRANDED);
 }
 
 static void check_own_sentence(uint32_t number) {
@@ -134,6 +133,8 @@ void check_header(void) {
     check_words(15, "the side or code named is a border or has a quadrilateral beside it");
     check_words(18, "two elements meet otherwise than at one corner or one edge");
     check_words(19, "n or m would be over 1,000,000, or a buffer other than B2e is too short for the new mesh");
+    check_words(20, "the edge's ends have a common neighbour that isn't a third corner of its triangles");
+    check_words(21, "a vertex that was used would be left unused");
     check_lengths();
     check_sibling();
 }

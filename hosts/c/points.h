@@ -18,4 +18,7 @@ void put_bits(struct slice points, size_t number, uint64_t bits);
 void put_number(struct slice points, size_t number, double value);
 double number_at(struct slice points, size_t number);
 
+/* Of n vertices, vertex v is at v, v * v, -2 * v. */
+void put_known_points(struct slice points, uint32_t n);
+
 #endif

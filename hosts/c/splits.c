@@ -1,54 +1,25 @@
 #include "splits.h"
 
 #include "borzhanu.h"
-#include "edits.h"
 #include "points.h"
 #include "room.h"
+#include "runs.h"
 
 #include <stdlib.h>
 #include <string.h>
 
-/* How many vertices and elements more a split's buffers can hold. */
-struct room {
-    uint32_t vertices, elements;
-};
-
 static const struct room for_inner = {1, 2};
 
-/* A split in buffers of the call's own. Tables and work are noise, points are of all kinds. */
 static struct call split_of(const struct list *list, struct room room, size_t b2e_len, uint32_t *size, uint32_t code,
                             struct dice *dice) {
-    struct call call = edit_of(&split_call, list, b2e_len, size, code);
-    uint32_t columns = columns_of(call.given[ELEMENTS]);
-    size_t n = (size_t)list->n + room.vertices, m = list->m + room.elements;
-    call.given[POINTS] = (struct slice){NULL, 0};
-    own_buffers(&call);
-    set_length(&call.given[ELEMENTS], ELEMENTS, 4 * m);
-    set_length(&call.given[V2E], V2E, n);
-    set_length(&call.given[E2E], E2E, columns * m);
-    set_length(&call.given[WORK], WORK, n + 16 * m);
-    free(call.given[POINTS].at);
-    call.given[POINTS] = any_points(3 * n, dice);
-    return call;
-}
-
-/* The length of a role's buffer for n vertices and m elements, in numbers; B2e isn't among these. */
-static size_t length_for(enum role role, size_t columns, size_t n, size_t m) {
-    if (role == ELEMENTS)
-        return 4 * m;
-    if (role == V2E)
-        return n;
-    if (role == E2E)
-        return columns * m;
-    return role == WORK ? n + 16 * m : 3 * n;
+    return edit_with_points(&split_call, list, room, b2e_len, size, code, dice);
 }
 
 /* ---- worked out by hand ---- */
 
 enum { ROWS = 8 };
 
-/* A list, the code of a split, and what is answered; where that is no refusal, how many rows are appended, the new list
-   and the new point. Vertex v is at v, v * v, -2 * v. */
+/* A list, the code of a split, and what is answered; how many rows are appended, the new list and the new point. */
 struct known {
     const char *name;
     uint32_t n, m, rows[ROWS][4], code;
@@ -60,8 +31,6 @@ struct known {
 #define LISTING .n = 4, .m = 2, .rows = {{1, 2, 3, 0}, {1, 3, 4, 0}}
 #define TETRAHEDRON .n = 4, .m = 4, .rows = {{1, 2, 3, 0}, {1, 4, 2, 0}, {2, 4, 3, 0}, {3, 4, 1, 0}}
 #define MIXED_LIST .n = 5, .m = 2, .rows = {{1, 2, 3, 0}, {1, 3, 4, 5}}
-#define NOT_THERE .answer = {11, 0, 0}
-#define UNFIT .answer = {15, 0, 0}
 
 static const struct known known[] = {
     {"the listing, 3 to 1", LISTING, .code = 11, .answer = {0, 4, 8}, .appended = 2,
@@ -90,47 +59,7 @@ static const struct known known[] = {
      .split = {{7, 2, 3, 0}, {1, 7, 4, 0}, {3, 2, 5, 6}, {7, 3, 4, 0}, {1, 2, 7, 0}}, .point = {2, 5, -4}},
     {"spare vertices", .n = 9, .m = 2, .rows = {{1, 2, 3, 0}, {1, 3, 4, 0}}, .code = 9, .answer = {0, 5, 7},
      .appended = 1, .split = {{1, 10, 3, 0}, {1, 3, 4, 0}, {10, 2, 3, 0}}, .point = {1.5, 2.5, -3}},
-    /* 11 */
-    {"code 0", LISTING, .code = 0, NOT_THERE},
-    {"side 1 of element 0", LISTING, .code = 1, NOT_THERE},
-    {"side 7 of element 0", LISTING, .code = 7, NOT_THERE},
-    {"a triangle's fourth side", LISTING, .code = 12, NOT_THERE},
-    {"a triangle's fifth side", LISTING, .code = 13, NOT_THERE},
-    {"a triangle's sixth side", LISTING, .code = 14, NOT_THERE},
-    {"a triangle's seventh side", LISTING, .code = 15, NOT_THERE},
-    {"a quadrilateral's fifth side", MIXED_LIST, .code = 21, NOT_THERE},
-    {"a quadrilateral's seventh side", MIXED_LIST, .code = 23, NOT_THERE},
-    {"a triangle's fourth side beside a quadrilateral", MIXED_LIST, .code = 12, NOT_THERE},
-    {"an element past the last", LISTING, .code = 25, NOT_THERE},
-    {"a border past the last", LISTING, .code = 40, NOT_THERE},
-    {"a border where there is none", TETRAHEDRON, .code = 8, NOT_THERE},
-    {"an element far past the last", LISTING, .code = 8000001, NOT_THERE},
-    {"a side but for its high bit", LISTING, .code = 2147483659, NOT_THERE},
-    {"the greatest border code", LISTING, .code = 4294967288, NOT_THERE},
-    {"the greatest code", LISTING, .code = 4294967295, NOT_THERE},
-    {"code 0 of nothing", .n = 0, .m = 0, .code = 0, NOT_THERE},
-    {"a side of nothing", .n = 0, .m = 0, .code = 9, NOT_THERE},
-    {"a border of vertices alone", .n = 3, .m = 0, .code = 8, NOT_THERE},
-    /* 15 */
-    {"the first border half-edge", LISTING, .code = 8, UNFIT},
-    {"a border half-edge with a side's element", LISTING, .code = 16, UNFIT},
-    {"the last border half-edge", LISTING, .code = 32, UNFIT},
-    {"the border half-edge of a lone triangle", .n = 3, .m = 1, .rows = {{1, 2, 3, 0}}, .code = 24, UNFIT},
-    {"a quadrilateral's border half-edge", MIXED_LIST, .code = 40, UNFIT},
-    {"a quadrilateral beyond", MIXED_LIST, .code = 11, UNFIT},
-    {"a quadrilateral on this side", MIXED_LIST, .code = 17, UNFIT},
-    {"a quadrilateral's border side", MIXED_LIST, .code = 20, UNFIT},
-    {"a lone quadrilateral", .n = 4, .m = 1, .rows = {{1, 2, 3, 4}}, .code = 9, UNFIT},
-    {"quadrilaterals on both sides", .n = 6, .m = 2, .rows = {{1, 2, 3, 4}, {4, 5, 6, 1}}, .code = 12, UNFIT},
 };
-
-static void put_known_points(struct slice points, uint32_t n) {
-    for (uint32_t v = 1; v <= n; v++) {
-        put_number(points, 3 * (v - 1), v);
-        put_number(points, 3 * (v - 1) + 1, (double)v * v);
-        put_number(points, 3 * (v - 1) + 2, -2.0 * v);
-    }
-}
 
 static void check_point(struct slice points, uint32_t v, const double *known, const char *name) {
     for (size_t i = 0; i < 3; i++)
@@ -153,37 +82,10 @@ static void check_known_split(const struct known *c, struct dice *dice) {
     drop_buffers(&call);
 }
 
-/* 11 and 15 come before 19 and 9: they come with room and without. */
-static void check_known_refusal(const struct known *c, struct dice *dice) {
-    static const struct room rooms[] = {{0, 0}, {1, 0}, {0, 2}, {1, 2}, {7, 9}};
-    struct list list = list_of_rows(c->n, c->m, c->rows);
-    uint32_t size[SIZE_LENGTH];
-    for (size_t i = 0; i < 2 * COUNT(rooms); i++) {
-        struct call call = split_of(&list, rooms[i / 2], i % 2 == 0 ? 0 : 12, size, c->code, dice);
-        if (!is_answer(compare(&call, NULL), c->answer))
-            fail_known(c->name);
-        drop_buffers(&call);
-    }
-}
-
-/* Whatever the code and the room, what building says of the list comes first. */
-static void check_refused(const struct refused_list *c, struct dice *dice) {
-    struct known known = {c->name, .n = c->n, .m = c->m, .answer = c->answer};
-    memcpy(known.rows, c->rows, sizeof c->rows);
-    for (size_t i = 0; i < SOME_CODES; i++) {
-        known.code = some_codes[i];
-        check_known_refusal(&known, dice);
-    }
-}
-
 void known_splits(struct dice *dice) {
     for (size_t i = 0; i < COUNT(known); i++)
-        if (known[i].answer.refusal == 0)
-            check_known_split(&known[i], dice);
-        else
-            check_known_refusal(&known[i], dice);
-    for (size_t i = 0; i < REFUSED_LISTS; i++)
-        check_refused(&refused_lists[i], dice);
+        check_known_split(&known[i], dice);
+    known_refusals(&split_call, dice);
 }
 
 /* ---- midpoints ---- */
@@ -279,127 +181,21 @@ void splits_of_every_code(struct dice *dice) {
 
 /* ---- runs ---- */
 
-/* A mesh in buffers that hold more, on its way through edits; k and the number of edges as last answered. */
-struct run {
-    struct call call;
-    uint32_t size[SIZE_LENGTH], k, edges;
-};
-
-/* The mesh as it is now, in buffers of its own. */
-static struct mesh mesh_of_run(const struct run *run) {
-    return mesh_left(run->call.given, run->k);
-}
-
-/* An edit of a run, whose buffers then hold what it left. */
-static struct answer edit_run(struct run *run, const struct exported *exported, uint32_t code) {
-    struct slice results[ROLES];
-    run->call.exported = exported;
-    run->call.number = code;
-    struct answer answer = counted(compare(&run->call, results));
-    if (answer.refusal != 0)
-        return answer;
-    for (int role = 0; role < ROLES; role++)
-        if ((exported->writes >> role & 1) && run->call.given[role].len != 0)
-            memcpy(run->call.given[role].at, results[role].at, run->call.given[role].len * sizeof(uint32_t));
-    return answer;
-}
-
-/* The row of a side split at v, where the corners are found by what the queries say. */
-static void split_row(struct list *list, uint32_t side, uint32_t v) {
-    uint32_t *row = list->rows + 4 * (borzhanu_element_of(side) - 1), i = borzhanu_number_of(side) - 1;
-    uint32_t corners[4];
-    memcpy(corners, row, sizeof corners);
-    row[(i + 1) % 3] = v;
-    corners[i] = v;
-    add_row(list, corners[0], corners[1], corners[2], corners[3]);
-}
-
-static struct list split_by_queries(const struct mesh *t, uint32_t side) {
-    const borzhanu_mesh mesh = {t->n, t->columns, t->elements.at, t->elements.len, t->v2e.at, t->v2e.len,
-                                t->e2e.at, t->e2e.len, t->b2e.at, t->b2e.len};
-    uint32_t opposite = borzhanu_first(borzhanu_mesh_opposite(&mesh, side));
-    struct list old = list_of(t), list = empty_list(t->n + 1, old.m + 2);
-    add_rows(&list, &old);
-    split_row(&list, side, list.n);
-    if (!borzhanu_is_border_code(opposite))
-        split_row(&list, opposite, list.n);
-    return list;
-}
-
-/* The buffers hold this list, with its tables. */
-static void check_run(const struct run *run, const struct list *list) {
-    struct mesh left = mesh_of_run(run);
-    check_left(&left, list);
-    drop_tables(&left);
-}
-
-static void split_in_run(struct run *run, uint32_t code) {
-    struct mesh old = mesh_of_run(run);
-    struct answer answer = edit_run(run, &split_call, code);
-    if (answer.refusal == 0) {
-        struct list list = split_by_queries(&old, code);
-        uint32_t on_border = (uint32_t)(2 + old.elements.len / 4 - list.m);
-        if (answer.first != run->k + on_border || answer.second != run->edges + 3 - on_border)
-            fail("a split changed k or the number of edges otherwise than it must");
-        run->k = answer.first;
-        run->edges = answer.second;
-        check_run(run, &list);
-        drop_list(&list);
-    }
-    drop_tables(&old);
-}
-
-/* Mostly a side of a triangle. */
-static uint32_t any_code(const struct run *run, struct dice *dice) {
-    if (below(dice, 8) == 0)
-        return below(dice, borzhanu_border(run->size[0] + 3));
-    if (run->k != 0 && below(dice, 4) == 0)
-        return run->call.given[B2E].at[below(dice, run->k)];
-    return borzhanu_side(1 + below(dice, run->size[1]), 1 + below(dice, 3));
-}
-
-static void edit_any(struct run *run, struct dice *dice) {
-    uint32_t code = any_code(run, dice);
-    if (below(dice, 4) != 0)
-        split_in_run(run, code);
-    else if (edit_run(run, &swap_call, code).refusal == 0)
-        check_run(run, &(struct list){run->size[0], run->size[1], run->size[1], run->call.given[ELEMENTS].at});
-}
-
-static uint32_t sides_in(const struct list *list) {
-    uint32_t sides = 0;
-    for (size_t f = 0; f < list->m; f++)
-        sides += corners_of(list->rows + 4 * f);
-    return sides;
-}
-
-static void put_entries(struct slice to, struct slice from) {
-    if (from.len != 0)
-        memcpy(to.at, from.at, from.len * sizeof(uint32_t));
-}
-
 /* Three edits in four are splits, and there is room for one in three: they go on until the buffers are full, and then
    some more. */
 static void run_of_splits(struct list list, int edits, struct dice *dice) {
     struct room room = {(uint32_t)edits / 3, 2 * (uint32_t)edits / 3};
     struct run run;
-    struct mesh t;
     disguise(&list, dice);
-    if (!built(&list, &t))
-        exit(2);
-    size_t b2e_len = t.b2e.len + below(dice, room.vertices + 2);
-    run.call = split_of(&list, room, b2e_len, run.size, 0, dice);
-    lengthen_any(&run.call, dice);
-    run.k = (uint32_t)t.b2e.len;
-    run.edges = (sides_in(&list) + run.k) / 2;
-    put_entries(run.call.given[V2E], t.v2e);
-    put_entries(run.call.given[E2E], t.e2e);
-    put_entries(run.call.given[B2E], t.b2e);
-    run.call.given[SIZE].at = run.size;
-    while (edits-- > 0)
-        edit_any(&run, dice);
-    drop_buffers(&run.call);
-    drop_tables(&t);
+    start_run(&run, &list, room, dice);
+    while (edits-- > 0) {
+        uint32_t code = any_code(&run, dice);
+        if (below(dice, 4) != 0)
+            split_in_run(&run, code);
+        else
+            swap_in_run(&run, code);
+    }
+    drop_run(&run);
     drop_list(&list);
 }
 

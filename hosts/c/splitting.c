@@ -23,21 +23,18 @@ static void halve(struct draft *draft, struct met side, uint32_t v) {
 }
 
 static uint32_t split_rows(struct draft *draft, const struct lent *lent, uint32_t k, uint32_t code) {
-    if (is_border_among(k, code))
-        return 15;
-    struct met side = side_with_code(draft->list, code);
-    if (side.row == NULL)
-        return 11;
-    struct met partner = side_between(draft->list, side.to, side.from);
-    if (!is_triangle(side) || (partner.row != NULL && !is_triangle(partner)))
-        return 15;
-    size_t n = (size_t)draft->n + 1, m = draft->list.len / 4 + (partner.row == NULL ? 1 : 2);
+    struct edge edge;
+    uint32_t refusal = find_edge(draft->list, k, code, &edge);
+    if (refusal != 0)
+        return refusal;
+    int on_border = edge.partner.row == NULL;
+    size_t n = (size_t)draft->n + 1, m = draft->list.len / 4 + (on_border ? 1 : 2);
     if (n > MOST || m > MOST || !has_room(lent, n, m))
         return 19;
     draft->n++;
-    halve(draft, side, draft->n);
-    if (partner.row != NULL)
-        halve(draft, partner, draft->n);
+    halve(draft, edge.side, draft->n);
+    if (!on_border)
+        halve(draft, edge.partner, draft->n);
     return 0;
 }
 

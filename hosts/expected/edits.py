@@ -1,7 +1,14 @@
-# What swaps.py and splits.py share: the rules that docs/TRACE.md quotes of a list, by looking at every pair of sides and
-# every pair of elements.
+# What swaps.py, splits.py and contracts.py share: the rules that docs/TRACE.md quotes of a list, by looking at every pair
+# of sides and every pair of elements.
+import struct,sys
 MOST=1000000
 FILL=4294967295   # what the three tables hold before
+# three numbers for each vertex
+POINTS=[(1.0,-2.0,0.1),(4.0,8.5,0.2),(-3.0,2.0**52,0.3),(7.0,2.0**52-1,1e16),
+        (sys.float_info.max,1.0,3.0),(sys.float_info.max,2.0**53,5e-324),
+        (-0.0,5e-324,5e-324),(0.0,15e-324,-5e-324),(-0.0,-0.0,sys.float_info.min),
+        (2.5,-1e300,1e-300),(6.0,1e300,-1e-300)]+[(v,v+1.0,v+2.0) for v in (11.0,14.0,17.0,20.0)]
+def bits(numbers): return [half for x in numbers for half in struct.unpack(">II",struct.pack(">d",x))]
 def corners(row): return row if row[3] else row[:3]
 def columns(rows): return max([len(corners(row)) for row in rows],default=3)
 def sides(rows):
@@ -59,13 +66,29 @@ def tables(n,rows):
     e2e=[entry(8*f+i) if 8*f+i in joins else 0 for f in range(1,len(rows)+1) for i in range(1,columns(rows)+1)]
     return [of_vertex(v) for v in range(1,n+1)],e2e,border
 def edges(rows): return len({frozenset(ends) for ends in sides(rows).values()})
-def onto(new,old): return new+old[len(new):]
-def written(n,rows,entries,v,e,b):
-    # the lines after an answer, in buffers of these lengths, or 9
+def edge(rows,code):
+    # the ends of the side with this code, and the elements on its edge, its own first; or 11 or 15
+    joins=sides(rows)
+    if code%8==0 and 1<=code//8<=len(border_sides(rows)): return 15
+    if code not in joins: return 11
+    a,b=joins[code]
+    beside=[code//8]+[c//8 for c in joins if joins[c]==(b,a)]
+    return 15 if any(rows[f-1][3] for f in beside) else (a,b,beside)
+def holds(entries,rows,v,e,work,n,m):
+    # whether buffers of these lengths have room for n vertices and m elements, in the columns of these rows
+    return len(entries)>=4*m and v>=n and e>=columns(rows)*m and work>=n+16*m
+def held(entries,m): return [entries[p:p+4] for p in range(0,min(4*m,len(entries)//4*4),4)]
+def over(new,held,buffer):
+    # the buffer with the new entries in the place of so many held before: 0 where there are fewer now
+    put=new+[0]*(held-len(new))
+    return put+buffer[len(put):]
+def written(n,rows,was,entries,v,e,b):
+    # the lines after an answer, in buffers of these lengths that held a list of `was`, n and rows; or 9
     v2e,e2e,b2e=tables(n,rows)
     if b<len(b2e): return 9,len(b2e),0
-    return [("N",[len(b2e),edges(rows)]),("L",onto(sum(rows,[]),entries)),
-            ("V",onto(v2e,[FILL]*v)),("E",onto(e2e,[FILL]*e)),("B",onto(b2e,[FILL]*b))]
+    return [("N",[len(b2e),edges(rows)]),("L",over(sum(rows,[]),4*len(was[1]),entries)),
+            ("V",over(v2e,was[0],[FILL]*v)),("E",over(e2e,columns(was[1])*len(was[1]),[FILL]*e)),
+            ("B",over(b2e,0,[FILL]*b))]
 def line(letter,numbers): print(*[letter]+list(numbers),sep=",")
 def print_cases(path,answer,head,most):
     # A case is a label and numbers, each after one byte; the first `head` of them, of which those from the fourth on are

@@ -11,6 +11,7 @@ ghost use Rattle.rules.specs.Siblings.{siblingsAnswer, siblingsLeaves};
 ghost use Rattle.rules.specs.Holes.{holesAnswer, holesLeaves};
 ghost use Rattle.rules.specs.Swap.{swapAnswer, swapLeaves};
 ghost use Rattle.rules.specs.Split.{splitAnswer, splitLeaves, splitPoints};
+ghost use Rattle.rules.specs.Contract.{contractAnswer, contractLeaves, contractPoints};
 ghost use Rattle.build.specs.Building.{lent};
 ghost use Rattle.edits.specs.Holding.{lentSized};
 ghost use Rattle.sibling_map.specs.Mapping.{lentMaps};
@@ -111,6 +112,26 @@ pub extern "C" fn borzhanu_split(
     ensures { λ _. ⌜ now (points .exit) ≡ splitPoints (lentSized (now (size .entry)) (now (elements .entry)) (now (v2e .entry)) (now (e2e .entry)) (now (b2e .entry)) (now (work .entry))) (now (points .entry)) code ⌝ }
 {
     answer::pack(split::split(size, elements, v2e, e2e, b2e, points, work, code))
+}
+
+// An edge contracted and the gaps closed, in the list, its tables and the points: k and the number of edges. `size` holds n and m, and then the
+// new n and m.
+#[no_mangle]
+pub extern "C" fn borzhanu_contract(
+    size: &mut [u32; 2],
+    elements: &mut [u32],
+    v2e: &mut [u32],
+    e2e: &mut [u32],
+    b2e: &mut [u32],
+    points: &mut [f64],
+    work: &mut [u32],
+    code: u32,
+) -> u64
+    ensures { λ r. ⌜ r ≡ packedAnswer (contractAnswer (lentSized (now (size .entry)) (now (elements .entry)) (now (v2e .entry)) (now (e2e .entry)) (now (b2e .entry)) (now (work .entry))) (now (points .entry)) code) ⌝ }
+    ensures { λ _. ⌜ lentSized (now (size .exit)) (now (elements .exit)) (now (v2e .exit)) (now (e2e .exit)) (now (b2e .exit)) (now (work .exit)) ≡ contractLeaves (lentSized (now (size .entry)) (now (elements .entry)) (now (v2e .entry)) (now (e2e .entry)) (now (b2e .entry)) (now (work .entry))) (now (points .entry)) code ⌝ }
+    ensures { λ _. ⌜ now (points .exit) ≡ contractPoints (lentSized (now (size .entry)) (now (elements .entry)) (now (v2e .entry)) (now (e2e .entry)) (now (b2e .entry)) (now (work .entry))) (now (points .entry)) code ⌝ }
+{
+    answer::pack(contract::contract(size, elements, v2e, e2e, b2e, points, work, code))
 }
 
 // The half-edge that runs along the same edge the other way.

@@ -98,7 +98,7 @@ counts-are n L k e g =
     (past-check (repeatedCorner L) k e _ _ _ _ (past-check (unfitCorner n L) k e _ _ _ _ g .1) .1) .1) .1) .1) .1 in
     cc
 
--- checks 1 and 2 found nothing
+-- checks 1 and 2 found nothing; of the work buffer, the checks and tables use this much
 pub record Checked (n : ℕ) (L V2e E2e work : List ℕ) : Type 0 where
   pub sizes : T (sizesFit n L)
   pub vertices : n ≤ maxVertex
@@ -106,7 +106,7 @@ pub record Checked (n : ℕ) (L V2e E2e work : List ℕ) : Type 0 where
   pub fours : length L ≡ 4 * elements L
   pub v2e-long : length V2e ≡ n
   pub e2e-long : length E2e ≡ columns L * elements L
-  pub room : n + 16 * elements L ≤ length work
+  pub room : n + 12 * elements L ≤ length work
 
 pub checked : (n : ℕ) (L V2e E2e B2e work : List ℕ) → sizesFit n L ≡ true → buildLengths n L (lent V2e E2e B2e work) ≡ true → Checked n L V2e E2e work
 unfolding buildLengths
@@ -114,7 +114,7 @@ checked n L V2e E2e B2e work s l =
     let sizes : T (sizesFit n L) = rw s tt in
     let (a, (b, c)) = means-sizes n L .says sizes in
     let (v, e, r) = lengths-known n (elements L) (eqb (length E2e) (columns L * elements L)) V2e work l in
-    record { sizes = sizes; vertices = a; size = b; fours = c; v2e-long = v; e2e-long = means-eq _ _ .says e; room = r }
+    record { sizes = sizes; vertices = a; size = b; fours = c; v2e-long = v; e2e-long = means-eq _ _ .says e; room = omega (arith, r) }
 
 -- checks 3 to 8 were made in the front of the work, which has become W, and t is their answer
 pub record Scratched (n : ℕ) (L : List ℕ) (t : Answer) (work W : List ℕ) : Type 0 where

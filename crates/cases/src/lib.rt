@@ -244,3 +244,124 @@ pub fn numbers_of(a: Answer) -> [u32; 3] {
         } => [number, first, second],
     }
 }
+
+// The points of 15 vertices: whole numbers, some that are rounded when they are added or halved, the greatest and the least.
+const POINTS: [f64; 45] = [
+    1.0,
+    -2.0,
+    0.1,
+    4.0,
+    8.5,
+    0.2,
+    -3.0,
+    4503599627370496.0,
+    0.3,
+    7.0,
+    4503599627370495.0,
+    1e16,
+    179769313486231570e291,
+    1.0,
+    3.0,
+    179769313486231570e291,
+    9007199254740992.0,
+    5e-324,
+    -0.0,
+    5e-324,
+    5e-324,
+    0.0,
+    15e-324,
+    -5e-324,
+    -0.0,
+    -0.0,
+    22250738585072014e-324,
+    2.5,
+    -1e300,
+    1e-300,
+    6.0,
+    1e300,
+    -1e-300,
+    11.0,
+    12.0,
+    13.0,
+    14.0,
+    15.0,
+    16.0,
+    17.0,
+    18.0,
+    19.0,
+    20.0,
+    21.0,
+    22.0,
+];
+
+pub fn points() -> [f64; 45] {
+    POINTS
+}
+
+// The bits of a number; one that is none has no bits of its own.
+fn bits_of(x: f64) -> u64 {
+    if x != x {
+        return 0;
+    }
+    f64::to_bits(x)
+}
+
+// The bits of points, the upper half of each number first.
+pub fn put_bits(points: &[f64; 45], out: &mut [u32; 90]) {
+    let mut i = 0;
+    while i < 45 {
+        let bits = bits_of(points[i]);
+        out[2 * i] = (bits >> 32) as u32;
+        out[2 * i + 1] = (bits % 4294967296) as u32;
+        i += 1;
+    }
+}
+
+// Writes the lines of the three tables, each buffer to its end.
+pub fn emit_tables(v2e: &[u32], e2e: &[u32], b2e: &[u32]) {
+    emit_line(b'V', v2e);
+    emit_line(b'E', e2e);
+    emit_line(b'B', b2e);
+}
+
+// Whether an edit that refused has left n and m, the list and B2e, which was filled with x.
+fn is_refused_clean(
+    old_size: &[u32; 2],
+    size: &[u32; 2],
+    old: &[u32],
+    list: &[u32],
+    b2e: &[u32],
+    x: u32,
+) -> bool {
+    if !buffers::is_same(size, old_size) {
+        return false;
+    }
+    if !is_all(b2e, x) {
+        return false;
+    }
+    buffers::is_same(list, old)
+}
+
+// Whether all that is lent to an edit, but for points, is as it must be after this refusal, or after an answer. The tables were filled with x,
+// the work buffer with y.
+pub fn is_edit_clean(
+    refusal: u32,
+    old_size: &[u32; 2],
+    size: &[u32; 2],
+    old: &[u32],
+    list: &[u32],
+    v2e: &[u32],
+    e2e: &[u32],
+    b2e: &[u32],
+    x: u32,
+    work: &[u32],
+    y: u32,
+) -> bool {
+    if !is_clean(refusal, v2e, e2e, x, work, y) {
+        return false;
+    }
+    if refusal == 0 {
+        return true;
+    }
+    is_refused_clean(old_size, size, old, list, b2e, x)
+}

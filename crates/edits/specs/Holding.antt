@@ -2,7 +2,7 @@
 -- Assumes nothing.
 use mathlib.Core.Path.{_≡_, refl, ap, sym, _∙_}
 use mathlib.Core.Bool.{Bool, true, false}
-use mathlib.Core.Logic.{inl, inr}
+use mathlib.Core.Logic.{_⊎_, inl, inr}
 use mathlib.Core.List.{List}
 use Prim.Native.Nat.{ℕ, _+_, _*_, _≤_}
 use native.Mathlib.Omega.{arith}
@@ -27,6 +27,11 @@ lentSized size = lentEdit (getD size 0 0) (getD size 1 0)
 pub counts-say : (n m : ℕ) → countsFit n m ≡ true → (n ≤ maxVertex) × (m ≤ maxElement)
 unfolding countsFit
 counts-say n m e = means-both (means-le n maxVertex) (means-le m maxElement) .says (rw e tt)
+
+-- more elements, more entries of E2e
+pub more-entries : (c : ℕ) {m m′ : ℕ} → (c ≡ 3) ⊎ (c ≡ 4) → m ≤ m′ → c * m ≤ c * m′
+more-entries c (inl e) h = rw e (omega arith)
+more-entries c (inr e) h = rw e (omega arith)
 
 -- buffers of these lengths have room for n vertices and m elements in c columns
 abbrev pub roomFor : ℕ → ℕ → ℕ → ℕ → ℕ → ℕ → ℕ → Bool

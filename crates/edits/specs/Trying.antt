@@ -25,6 +25,10 @@ pub record Tabled (n : ℕ) (L w : List ℕ) : Type 0 where
   pub room : n + 4 * elements L ≤ length w
   pub opposites : part n (4 * elements L) w ≡ wide L
 
+-- n as an index, and the list as it was read
+pub tabled-at : {n a : ℕ} {L X w : List ℕ} → a ≡ n → X ≡ L → Tabled n L w → Tabled a X w
+tabled-at e f x = rw (e, f) x
+
 -- where the entry of side s stands, and what is read there
 module _ {n : ℕ} {L w : List ℕ} (x : Tabled n L w) (s : ℕ) (a : Side L s) where
   pub slot-inside : n + slot s < length w

@@ -10,12 +10,13 @@ ghost use Rattle.rules.specs.Elements.{maxVertex, maxElement, sides, Side, slot
 ghost use Rattle.rules.specs.Tables.{borders};
 ghost use Rattle.rules.specs.Tables.{wide as wideOf};
 ghost use Rattle.rules.specs.Edits.{countsFit, withRow, isThere};
+ghost use Rattle.rules.specs.Split.{isSplittable};
 ghost use Rattle.halfedge.specs.Rows.{rowOf};
 ghost use Rattle.answer.specs.Numbers.{numbers};
 ghost use Rattle.build.specs.Building.{Scratched};
 ghost use Rattle.edits.specs.Holding.{lentEdit, roomFor, columnsHeld};
 ghost use Rattle.edits.specs.Trying.{Tabled};
-ghost use Rattle.edits.specs.Fronts.{Ready, ToTry, Fronted};
+ghost use Rattle.edits.specs.Fronts.{Fitting, ToTry, Fronted};
 use answer::Answer;
 use buffers::copy;
 use build::build_fit;
@@ -125,6 +126,25 @@ pub fn entry_of(n: usize, list: &[u32], work: &[u32], s: u32) -> u32
     work[n + slot_of(s)]
 }
 
+// Whether s is a side of a triangle, with a triangle or nothing across it, by the E2e of four columns that stands from n on in the work
+// buffer.
+pub fn is_splittable(n: usize, list: &[u32], work: &[u32], s: u32) -> bool
+    requires { ⌜ Tabled n (now list) (now work) ⌝ }
+    ensures { λ r. ⌜ r ≡ isSplittable (now (list .entry)) s ⌝ }
+{
+    if !is_side(list, s) {
+        return false;
+    }
+    if !is_triangle(list, element_of(s)) {
+        return false;
+    }
+    let t = entry_of(n, list, work, s);
+    if is_border(t) {
+        return true;
+    }
+    is_triangle(list, element_of(t))
+}
+
 // The row of element f is replaced.
 pub fn put_row(f: u32, row: [u32; 4], list: &mut [u32])
     requires { ⌜ (1 ≤ f) × (4 * f ≤ length (now list)) ⌝ }
@@ -146,7 +166,7 @@ pub fn build_front(
     b2e: &mut [u32],
     work: &mut [u32],
 ) -> Answer
-    requires { ⌜ Ready (lentEdit n m (now list) (now v2e) (now e2e) (now b2e) (now work)) columns ⌝ }
+    requires { ⌜ Fitting (lentEdit n m (now list) (now v2e) (now e2e) (now b2e) (now work)) columns ⌝ }
     ensures { λ r. ⌜ Fronted n (take (4 * m) (now (list .entry))) (numbers r) (now (v2e .entry)) (now (e2e .entry)) (now (b2e .entry)) (now (v2e .exit)) (now (e2e .exit)) (now (b2e .exit)) ⌝ }
     ensures { λ r. ⌜ length (now (work .exit)) ≡ length (now (work .entry)) ⌝ }
 {

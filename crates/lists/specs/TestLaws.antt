@@ -95,3 +95,20 @@ means-same (x ∷ xs) (y ∷ ys) =
 -- a number is 0 or it isn't
 pub zero-or : (x : ℕ) → (x ≡ 0) ⊎ (x ≡ 0 → ⊥)
 zero-or x = decide (means-eq x 0)
+
+-- a test that is decided, in other words
+pub means-true : {P : Type 0} → P → Means true P
+means-true p = record { says = λ t. p; shows = λ q. tt }
+
+pub means-false : {P : Type 0} → (P → ⊥) → Means false P
+means-false f = record { says = λ t. absurd t; shows = f }
+
+pub means-by : {b : Bool} {P Q : Type 0} → Means b P → (P → Q) → (Q → P) → Means b Q
+means-by m f g = record { says = λ t. f (m .says t); shows = λ q. m .shows (g q) }
+
+-- what a test that was passed, or failed, says
+pub passed : {b : Bool} {P : Type 0} → Means b P → b ≡ true → P
+passed m e = m .says (rw e tt)
+
+pub failed : {b : Bool} {P : Type 0} → Means b P → b ≡ false → P → ⊥
+failed m e p = rw e at (m .shows p)

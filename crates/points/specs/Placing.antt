@@ -7,6 +7,7 @@ use native.Mathlib.Omega.{arith}
 use lib.Ieee.{Float, nan}
 use lib.ListN.{length, take, drop, set, getD}
 use Rattle.rules.specs.Split.{midway, coordinate, midpoint, withPoint}
+use Rattle.rules.specs.Contract.{pointOf, floatZero, withoutPoint}
 
 -- three numbers stored one after the other
 stored : (i : ℕ) (P : List Float) (x y z : Float) → i + 3 ≤ length P
@@ -42,3 +43,9 @@ pub middle : (P : List Float) (a b : ℕ) {x y z x₁ y₁ z₁ x₂ y₂ z₂ :
     → (x ≡ midway x₁ x₂) × (y ≡ midway y₁ y₂) × (z ≡ midway z₁ z₂) → x ∷ y ∷ z ∷ [] ≡ midpoint P a b
 unfolding midpoint
 middle P a b (d, e, f) (g, h, i) (j, k, l) = rw (j, k, l, d, e, f, g, h, i) refl
+
+-- the point of n put in the place of that of b, and zeros in its own
+pub closed : (n b : ℕ) (P : List Float) {Q R : List Float} {x y z : Float} → Point P n x y z
+    → Q ≡ withPoint (b - 1) (x ∷ y ∷ z ∷ []) P → R ≡ withPoint (n - 1) (floatZero ∷ floatZero ∷ floatZero ∷ []) Q → R ≡ withoutPoint n b P
+unfolding withoutPoint pointOf
+closed n b P (d, e, f) q r = rw (r, q, d, e, f) refl

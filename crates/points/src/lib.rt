@@ -1,4 +1,4 @@
-// The points of vertices, document 02, point 6: three f64 numbers for each vertex.
+// The points of vertices, document 02, points 6 and 8: three f64 numbers for each vertex.
 ghost use mathlib.Core.Path.{_≡_};
 ghost use mathlib.Core.List.{[], _∷_};
 ghost use Prim.Native.Nat.{_+_, _*_, _≤_};
@@ -6,6 +6,7 @@ ghost use lib.ListN.{length};
 ghost use Rattle.rules.specs.Split.{coordinate, withPoint};
 ghost use Rattle.rules.specs.Split.{midpoint as midpointOf};
 ghost use Rattle.rules.specs.Split.{midway as midwayOf};
+ghost use Rattle.rules.specs.Contract.{withoutPoint};
 use halfedge::wide;
 
 pub struct Point {
@@ -66,4 +67,22 @@ pub fn place_midpoint(points: &mut [f64], n: u32, a: u32, b: u32)
     let p = point_of(points, a);
     let q = point_of(points, b);
     put_point(n, midpoint(p, q), points);
+}
+
+// The last of n points takes the place of that of vertex b, and zeros take its own.
+pub fn close_point(points: &mut [f64], n: u32, b: u32)
+    requires { ⌜ (1 ≤ b) × (b ≤ n) × (3 * n ≤ length (now points)) ⌝ }
+    ensures { λ r. ⌜ now (points .exit) ≡ withoutPoint n b (now (points .entry)) ⌝ }
+{
+    let p = point_of(points, n);
+    put_point(b - 1, p, points);
+    put_point(
+        n - 1,
+        Point {
+            x: 0.0,
+            y: 0.0,
+            z: 0.0,
+        },
+        points,
+    );
 }

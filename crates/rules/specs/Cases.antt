@@ -1,6 +1,6 @@
 -- Document 01, "Housings to hold up to the rules": "The cases marked P are gathered in a small table, and a single proof shows that the
--- rules above give all its rows". The rows that requests of document 02 bring stand at its end, those
--- of point 6, with floats in them, in a second table.
+-- rules above give all its rows". The rows that requests of document 02 bring stand at its end, those of points 6 and 8, with floats in them, in
+-- tables of their own.
 -- Assumes nothing.
 use mathlib.Core.Bool.{Bool, true, false}
 use mathlib.Core.Option.{Option, none, some}
@@ -26,9 +26,13 @@ use Rattle.rules.specs.Queries.{ring, neighbours, nextBorder, loopNext, 
 use Rattle.rules.specs.Queries.{ringAnswer, ringLeaves, neighboursAnswer, neighboursLeaves, borderLoopAnswer, borderLoopLeaves}
 use Rattle.rules.specs.Holes.{lists, broken, HoleBuffers, leastOf, holesUpTo, holeOf, holes, holeCount}
 use Rattle.rules.specs.Holes.{holeLengths, holesFound, holesFit, holesAnswer, holesLeaves}
-use Rattle.rules.specs.Edits.{Lent, overOld, withRow, onceAccepted, newAnswer, isThere, countsFit, hasRoom, editSizes, editLengths, editAnswer, written, editLeaves}
+use Rattle.rules.specs.Edits.{Edited, becomes, refuses, Lent, overOld, withRow, onceAccepted, newAnswer}
+use Rattle.rules.specs.Edits.{isThere, countsFit, hasRoom, editSizes, editLengths, editAnswer, written, editLeaves}
 use Rattle.rules.specs.Swap.{third, flipped, swapped, isSwappable, swap, swapAnswer, swapLeaves}
 use Rattle.rules.specs.Split.{withCorner, halved, splitAt, isSplittable, hasPoints, canHold, split, splitAnswer, splitLeaves, midway, coordinate, midpoint, withPoint, splitPoints}
+use Rattle.rules.specs.Contract.{withoutRow, withoutBoth, withoutEdge, instead, renamed, merged}
+use Rattle.rules.specs.Contract.{contracted, isNeighbour, isThird, pinches, isUsed, strands, contract}
+use Rattle.rules.specs.Contract.{contractAnswer, contractLeaves, pointOf, withoutPoint, contractPoints}
 
 -- an element's row, or a row of E2e, in three columns or in four; lists are rows joined by ++
 unfoldable pub three : ℕ → ℕ → ℕ → List ℕ
@@ -85,7 +89,11 @@ editRoom n m L v e b work =
       work = replicate work 1;
     }
 
--- so many numbers for points, the i-th of them i, and the bits of points
+-- numbers for points, so many of them, the i-th of them i, and the bits of points
+unfoldable pub wholes : List ℕ → List Float
+wholes [] = []
+wholes (i ∷ is) = ofInt binary64 (pos i) ∷ wholes is
+
 unfoldable pub counted : ℕ → List Float
 counted zero = []
 counted (suc k) = counted k ++ (ofInt binary64 (pos k) ∷ [])
@@ -135,6 +143,15 @@ pub data Case : Type 0 where
   splitRefused : ℕ → ℕ → List ℕ → ℕ → ℕ → ℕ → ℕ → ℕ → ℕ → Answer → List ℕ → Case
   -- the bits of two numbers, and of the one midway
   midwayIs : ℕ → ℕ → ℕ → Case
+  -- what a swap, and a contraction, of the side with this code makes of n and the list
+  swapMakes contractMakes : ℕ → List ℕ → ℕ → Edited → Case
+  -- what a split makes of it, with an m, and a list, V2e, E2e, points and work buffer of these lengths
+  splitMakes : ℕ → ℕ → List ℕ → ℕ → ℕ → ℕ → ℕ → ℕ → Edited → Case
+  -- the side with this code contracted, with so many entries more than needed in each buffer: k, the edges, the list and the points, where number
+  -- i of the points was i; the tables are those that build leaves of the list
+  contractIs : ℕ → List ℕ → ℕ → ℕ → ℕ → ℕ → List ℕ → List ℕ → Case
+  -- as splitRefused
+  contractRefused : ℕ → ℕ → List ℕ → ℕ → ℕ → ℕ → ℕ → ℕ → ℕ → Answer → List ℕ → Case
 
 unfoldable pub sameAnswer : Answer → Answer → Bool
 sameAnswer (gives a b) (gives c d) = both (eqb a c) (eqb b d)
@@ -142,20 +159,27 @@ sameAnswer (gives a b) (refused r c d) = false
 sameAnswer (refused q a b) (gives c d) = false
 sameAnswer (refused q a b) (refused r c d) = both (eqb q r) (both (eqb a c) (eqb b d))
 
+unfoldable pub sameEdited : Edited → Edited → Bool
+sameEdited (becomes n L) (becomes m M) = both (eqb n m) (same L M)
+sameEdited (becomes n L) (refuses r) = false
+sameEdited (refuses q) (becomes m M) = false
+sameEdited (refuses q) (refuses r) = eqb q r
+
 -- the rules give this list: its count is returned, and it stands in an output of its length
 unfoldable pub gave : (List ℕ → Answer) → (List ℕ → List ℕ) → List ℕ → Bool
 gave answer leaves xs =
     let out = blank (length xs) in both (sameAnswer (answer out) (gives (length xs) 0)) (same (leaves out) xs)
 
--- after an answer of an edit: n, the list L and the tables that build leaves of it, with these entries after each, and a work buffer of zeros
-unfoldable pub heldIn : Lent → ℕ → List ℕ → List ℕ → ℕ → Bool
-heldIn w n L more work =
+-- after an answer of an edit of n₀ vertices and m₀ elements: n, the list L and the tables that build leaves of it, zeros as far as the old ones
+-- went, "but not in B2e", with these entries after each, and a work buffer of zeros
+unfoldable pub heldIn : Lent → ℕ → ℕ → ℕ → List ℕ → List ℕ → ℕ → Bool
+heldIn w n₀ m₀ n L more work =
     let built = left n L in
     both (eqb (w .n) n)
     (both (eqb (w .m) (elements L))
-    (both (same (w .list) (L ++ more))
-    (both (same (w .vertices) (built .vertices ++ more))
-    (both (same (w .opposites) (built .opposites ++ more))
+    (both (same (w .list) (L ++ (blank (4 * (m₀ - elements L)) ++ more)))
+    (both (same (w .vertices) (built .vertices ++ (blank (n₀ - n) ++ more)))
+    (both (same (w .opposites) (built .opposites ++ (blank (columns L * (m₀ - elements L)) ++ more)))
     (both (same (w .border) (built .border ++ more)) (same (w .work) (blank work)))))))
 
 -- after a refusal: all as in the other, but for the work
@@ -219,7 +243,7 @@ holds (swapIs n L s spare k e L′) =
     let m = elements L in
     let more : List ℕ = replicate spare 9 in
     let w = editRoom n m (L ++ more) (n + spare) (columns L * m + spare) (k + spare) (n + 16 * m + spare) in
-    both (sameAnswer (swapAnswer w s) (gives k e)) (heldIn (swapLeaves w s) n L′ more (length (w .work)))
+    both (sameAnswer (swapAnswer w s) (gives k e)) (heldIn (swapLeaves w s) n m n L′ more (length (w .work)))
 holds (swapRefused n m L v e b work s a work′) =
     let w = editRoom n m L v e b work in
     both (sameAnswer (swapAnswer w s) a) (sameLent (swapLeaves w s) w work′)
@@ -230,7 +254,7 @@ holds (splitIs n L s spare k e L′ p) =
     let w = editRoom n (elements L) list (n + 1 + spare) (columns L * m + spare) (k + spare) (n + 1 + 16 * m + spare) in
     let P = counted (3 * n + 3 + spare) in
     both (sameAnswer (splitAnswer w P s) (gives k e))
-    (both (heldIn (splitLeaves w P s) (n + 1) L′ more (length (w .work)))
+    (both (heldIn (splitLeaves w P s) n (elements L) (n + 1) L′ more (length (w .work)))
     (same (bits (splitPoints w P s)) (take (3 * n) (bits P) ++ (p ++ drop (3 * n + 3) (bits P)))))
 holds (splitRefused n m L v e b points work s a work′) =
     let w = editRoom n m L v e b work in
@@ -238,6 +262,21 @@ holds (splitRefused n m L v e b points work s a work′) =
     both (sameAnswer (splitAnswer w P s) a)
     (both (sameLent (splitLeaves w P s) w work′) (same (bits (splitPoints w P s)) (bits P)))
 holds (midwayIs x y z) = eqb (toBits binary64 (midway (ofBits binary64 x) (ofBits binary64 y))) z
+holds (swapMakes n L s x) = sameEdited (swap n L s) x
+holds (contractMakes n L s x) = sameEdited (contract n L s) x
+holds (splitMakes n m L v e points work s x) = sameEdited (split (editRoom n m L v e 0 work) (counted points) s) x
+holds (contractIs n L s spare k e L′ p) =
+    let m = elements L in
+    let more : List ℕ = replicate spare 9 in
+    let w = editRoom n m (L ++ more) (n + spare) (columns L * m + spare) (k + spare) (n + 16 * m + spare) in
+    let P = counted (3 * n + spare) in
+    both (sameAnswer (contractAnswer w P s) (gives k e))
+    (both (heldIn (contractLeaves w P s) n m (n - 1) L′ more (length (w .work))) (same (bits (contractPoints w P s)) (bits (wholes p))))
+holds (contractRefused n m L v e b points work s a work′) =
+    let w = editRoom n m L v e b work in
+    let P = counted points in
+    both (sameAnswer (contractAnswer w P s) a)
+    (both (sameLent (contractLeaves w P s) w work′) (same (bits (contractPoints w P s)) (bits P)))
 
 unfoldable pub every : (Case → Bool) → List Case → Bool
 every p [] = true
@@ -344,8 +383,7 @@ cases =
     -- "check 1 drops E2e's fours. Length check 2 .. follow"
     answersWith 4 listing 8 (refused 2 0 0) ∷ answersWith 4 listing 9 (refused 2 0 0) ∷ answersWith 5 mixed 6 (refused 2 0 0) ∷
     -- "Lists of different m can share both, as four triangles apart and three quadrilaterals apart"
-    v2eIs 12 triangles shared ∷ e2eIs 12 triangles shared ∷ recovered 12 4 shared shared (some triangles) ∷
-    v2eIs 12 quadrilaterals shared ∷ e2eIs 12 quadrilaterals shared ∷ recovered 12 3 shared shared (some quadrilaterals) ∷
+    recovered 12 4 shared shared (some triangles) ∷ recovered 12 3 shared shared (some quadrilaterals) ∷
     -- "A triangle list that isn't empty, offered in four columns, gives 10"; and three columns come back as triangles only
     recovered 4 2 (32 ∷ 8 ∷ 16 ∷ 24 ∷ []) (quad 8 16 17 0 ++ quad 11 24 32 0) none ∷
     recovered 5 2 (40 ∷ 8 ∷ 16 ∷ 24 ∷ 32 ∷ []) (quad 8 16 17 0 ++ quad 11 24 32 40) (some mixed) ∷
@@ -416,18 +454,18 @@ cases =
     holesRefused 3 (1 ∷ 2 ∷ 3 ∷ []) (24 ∷ 8 ∷ []) 3 3 2 (refused 1 0 0) (1 ∷ 1 ∷ []) ∷
     -- document 02, point 1: "With side a to b, its third corner c, and the partner's third corner d, the side's row becomes (c,a,d) and the
     -- partner's (d,b,c)": the listing's side 3 to 1, and its partner; and a diagonal beside a quadrilateral, in longer buffers
-    swapIs 4 listing 11 0 4 5 (tri 2 3 4 ++ tri 4 1 2) ∷
+    swapMakes 4 listing 11 (becomes 4 (tri 2 3 4 ++ tri 4 1 2)) ∷
     swapIs 4 listing 17 2 4 5 (tri 2 3 4 ++ tri 4 1 2) ∷
     swapIs 6 (listing ++ quad 3 2 5 6) 17 1 6 8 (tri 2 3 4 ++ tri 4 1 2 ++ quad 3 2 5 6) ∷
     -- "11, 15 and the new list": a code that isn't there; of a border half-edge; of a border side; with a quadrilateral on either side
     swapRefused 4 2 listing 4 6 4 36 0 (refused 11 0 0) (blank 36) ∷
-    swapRefused 4 2 listing 4 6 4 36 12 (refused 11 0 0) (blank 36) ∷
-    swapRefused 4 2 listing 4 6 4 36 25 (refused 11 0 0) (blank 36) ∷
-    swapRefused 4 2 listing 4 6 4 36 40 (refused 11 0 0) (blank 36) ∷
+    swapMakes 4 listing 12 (refuses 11) ∷
+    swapMakes 4 listing 25 (refuses 11) ∷
+    swapMakes 4 listing 40 (refuses 11) ∷
     swapRefused 4 2 listing 4 6 0 36 32 (refused 15 0 0) (blank 36) ∷
-    swapRefused 4 2 listing 4 6 0 36 9 (refused 15 0 0) (blank 36) ∷
-    swapRefused 5 2 mixed 5 8 5 37 11 (refused 15 0 0) (blank 37) ∷
-    swapRefused 5 2 mixed 5 8 5 37 17 (refused 15 0 0) (blank 37) ∷
+    swapMakes 4 listing 9 (refuses 15) ∷
+    swapMakes 5 mixed 11 (refuses 15) ∷
+    swapMakes 5 mixed 17 (refuses 15) ∷
     -- "the old list, 9 apart, is tried first", also where the new one would be accepted; the new list: c and d joined already, the new diagonal a
     -- quadrilateral's; 9 by the new k
     swapRefused 4 2 (tri 1 2 3 ++ tri 1 2 4) 4 6 0 36 0 (refused 7 1 1) (blank 36) ∷
@@ -452,25 +490,25 @@ splits =
     -- document 02, point 6: "A triangle (a,b,c) becomes (a,v,c) and appended (v,b,c). Its partner (b,a,d), if there is one, becomes (b,v,d) and
     -- appended (v,a,d), after the first": the listing's side 3 to 1, and its partner; points 1 and 3 at (0,1,2) and (6,7,8)
     splitIs 4 listing 11 0 4 8 (tri 5 2 3 ++ tri 1 5 4 ++ tri 1 2 5 ++ tri 5 3 4) (three 0x4008_0000_0000_0000 0x4010_0000_0000_0000 0x4014_0000_0000_0000) ∷
-    splitIs 4 listing 17 2 4 8 (tri 5 2 3 ++ tri 1 5 4 ++ tri 5 3 4 ++ tri 1 2 5) (three 0x4008_0000_0000_0000 0x4010_0000_0000_0000 0x4014_0000_0000_0000) ∷
+    splitMakes 4 2 (listing ++ blank 8) 5 12 15 69 17 (becomes 5 (tri 5 2 3 ++ tri 1 5 4 ++ tri 5 3 4 ++ tri 1 2 5)) ∷
     -- "a border side may be split", the side 1 to 2; and beside a quadrilateral
     splitIs 4 listing 9 1 5 7 (tri 1 5 3 ++ tri 1 3 4 ++ tri 5 2 3) (three 0x3ff8_0000_0000_0000 0x4004_0000_0000_0000 0x400c_0000_0000_0000) ∷
-    splitIs 5 mixed 9 0 6 8 (tri 1 6 3 ++ quad 1 3 4 5 ++ tri 6 2 3) (three 0x3ff8_0000_0000_0000 0x4004_0000_0000_0000 0x400c_0000_0000_0000) ∷
+    splitMakes 5 2 (mixed ++ blank 4) 6 12 18 54 9 (becomes 6 (tri 1 6 3 ++ quad 1 3 4 5 ++ tri 6 2 3)) ∷
     -- 11; "Refusal 15 is given here only for a quadrilateral or for a border code"
     splitRefused 4 2 (listing ++ blank 8) 5 12 4 15 69 0 (refused 11 0 0) (blank 69) ∷
-    splitRefused 4 2 (listing ++ blank 8) 5 12 4 15 69 12 (refused 11 0 0) (blank 69) ∷
-    splitRefused 4 2 (listing ++ blank 8) 5 12 4 15 69 25 (refused 11 0 0) (blank 69) ∷
-    splitRefused 4 2 (listing ++ blank 8) 5 12 4 15 69 40 (refused 11 0 0) (blank 69) ∷
-    splitRefused 4 2 (listing ++ blank 8) 5 12 4 15 69 32 (refused 15 0 0) (blank 69) ∷
-    splitRefused 5 2 (mixed ++ blank 8) 6 16 5 18 70 11 (refused 15 0 0) (blank 70) ∷
-    splitRefused 5 2 (mixed ++ blank 8) 6 16 5 18 70 17 (refused 15 0 0) (blank 70) ∷
-    splitRefused 5 2 mixed 5 8 0 15 37 18 (refused 15 0 0) (blank 37) ∷
+    splitMakes 4 2 (listing ++ blank 8) 5 12 15 69 12 (refuses 11) ∷
+    splitMakes 4 2 (listing ++ blank 8) 5 12 15 69 25 (refuses 11) ∷
+    splitMakes 4 2 (listing ++ blank 8) 5 12 15 69 40 (refuses 11) ∷
+    splitMakes 4 2 (listing ++ blank 8) 5 12 15 69 32 (refuses 15) ∷
+    splitMakes 5 2 (mixed ++ blank 8) 6 16 18 70 11 (refuses 15) ∷
+    splitMakes 5 2 (mixed ++ blank 8) 6 16 18 70 17 (refuses 15) ∷
+    splitMakes 5 2 mixed 5 8 15 37 18 (refuses 15) ∷
     -- "19: .. a lent buffer but B2e can't hold the new length; after 15, with 9 by the new k last"
-    splitRefused 4 2 (listing ++ blank 7) 5 12 0 15 69 11 (refused 19 0 0) (blank 69) ∷
-    splitRefused 4 2 (listing ++ blank 8) 4 12 0 15 69 11 (refused 19 0 0) (blank 69) ∷
-    splitRefused 4 2 (listing ++ blank 8) 5 11 0 15 69 11 (refused 19 0 0) (blank 69) ∷
-    splitRefused 4 2 (listing ++ blank 8) 5 12 0 14 69 11 (refused 19 0 0) (blank 69) ∷
-    splitRefused 4 2 (listing ++ blank 8) 5 12 0 15 68 11 (refused 19 0 0) (blank 68) ∷
+    splitMakes 4 2 (listing ++ blank 7) 5 12 15 69 11 (refuses 19) ∷
+    splitMakes 4 2 (listing ++ blank 8) 4 12 15 69 11 (refuses 19) ∷
+    splitMakes 4 2 (listing ++ blank 8) 5 11 15 69 11 (refuses 19) ∷
+    splitMakes 4 2 (listing ++ blank 8) 5 12 14 69 11 (refuses 19) ∷
+    splitMakes 4 2 (listing ++ blank 8) 5 12 15 68 11 (refuses 19) ∷
     splitRefused 4 2 (listing ++ blank 8) 5 12 3 15 69 11 (refused 9 4 0) (blank 69) ∷
     splitRefused 4 2 (listing ++ blank 4) 5 9 4 15 53 9 (refused 9 5 0) (blank 53) ∷
     -- "Points are lent as 3 × n numbers, under check 2 too"; "The old list must be accepted"
@@ -489,6 +527,56 @@ splits =
     midwayIs 0x7ff0_0000_0000_0000 0xfff0_0000_0000_0000 0x7ff8_0000_0000_0000 ∷
     []
 
+-- four triangles about vertex 5
+unfoldable pub wheel : List ℕ
+wheel = tri 1 2 5 ++ tri 2 3 5 ++ tri 3 4 5 ++ tri 4 1 5
+
+-- a band about the rims 1, 2, 3 and 4, 5, 6, in two triangles and two quadrilaterals
+unfoldable pub band : List ℕ
+band = tri 1 2 5 ++ tri 1 5 4 ++ quad 2 3 6 5 ++ quad 3 1 4 6
+
+-- those of point 8
+unfoldable pub contractions : List Case
+contractions =
+    -- document 02, point 8: "The one or two triangles on the edge go, the higher-numbered first; each time the last row takes the freed number.
+    -- Every b becomes a, then the last vertex takes number b": the wheel's side 1 to 2; 5 to 1, where a is the last vertex; and 1 to 5, where b is;
+    -- 3 to 5, with row 4 in the place of the two
+    contractMakes 5 wheel 9 (becomes 4 (tri 4 1 2 ++ tri 1 3 2 ++ tri 3 4 2)) ∷
+    contractMakes 5 wheel 11 (becomes 4 (tri 3 4 1 ++ tri 2 3 1)) ∷
+    contractMakes 5 wheel 34 (becomes 4 (tri 3 4 1 ++ tri 2 3 1)) ∷
+    contractMakes 5 wheel 18 (becomes 4 (tri 1 2 3 ++ tri 4 1 3)) ∷
+    -- the last row alone; beside a quadrilateral
+    contractMakes 4 listing 18 (becomes 3 (tri 1 2 3)) ∷
+    contractMakes 5 mixed 10 (becomes 4 (quad 1 2 4 3)) ∷
+    -- "quadrilaterals on the edge or a border code give 15", after 11
+    contractMakes 4 listing 0 (refuses 11) ∷
+    contractMakes 4 listing 40 (refuses 11) ∷
+    contractMakes 4 listing 32 (refuses 15) ∷
+    contractMakes 5 mixed 11 (refuses 15) ∷
+    contractMakes 5 mixed 18 (refuses 15) ∷
+    -- "20: a and b have a common neighbour that is not a third corner of those triangles", 3 by the rim; before 21, with a triangle 2, 1, 7 beyond
+    -- the edge; a diagonal makes no neighbour
+    contractMakes 6 band 9 (refuses 20) ∷
+    contractMakes 7 (band ++ tri 2 1 7) 9 (refuses 20) ∷
+    contractMakes 5 (tri 1 2 3 ++ tri 1 3 4 ++ quad 3 2 5 4) 9 (becomes 4 (quad 3 1 2 4 ++ tri 1 3 4)) ∷
+    -- "21: a vertex that was used would be left unused": all, the side's own third corner, and that of its partner; not one that was spare
+    contractMakes 3 (tri 1 2 3) 9 (refuses 21) ∷
+    contractMakes 5 (listing ++ tri 1 4 5) 11 (refuses 21) ∷
+    contractMakes 5 (listing ++ tri 1 4 5) 17 (refuses 21) ∷
+    contractMakes 5 listing 18 (becomes 4 (tri 1 2 3)) ∷
+    -- the whole call: "Entries between the new and the old length become 0, but not in B2e", and of the points
+    contractIs 5 wheel 9 1 3 6 (tri 4 1 2 ++ tri 1 3 2 ++ tri 3 4 2) (0 ∷ 1 ∷ 2 ∷ 12 ∷ 13 ∷ 14 ∷ 6 ∷ 7 ∷ 8 ∷ 9 ∷ 10 ∷ 11 ∷ 0 ∷ 0 ∷ 0 ∷ 15 ∷ []) ∷
+    contractIs 4 listing 18 2 3 3 (tri 1 2 3) (0 ∷ 1 ∷ 2 ∷ 3 ∷ 4 ∷ 5 ∷ 6 ∷ 7 ∷ 8 ∷ 0 ∷ 0 ∷ 0 ∷ 12 ∷ 13 ∷ []) ∷
+    -- "which build must accept": two fans about one vertex; two triangles on the same corners; 9 by the new k
+    contractRefused 6 4 (listing ++ tri 2 1 5 ++ tri 4 3 6) 6 12 0 18 70 11 (refused 8 3 0) (blank 70) ∷
+    contractRefused 4 4 tetrahedron 4 12 0 12 68 9 (refused 18 1 2) (blank 68) ∷
+    contractRefused 4 2 listing 4 6 2 12 36 9 (refused 9 3 0) (blank 36) ∷
+    -- "The old list must be accepted"; the points under check 2
+    contractRefused 4 2 (tri 1 2 3 ++ tri 1 2 4) 4 6 0 12 36 0 (refused 7 1 1) (blank 36) ∷
+    contractRefused 4 2 listing 4 6 4 11 36 9 (refused 2 0 0) (replicate 36 1) ∷
+    contractRefused 1_000_001 2 [] 4 6 4 0 36 9 (refused 1 0 0) (replicate 36 1) ∷
+    []
+
 -- the rules give every row of the table
 pub cases-hold : T (every holds cases)
 unfolding three quad tri blank room left built sameAnswer gave holds every listing listingE2e tetrahedron mixed triangles
@@ -505,11 +593,11 @@ unfolding three quad tri blank room left built sameAnswer gave holds every listi
     has holeRoom openings apart between lists broken leastOf holesUpTo holeOf holes holeCount holeLengths holesFound holesFit holesAnswer holesLeaves
     editRoom fan previousNumber previous overOld onceAccepted newAnswer isThere countsFit hasRoom editSizes editLengths editAnswer written editLeaves
     third flipped withRow swapped isSwappable swap
-    heldIn sameLent
+    heldIn sameLent sameEdited
 cases-hold = tt
 
 pub splits-hold : T (every holds splits)
-unfolding three quad tri blank room left sameAnswer holds every listing mixed splits least count upto tab zeros same
+unfolding three quad tri blank room left sameAnswer sameEdited holds every listing mixed splits least count upto tab zeros same
     sidesBy isSide slot origin nextNumber next sideAt firstSide countSides firstNumber alike opposed joins callSizes sizesFit unfitCorner repeatedCorner
     isCorner sharedCorners shareSide meetWell partner isBorder b2e borderNumber borders columns codeAt e2eEntry e2e wide borderInto v2eEntry v2e edges
     sideOfBorder walkStart turnBy trace walkTo walk crowdedSide alikeSide missed unorderedVertex clashOf clashing checkFound listAnswer callLengths
@@ -518,3 +606,15 @@ unfolding three quad tri blank room left sameAnswer holds every listing mixed sp
     withCorner halved splitAt isSplittable hasPoints canHold split midway coordinate midpoint withPoint splitPoints
     ofInt ofBits ofFields toBits round size span climb units odd trailingZeros sum add mul
 splits-hold = tt
+
+pub contractions-hold : T (every holds contractions)
+unfolding three quad tri blank room left sameAnswer sameEdited holds every listing mixed tetrahedron wheel band contractions least count upto tab zeros same
+    sidesBy isSide slot origin nextNumber previousNumber next previous sideAt firstSide countSides firstNumber alike opposed joins callSizes sizesFit
+    unfitCorner repeatedCorner isCorner sharedCorners shareSide meetWell partner isBorder b2e borderNumber borders columns codeAt e2eEntry e2e wide
+    borderInto v2eEntry v2e edges sideOfBorder walkStart turnBy trace walkTo walk crowdedSide alikeSide missed unorderedVertex clashOf clashing
+    checkFound listAnswer callLengths buildLengths lengthChecks roomCheck buildAnswer after onto buildLeaves workAfter
+    editRoom overOld onceAccepted newAnswer isThere countsFit hasRoom editSizes editLengths editAnswer written editLeaves counted wholes bits heldIn sameLent
+    isSplittable hasPoints coordinate withPoint third withRow
+    withoutRow withoutBoth withoutEdge instead renamed merged contracted isNeighbour isThird pinches isUsed strands contract pointOf withoutPoint contractPoints
+    ofInt ofBits ofFields toBits round size span climb units odd trailingZeros sum add mul
+contractions-hold = tt

@@ -9,4 +9,5 @@ pub mod Holes
 pub mod Edits
 pub mod Swap
 pub mod Split
+pub mod Contract
 pub mod Cases

@@ -23,6 +23,7 @@ use Rattle.rules.specs.Siblings.{SiblingBuffers, siblingsAnswer}
 use Rattle.rules.specs.Edits.{Edited, becomes, refuses, Lent, held, onceAccepted, newAnswer, editSizes, editLengths, editAnswer}
 use Rattle.rules.specs.Swap.{swapped, swap, swapAnswer}
 use Rattle.rules.specs.Split.{hasPoints, split, splitAnswer}
+use Rattle.rules.specs.Contract.{contract, contractAnswer}
 use Rattle.rules.specs.Holes.{HoleBuffers, leastOf, holesUpTo, holeCount, holesFound, holesFit, holesAnswer}
 use Rattle.rules.specs.Queries.{Mesh, columnsAnswer, queryLengths, asked, defined, found, listed, andThen, prepend, readAll, read, bySide, byEntry, follow, over, isBorderCode, isHalfEdge, isEntry}
 use Rattle.rules.specs.Queries.{isVertex, readOpposite, readBorderSide, readVertexEntry, readOrigin, readDestination, opposite, borderNext, startSide}
@@ -36,6 +37,7 @@ use Rattle.theory.specs.FitRows.{means-sizes}
 use Rattle.theory.specs.Columns.{three-or-four}
 use Rattle.theory.specs.Built.{borders-bound}
 use Rattle.theory.specs.SplitTests as split-tests
+use Rattle.theory.specs.ContractTests as contract-tests
 use Rattle.answer.specs.Packing.{Fits}
 use Rattle.swap.specs.Swaps.{refuses-by, becomes-swapped}
 use Rattle.runs.specs.Runs.{walked-answers}
@@ -43,6 +45,7 @@ use Rattle.runs.specs.Demand3.{list-counted}
 use Rattle.runs.specs.Edits.{held-sizes}
 use Rattle.runs.specs.Swaps.{new-sizes}
 use Rattle.runs.specs.Splits.{split-sizes}
+use Rattle.runs.specs.Contractions.{contract-sizes}
 
 -- what check 1 says of n and the list
 abbrev Sized : ℕ → List ℕ → Type 0
@@ -165,6 +168,17 @@ split-fits w P s =
   where
     becomes-sized : Accepted (w .n) (held w) → (n′ : ℕ) (L′ : List ℕ) → split w P s ≡ becomes n′ L′ → Sized n′ L′
     becomes-sized old n′ L′ e = means-sizes n′ L′ .says (split-sizes w P s old e)
+
+pub contract-fits : (w : Lent) (P : List Float) (s : ℕ) → Fits (contractAnswer w P s)
+contract-fits w P s =
+    edit-fits w (hasPoints (w .n) P) (contract (w .n) (held w) s) becomes-sized
+    (λ r e. elim (contract-tests.refuses-by (w .n) (held w) s e) [
+      | inl i ↦ omega arith
+      | inr j ↦ elim j [ inl i ↦ omega arith | inr k ↦ elim k [ inl i ↦ omega arith | inr i ↦ omega arith ] ]
+    ])
+  where
+    becomes-sized : Accepted (w .n) (held w) → (n′ : ℕ) (L′ : List ℕ) → contract (w .n) (held w) s ≡ becomes n′ L′ → Sized n′ L′
+    becomes-sized old n′ L′ e = means-sizes n′ L′ .says (contract-sizes (w .n) (held w) s old e)
 
 pub siblings-fits : (n : ℕ) (L : List ℕ) (w : SiblingBuffers) → Fits (siblingsAnswer n L w)
 unfolding siblingsAnswer

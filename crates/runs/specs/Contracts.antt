@@ -30,6 +30,8 @@ use Rattle.swap.proofs.swap.Kinds as swap-kinds
 use Rattle.swap.proofs.swap.Reads as swap-reads
 use Rattle.split.proofs.split.Kinds as split-kinds
 use Rattle.split.proofs.split.Reads as split-reads
+use Rattle.contract.proofs.contract.Kinds as contract-kinds
+use Rattle.contract.proofs.contract.Reads as contract-reads
 use Rattle.sibling_map.specs.Mapping.{lentMaps}
 use Rattle.sibling_map.proofs.siblings.Kinds as siblings-kinds
 use Rattle.sibling_map.proofs.siblings.Reads as siblings-reads
@@ -52,7 +54,8 @@ use Rattle.walker.specs.declared.Call.the-variants.{Start, Step}
 use Rattle.walker.specs.Walkers.{recordOf, movedOf, calledBy}
 use Rattle.walker.proofs.call_at.Kinds as call-at-kinds
 use Rattle.walker.proofs.call_at.Reads as call-at-reads
-use Rattle.runs.specs.Runs.{StartRun, StepRun, BuildRun, RecoverRun, SiblingsRun, SwapRun, SplitRun, RingRun, NeighboursRun, BorderLoopRun, HolesRun}
+use Rattle.runs.specs.Runs.{StartRun, StepRun, BuildRun, RecoverRun, SiblingsRun, SwapRun}
+use Rattle.runs.specs.Runs.{SplitRun, ContractRun, RingRun, NeighboursRun, BorderLoopRun, HolesRun}
 
 -- next_side(row, i) and previous_side(row, i)
 module _ (κs : Lfts 0) (a : Dens κs next-side-kinds.ps) (r : resT next-side-kinds.r κs .Denot) (s : AtExit (endedOf 0 next-side-kinds.ps next-side-kinds.r) κs) where
@@ -105,6 +108,16 @@ module _ (κs : Lfts 7) (a : Dens κs split-kinds.ps) (r : resT split-kinds.r κ
       (lentSized (s .0 .now) (s .1 .0 .now) (s .1 .1 .0 .now) (s .1 .1 .1 .0 .now) (s .1 .1 .1 .1 .0 .now) (s .1 .1 .1 .1 .1 .1 .0 .now))
       (s .1 .1 .1 .1 .1 .0 .now)
   split-run p = record { edit = record { answer = p .0; leaves = p .1 .0 }; points = p .1 .1 }
+
+-- contract(size, list, v2e, e2e, b2e, points, work, code)
+module _ (κs : Lfts 7) (a : Dens κs contract-kinds.ps) (r : resT contract-kinds.r κs .Denot) (s : AtExit (endedOf 7 contract-kinds.ps contract-kinds.r) κs) where
+  pub contract-run : contract-reads.Post κs a r s
+      → ContractRun
+      (lentSized (a .0 .now) (a .1 .0 .now) (a .1 .1 .0 .now) (a .1 .1 .1 .0 .now) (a .1 .1 .1 .1 .0 .now) (a .1 .1 .1 .1 .1 .1 .0 .now))
+      (a .1 .1 .1 .1 .1 .0 .now) (a .1 .1 .1 .1 .1 .1 .1 .0) (numbers r)
+      (lentSized (s .0 .now) (s .1 .0 .now) (s .1 .1 .0 .now) (s .1 .1 .1 .0 .now) (s .1 .1 .1 .1 .0 .now) (s .1 .1 .1 .1 .1 .1 .0 .now))
+      (s .1 .1 .1 .1 .1 .0 .now)
+  contract-run p = record { edit = record { answer = p .0; leaves = p .1 .0 }; points = p .1 .1 }
 
 -- columns(n, list)
 module _ (κs : Lfts 1) (a : Dens κs columns-kinds.ps) (r : resT columns-kinds.r κs .Denot) (s : AtExit (endedOf 1 columns-kinds.ps columns-kinds.r) κs) where

@@ -4,20 +4,21 @@
 use mathlib.Core.Path.{_≡_, refl, ap, sym, subst, _∙_}
 use mathlib.Core.Bool.{Bool, true, false}
 use mathlib.Core.Logic.{_⊎_, inl, inr}
-use mathlib.Core.List.{List}
-use Prim.Native.Nat.{ℕ, _+_, _*_, _/_, _%_, _≤_}
+use mathlib.Core.List.{List, _++_}
+use Prim.Native.Nat.{ℕ, _+_, _*_, _-_, _/_, _%_, _≤_, _<_}
 use native.Mathlib.Omega.{arith}
 use lib.Dec.{T}
-use lib.ListN.{length, take, drop, length-replicate}
-use lib.Seq.{length-take-le}
+use lib.ListN.{length, take, drop, replicate, length-append, length-replicate, getD-replicate, List·getD-append}
+use lib.Seq.{length-take-le, getD-append-add}
 use Rattle.lists.specs.Tests.{both}
 use Rattle.lists.specs.TestLaws.{Means, pass, fail, test, passes, true-of, means-itself, means-either, means-both, means-eq, means-le, means-within}
+use Rattle.lists.specs.Search.{at}
 use Rattle.lists.specs.SearchLaws.{le-or-lt}
 use Rattle.rules.specs.Elements.{maxVertex, maxElement, elements, isSide, Side}
 use Rattle.rules.specs.Pairing.{Accepted, sizesFit}
 use Rattle.rules.specs.Tables.{borders, b2e, columns, e2e, v2e, edges}
 use Rattle.rules.specs.Recovery.{HasTables}
-use Rattle.rules.specs.Refusals.{Answer, gives, refused, Buffers, buildLengths, listAnswer, lengthChecks, roomCheck, after, workAfter, buildAnswer}
+use Rattle.rules.specs.Refusals.{Answer, gives, refused, Buffers, buildLengths, listAnswer, lengthChecks, roomCheck, after, onto, workAfter, buildAnswer}
 use Rattle.rules.specs.Refusals.{recoverAnswer, recoverList, recoverWork}
 use Rattle.rules.specs.Queries.{Mesh}
 use Rattle.rules.specs.Edits.{Edited, becomes, refuses, Lent, withWork, overOld, isThere, held, countsFit, hasRoom, onceAccepted, newAnswer, editSizes, editLengths, editAnswer, written, editLeaves}
@@ -60,6 +61,24 @@ pub record Untouched (w w′ : Lent) (k : ℕ) : Type 0 where
   pub vertices : (p : ℕ) → w .n ≤ p → w′ .n ≤ p → drop p (w′ .vertices) ≡ drop p (w .vertices)
   pub opposites : (p : ℕ) → columns (held w) * w .m ≤ p → columns (held w′) * w′ .m ≤ p → drop p (w′ .opposites) ≡ drop p (w .opposites)
   pub border : (p : ℕ) → k ≤ p → drop p (w′ .border) ≡ drop p (w .border)
+
+-- "Entries between the new and the old length become 0, but not in B2e" (point 8)
+pub record Cleared (w w′ : Lent) : Type 0 where
+  pub list : (p : ℕ) → 4 * w′ .m ≤ p → p < 4 * w .m → at (w′ .list) p ≡ 0
+  pub vertices : (p : ℕ) → w′ .n ≤ p → p < w .n → at (w′ .vertices) p ≡ 0
+  pub opposites : (p : ℕ) → columns (held w′) * w′ .m ≤ p → p < columns (held w) * w .m → at (w′ .opposites) p ≡ 0
+
+-- 0 stands past what is put over the old entries, up to their end
+zero-over : (old : ℕ) (xs buffer : List ℕ) (p : ℕ) → length xs ≤ p → p < old → at (overOld old xs buffer) p ≡ 0
+unfolding overOld onto
+zero-over old xs buffer p h i =
+    let zeros : List ℕ = replicate (old - length xs) 0 in
+    let e : p ≡ length xs + (p - length xs) = omega arith in
+    List·getD-append (xs ++ zeros) (drop (length (xs ++ zeros)) buffer) 0 p
+    (omega (arith, length-append xs zeros, length-replicate {A = ℕ} (old - length xs) 0))
+    ∙ ap (at (xs ++ zeros)) e
+    ∙ getD-append-add xs zeros (p - length xs) 0
+    ∙ getD-replicate {A = ℕ} (old - length xs) (p - length xs) 0 0 (omega arith)
 
 -- what a run of build says of a list with fit sizes, in buffers of fit lengths
 build-tried : (n : ℕ) (L : List ℕ) (u : Buffers) (b : Answer) (u′ : Buffers) → BuildRun n L u b u′ → T (sizesFit n L) → T (buildLengths n L u)
@@ -265,16 +284,32 @@ module _ {others : Bool} (x : Edited) (w : Lent) (a : Answer) (w′ : Lent) (run
         let (f, g) = tables-come-back n′ L′ V2e E2e tables list work (omega (arith, fours, same-m)) (omega (arith, same-n, same-m)) b list′ work″ told in
         (f, g ∙ sym (ap (λ (M : Mesh). M .list) tables-left))
 
+    same-list : held w′ ≡ L′
+    same-list = ap (λ (M : Mesh). M .list) tables-left
+
+    wide : length (e2e L′) ≡ columns (held w′) * w′ .m
+    wide = length-e2e L′ ∙ (λ t. columns (sym same-list t) * sym same-m t)
+
+    pub cleared : Cleared w w′
+    unfolding written
+    cleared =
+        record {
+          list = λ p h i.
+              ap (λ (u : Lent). at (u .list) p) left ∙ zero-over (4 * w .m) L′ (w .list) p (omega (arith, fours, same-m)) i;
+          vertices = λ p h i.
+              ap (λ (u : Lent). at (u .vertices) p) left ∙ zero-over (w .n) (v2e n′ L′) (w .vertices) p (omega (arith, length-v2e L′ n′, same-n)) i;
+          opposites = λ p h i.
+              ap (λ (u : Lent). at (u .opposites) p) left ∙ zero-over (columns L * w .m) (e2e L′) (w .opposites) p (omega (arith, wide)) i;
+        }
+
     pub untouched : Untouched w w′ k
     unfolding written
     untouched =
-        let same : held w′ ≡ L′ = ap (λ (M : Mesh). M .list) tables-left in
         record {
           list = λ p h i. ap (λ (u : Lent). drop p (u .list)) left ∙ past-over (4 * w .m) L′ (w .list) p h (omega (arith, fours, same-m));
           vertices = λ p h i.
               ap (λ (u : Lent). drop p (u .vertices)) left ∙ past-over (w .n) (v2e n′ L′) (w .vertices) p h (omega (arith, length-v2e L′ n′, same-n));
           opposites = λ p h i.
-              let wide : length (e2e L′) ≡ columns (held w′) * w′ .m = length-e2e L′ ∙ (λ t. columns (sym same t) * sym same-m t) in
               ap (λ (u : Lent). drop p (u .opposites)) left ∙ past-over (columns L * w .m) (e2e L′) (w .opposites) p h (omega (arith, wide));
           border = λ p h. ap (λ (u : Lent). drop p (u .border)) left ∙ past-onto (b2e L′) (w .border) p (omega (arith, length-b2e L′, number));
         }
@@ -287,13 +322,12 @@ module _ {others : Bool} (x : Edited) (w : Lent) (a : Answer) (w′ : Lent) (run
     fit-still sizes lengths list vertices opposites border work others′ more =
         let fit = good n′ L′ new .fit in
         let (l, v, e, r) = enough w others sizes lengths in
-        let same : held w′ ≡ L′ = ap (λ (M : Mesh). M .list) tables-left in
         let list-long = ap (λ (u : Lent). length (u .list)) left ∙ over-length (4 * w .m) L′ (w .list) l list in
         let vertices-long = ap (λ (u : Lent). length (u .vertices)) left ∙ over-length (w .n) (v2e n′ L′) (w .vertices) v (omega (arith, length-v2e L′ n′)) in
         let opposites-long = ap (λ (u : Lent). length (u .opposites)) left ∙ over-length (columns L * w .m) (e2e L′) (w .opposites) e (omega (arith, length-e2e L′)) in
         let border-long = ap (λ (u : Lent). length (u .border)) left ∙ onto-length (b2e L′) (w .border) (omega (arith, length-b2e L′, number)) in
         let work-long = ap (λ (u : Lent). length (u .work)) left ∙ work-length in
-        let columned : columns (held w′) * w′ .m ≡ columns L′ * elements L′ = λ i. columns (same i) * same-m i in (
+        let columned : columns (held w′) * w′ .m ≡ columns L′ * elements L′ = λ i. columns (same-list i) * same-m i in (
           means-both (means-le (w′ .n) maxVertex) (means-le (w′ .m) maxElement) .shows (omega (arith, fit .vertices, same-n), omega (arith, fit .size, same-m)),
           means-both (means-itself others′) (means-holds (w′ .n) (w′ .m) (w′ .list) (length (w′ .vertices)) (length (w′ .opposites)) (length (w′ .work))) .shows
               (more, (omega (arith, list-long, fit .fours, same-m), (omega (arith, vertices-long, same-n), (omega (arith, opposites-long, columned), omega (arith, work-long, same-n, same-m))))),

@@ -8,6 +8,7 @@ use Rattle.rules.specs.Refusals.{buildAnswer, recoverAnswer}
 use Rattle.rules.specs.Siblings.{siblingsAnswer}
 use Rattle.rules.specs.Swap.{swapAnswer}
 use Rattle.rules.specs.Split.{splitAnswer}
+use Rattle.rules.specs.Contract.{contractAnswer}
 use Rattle.rules.specs.Holes.{holesAnswer}
 use Rattle.rules.specs.Queries.{told as mesh-of}
 use Rattle.rules.specs.Queries.{Mesh, columnsAnswer, oppositeAnswer, nextAnswer, previousAnswer, elementAnswer, originAnswer, destinationAnswer, acrossAnswer}
@@ -25,6 +26,8 @@ use Rattle.borzhanu.proofs.borzhanu_swap.Kinds as swap-kinds
 use Rattle.borzhanu.proofs.borzhanu_swap.Reads as swap-reads
 use Rattle.borzhanu.proofs.borzhanu_split.Kinds as split-kinds
 use Rattle.borzhanu.proofs.borzhanu_split.Reads as split-reads
+use Rattle.borzhanu.proofs.borzhanu_contract.Kinds as contract-kinds
+use Rattle.borzhanu.proofs.borzhanu_contract.Reads as contract-reads
 use Rattle.borzhanu.proofs.borzhanu_opposite.Kinds as opposite-kinds
 use Rattle.borzhanu.proofs.borzhanu_opposite.Reads as opposite-reads
 use Rattle.borzhanu.proofs.borzhanu_next.Reads as next-reads
@@ -51,7 +54,8 @@ use Rattle.holes.specs.Marks.{lentHoles}
 use Rattle.borzhanu.specs.Walkers.{walkerIn}
 use Rattle.answer.specs.Packing.{told}
 use Rattle.runs.specs.Contracts.{buffers, of}
-use Rattle.runs.specs.Bounds.{build-fits, columns-fits, recover-fits, siblings-fits, swap-fits, split-fits, opposite-fits, next-fits, previous-fits, element-fits, origin-fits, destination-fits}
+use Rattle.runs.specs.Bounds.{build-fits, columns-fits, recover-fits, siblings-fits, swap-fits, split-fits}
+use Rattle.runs.specs.Bounds.{contract-fits, opposite-fits, next-fits, previous-fits, element-fits, origin-fits, destination-fits}
 use Rattle.runs.specs.Bounds.{across-fits, half-edge-border-fits, vertex-border-fits, ring-fits, neighbours-fits}
 use Rattle.runs.specs.Bounds.{border-loop-fits, holes-fits, start-fits, step-fits}
 
@@ -84,6 +88,14 @@ module _ (κs : Lfts 7) (a : Dens κs split-kinds.ps) (r : resT split-kinds.r κ
       ≡ splitAnswer (lentSized (a .0 .now) (a .1 .0 .now) (a .1 .1 .0 .now) (a .1 .1 .1 .0 .now) (a .1 .1 .1 .1 .0 .now) (a .1 .1 .1 .1 .1 .1 .0 .now))
       (a .1 .1 .1 .1 .1 .0 .now) (a .1 .1 .1 .1 .1 .1 .1 .0)
   split-told p = told _ (split-fits _ _ _) r (p .0)
+
+-- borzhanu_contract(size, elements, v2e, e2e, b2e, points, work, code)
+module _ (κs : Lfts 7) (a : Dens κs contract-kinds.ps) (r : resT contract-kinds.r κs .Denot) (s : AtExit (endedOf 7 contract-kinds.ps contract-kinds.r) κs) where
+  pub contract-told : contract-reads.Post κs a r s
+      → unpacked r
+      ≡ contractAnswer (lentSized (a .0 .now) (a .1 .0 .now) (a .1 .1 .0 .now) (a .1 .1 .1 .0 .now) (a .1 .1 .1 .1 .0 .now) (a .1 .1 .1 .1 .1 .1 .0 .now))
+      (a .1 .1 .1 .1 .1 .0 .now) (a .1 .1 .1 .1 .1 .1 .1 .0)
+  contract-told p = told _ (contract-fits _ _ _) r (p .0)
 
 module _ (κs : Lfts 1) (a : Dens κs columns-kinds.ps) (r : resT columns-kinds.r κs .Denot) (s : AtExit (endedOf 1 columns-kinds.ps columns-kinds.r) κs) where
   pub columns-told : columns-reads.Post κs a r s → unpacked r ≡ columnsAnswer (a .0) (a .1 .0 .now)

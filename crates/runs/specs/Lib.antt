@@ -10,7 +10,11 @@ pub mod RoundTrip
 pub mod Edits
 pub mod Swaps
 pub mod Splits
+pub mod Points
 pub mod SplitPoints
+pub mod Contractions
+pub mod ContractionPoints
+pub mod SplitThenContract
 pub mod SwapBack
 pub mod Bounds
 pub mod Exports

@@ -13,6 +13,7 @@ use Rattle.rules.specs.Holes.{HoleBuffers, holesAnswer, holesLeaves}
 use Rattle.rules.specs.Edits.{Edited, Lent, held, editAnswer, editLeaves}
 use Rattle.rules.specs.Swap.{swap}
 use Rattle.rules.specs.Split.{hasPoints, split, splitPoints}
+use Rattle.rules.specs.Contract.{contract, contractPoints}
 use Rattle.rules.specs.Queries.{Mesh, oppositeAnswer, nextAnswer, previousAnswer, elementAnswer, originAnswer, destinationAnswer, acrossAnswer}
 use Rattle.rules.specs.Queries.{halfEdgeBorderAnswer, vertexBorderAnswer, ringAnswer, ringLeaves, neighboursAnswer, neighboursLeaves}
 use Rattle.rules.specs.Queries.{borderLoopAnswer, borderLoopLeaves, Walker, walked, walkerStart, walkerStep}
@@ -46,6 +47,11 @@ SwapRun w s = EditRun true (swap (w .n) (held w) s) w
 pub record SplitRun (w : Lent) (P : List Float) (s : ℕ) (a : Answer) (w′ : Lent) (P′ : List Float) : Type 0 where
   pub edit : EditRun (hasPoints (w .n) P) (split w P s) w a w′
   pub points : P′ ≡ splitPoints w P s
+
+-- a run of contract with the code s, over the points P
+pub record ContractRun (w : Lent) (P : List Float) (s : ℕ) (a : Answer) (w′ : Lent) (P′ : List Float) : Type 0 where
+  pub edit : EditRun (hasPoints (w .n) P) (contract (w .n) (held w) s) w a w′
+  pub points : P′ ≡ contractPoints w P s
 
 -- runs of the queries that write a list
 pub record RingRun (M : Mesh) (v : ℕ) (out : List ℕ) (a : Answer) (out′ : List ℕ) : Type 0 where

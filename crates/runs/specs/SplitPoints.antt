@@ -2,14 +2,13 @@
 -- whole numbers from −2^52 to 2^52 the result is exactly half their sum"; "old points stay".
 -- Assumes nothing.
 use mathlib.Core.Path.{_≡_, refl, ap, sym, subst, _∙_}
-use mathlib.Core.List.{List, _++_}
-use Prim.Native.Nat.{ℕ, zero, suc, _+_, _*_, _-_, _^_, _≤_, _<_}
+use mathlib.Core.List.{List}
+use Prim.Native.Nat.{ℕ, zero, suc, _+_, _*_, _^_, _≤_, _<_}
 use native.Mathlib.Omega.{arith}
 use lib.Dec.{T}
 use lib.Ieee.{Float, nan}
 use lib.IntN.{ℤ, natAbs, _+ℤ_}
-use lib.ListN.{length, take, drop, getD, length-append, length-drop, List·getD-append}
-use lib.Seq.{length-take-le, take-append-seam, drop-append-add, getD-append-add, getD-take}
+use lib.ListN.{length, take, drop, getD}
 use Rattle.lists.specs.TestLaws.{means-le}
 use Rattle.rules.specs.Elements.{origin, destination}
 use Rattle.rules.specs.Refusals.{Answer, gives, after}
@@ -17,51 +16,9 @@ use Rattle.rules.specs.Edits.{Lent, held, editSizes, editLengths}
 use Rattle.rules.specs.Split.{hasPoints, midway, coordinate, midpoint, withPoint, placed, splitPoints}
 use Rattle.points.specs.Exact.{Equals, midway-exact}
 use Rattle.runs.specs.Runs.{SplitRun}
+use Rattle.runs.specs.Points.{with-front, with-rest, with-length, with-old, with-new}
 use Rattle.runs.specs.Splits.{answered, one-more}
 use Rattle.runs.specs.Splits.{fit-still as splits-fit}
-
--- the points with p for that of the vertex after n
-module _ (n : ℕ) (p P : List Float) (three : length p ≡ 3) (room : 3 * n + 3 ≤ length P) where
-  abbrev front : List Float
-  front = take (3 * n) P
-
-  long : length front ≡ 3 * n
-  long = length-take-le (3 * n) P (omega arith)
-
-  -- those before it, those after it, and as many
-  with-front : take (3 * n) (withPoint n p P) ≡ front
-  unfolding withPoint
-  with-front = ap (λ (k : ℕ). take k (withPoint n p P)) (sym long) ∙ take-append-seam front (p ++ drop (3 * n + 3) P)
-
-  with-rest : drop (3 * n + 3) (withPoint n p P) ≡ drop (3 * n + 3) P
-  unfolding withPoint
-  with-rest =
-      let last = p ++ drop (3 * n + 3) P in
-      let e : 3 * n + 3 ≡ length front + 3 = omega (arith, long) in
-      let f : 3 ≡ length p + 0 = omega arith in
-      ap (λ (k : ℕ). drop k (front ++ last)) e
-      ∙ drop-append-add front last 3
-      ∙ ap (λ (k : ℕ). drop k last) f
-      ∙ drop-append-add p (drop (3 * n + 3) P) 0
-
-  with-length : length (withPoint n p P) ≡ length P
-  unfolding withPoint
-  with-length = simp (length-append, length-drop) (omega (arith, long))
-
-  with-old : (v i : ℕ) → 1 ≤ v → v ≤ n → i < 3 → coordinate (withPoint n p P) v i ≡ coordinate P v i
-  unfolding withPoint coordinate
-  with-old v i from to h =
-      let j = 3 * (v - 1) + i in
-      List·getD-append front (p ++ drop (3 * n + 3) P) nan j (omega (arith, long)) ∙ getD-take (3 * n) P j nan (omega arith)
-
-  with-new : (i : ℕ) → i < 3 → coordinate (withPoint n p P) (n + 1) i ≡ getD p i nan
-  unfolding withPoint coordinate
-  with-new i h =
-      let last = p ++ drop (3 * n + 3) P in
-      let e : 3 * (n + 1 - 1) + i ≡ length front + i = omega (arith, long) in
-      ap (λ (k : ℕ). getD (front ++ last) k nan) e
-      ∙ getD-append-add front last i nan
-      ∙ List·getD-append p (drop (3 * n + 3) P) nan i (omega arith)
 
 -- number i of a midpoint
 midpoint-number : (P : List Float) (a b i : ℕ) → i < 3 → getD (midpoint P a b) i nan ≡ midway (coordinate P a i) (coordinate P b i)

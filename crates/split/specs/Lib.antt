@@ -4,4 +4,3 @@ pub mod Stages
 pub mod Admitting
 pub mod Writing
 pub mod Outcomes
-pub mod Calling

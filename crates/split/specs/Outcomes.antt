@@ -9,15 +9,15 @@ use lib.ListN.{length, take}
 use Rattle.lists.specs.TestLaws.{Test, pass, fail, test}
 use Rattle.rules.specs.Elements.{elements}
 use Rattle.rules.specs.Tables.{columns}
-use Rattle.rules.specs.Refusals.{Answer, gives, refused, after}
-use Rattle.rules.specs.Edits.{becomes, Lent, withWork, onceAccepted, newAnswer, isThere, held, written}
-use Rattle.rules.specs.Split.{isSplittable, hasPoints, canHold, split, placed}
+use Rattle.rules.specs.Refusals.{Answer, gives, refused}
+use Rattle.rules.specs.Edits.{Lent, withWork, newAnswer, isThere, held, written}
+use Rattle.rules.specs.Split.{isSplittable, canHold, split, placed}
 use Rattle.theory.specs.Answers.{gives-refused, given-accepted}
 use Rattle.theory.specs.SplitTests.{vertex, new, gone, unfit, full, splits}
 use Rattle.build.specs.Building.{Scratched}
-use Rattle.edits.specs.Leaving.{after-refusal, after-answer, rest, refused-left, old-refused, new-tried}
 use Rattle.edits.specs.Trying.{number, tabled}
-use Rattle.edits.specs.Fronts.{Ready, checked-front}
+use Rattle.edits.specs.Pointed.{old-refused, edit-refused, edit-made}
+use Rattle.edits.specs.Fronts.{Ready, fitting, checked-front}
 use Rattle.split.specs.Testing.{holdsBy, can-hold-by}
 use Rattle.split.specs.Stages.{Admissible, ToWrite, Admitted, denied, allowed, Written, Outcome}
 
@@ -49,25 +49,15 @@ module _ (w : Lent) (P : List Float) (s : ℕ) {c : ℕ} (x : Ready w c) {p : �
   scratch : Scratched (w .n) (held w) t (w .work) W
   scratch = rw rows at tried
 
-  -- a refusal leaves the points, too
-  points-stay : {a : Answer} {r i j : ℕ} → a ≡ refused r i j → P ≡ after a (placed w P s) P
-  points-stay e = sym (after-refusal (placed w P s) P e)
-
   -- the old list is refused
   pub old-denied : {r i j : ℕ} → t ≡ refused r i j → Outcome w P s t w₀ P × (length W ≡ length (w .work))
-  old-denied e = (
-    record {
-      left = old-refused (w .n) (held w) (split w P s) (length (w .border)) (scratch .stated) e;
-      points = points-stay e;
-    },
-    scratch .long,
-  )
+  old-denied e = (old-refused w P (split w P s) (placed w P s) (scratch .stated) e, scratch .long)
 
   -- or accepted
   module _ {k e : ℕ} (counts : t ≡ gives k e) where
     pub admissible : Admissible (w .n) (w .m) c k (w .list) W
     admissible =
-        let y = checked-front w x in
+        let y = checked-front w (fitting w x) in
         record {
           accepted = given-accepted (w .n) (held w) (y .sizes) (sym (scratch .stated) ∙ counts);
           inside = x .long .list;
@@ -83,19 +73,12 @@ module _ (w : Lent) (P : List Float) (s : ℕ) {c : ℕ} (x : Ready w c) {p : �
     same-edit = split-alike w P s W (scratch .long)
 
     -- what is said then is said of the edit
-    by-edit : rest w (hasPoints (w .n) P) (split w P s) ≡ newAnswer (length (w .border)) (split w P s)
-    unfolding onceAccepted
-    by-edit = ap (λ (y : Answer). onceAccepted y (newAnswer (length (w .border)) (split w P s))) (sym (scratch .stated) ∙ counts)
+    by-edit : {a : Answer} → a ≡ newAnswer (length (w .border)) (split w₁ P s) → a ≡ newAnswer (length (w .border)) (split w P s)
+    by-edit e = e ∙ ap (newAnswer (length (w .border))) same-edit
 
     -- 11, 15, 19 or 9
     pub new-denied : {a : Answer} {r i j : ℕ} → a ≡ refused r i j → Admitted w₁ P s a → Outcome w P s a w₀ P × (length W ≡ length (w .work))
-    new-denied f (denied d said) = (
-      record {
-        left = refused-left f (said ∙ ap (newAnswer (length (w .border))) same-edit ∙ sym by-edit);
-        points = points-stay f;
-      },
-      scratch .long,
-    )
+    new-denied f (denied d said) = (edit-refused w P (split w P s) (placed w P s) (scratch .stated) counts (by-edit said) f, scratch .long)
     new-denied f (allowed g y) = absurd (gives-refused (sym g ∙ f))
 
     -- none of these
@@ -107,14 +90,8 @@ module _ (w : Lent) (P : List Float) (s : ℕ) {c : ℕ} (x : Ready w c) {p : �
         let second : j ≡ m′ = cc in rw (first, second) y
 
     pub all-done : {i j : ℕ} → ToWrite w₁ P s i j → {a : Answer} {w′ : Lent} {P′ : List Float} → Written w₀ P s a w′ P′ → Outcome w P s a w′ P′
+    unfolding newAnswer
     all-done y z =
-        let new-list = becomes (vertex w) (new w s) in
-        record {
-          left =
-              new-tried (w .n) (held w) (split w P s) (length (w .border)) (scratch .stated) counts (sym same-edit ∙ y .edit)
-              (record {
-                answer = z .stated;
-                leaves = z .leaves ∙ sym (after-answer (written w₀ new-list) w₀ (z .answer));
-              });
-          points = z .points ∙ sym (after-answer (placed w P s) P (z .answer));
-        }
+        let edit = sym same-edit ∙ y .edit in
+        edit-made w P (split w P s) (placed w P s) (scratch .stated) counts (z .stated ∙ ap (newAnswer (length (w .border))) (sym edit))
+        (z .answer) (z .leaves ∙ ap (written w₀) (sym edit)) (z .points)

@@ -1,18 +1,18 @@
 -- A split on its way: what is known before 11, 15, 19 and 9 are tried, after them, and in the end.
 -- Assumes nothing.
 use mathlib.Core.Path.{_≡_}
-use mathlib.Core.List.{List, []}
+use mathlib.Core.List.{List}
 use Prim.Native.Nat.{ℕ, _*_, _≤_}
 use lib.Ieee.{Float}
 use lib.ListN.{length, take}
 use Rattle.rules.specs.Elements.{elements}
 use Rattle.rules.specs.Pairing.{Accepted}
 use Rattle.rules.specs.Tables.{borders, edges, columns}
-use Rattle.rules.specs.Refusals.{Answer, gives, refused, listAnswer, roomCheck, after}
-use Rattle.rules.specs.Edits.{becomes, Lent, withWork, held, newAnswer, written}
-use Rattle.rules.specs.Split.{hasPoints, split, placed}
+use Rattle.rules.specs.Refusals.{Answer, gives, refused, listAnswer, roomCheck}
+use Rattle.rules.specs.Edits.{becomes, Lent, held, newAnswer, written}
+use Rattle.rules.specs.Split.{split, placed}
 use Rattle.theory.specs.SplitTests.{Holds, vertex, new}
-use Rattle.edits.specs.Leaving.{Left, rest}
+use Rattle.edits.specs.Pointed as pointed
 use Rattle.edits.specs.Trying.{Tabled}
 use Rattle.split.specs.NewRows.{Cuttable}
 
@@ -47,6 +47,5 @@ pub record Written (w : Lent) (P : List Float) (s : ℕ) (a : Answer) (w′ : Le
   pub points : P′ ≡ placed w P s
 
 -- what follows checks 1 and 2 leaves; the work apart
-pub record Outcome (w : Lent) (P : List Float) (s : ℕ) (a : Answer) (w′ : Lent) (P′ : List Float) : Type 0 where
-  pub left : Left (rest w (hasPoints (w .n) P) (split w P s)) a (withWork w []) (split w P s) w′
-  pub points : P′ ≡ after a (placed w P s) P
+abbrev pub Outcome : Lent → List Float → ℕ → Answer → Lent → List Float → Type 0
+Outcome w P s = pointed.Outcome w P (split w P s) (placed w P s)

@@ -1,13 +1,11 @@
 -- Nothing refuses: the midpoint, the new rows and their tables are written.
 -- Assumes nothing.
 use mathlib.Core.Path.{_≡_, ap, sym, _∙_}
-use mathlib.Core.Logic.{_⊎_, inl, inr}
 use mathlib.Core.List.{List, []}
 use Prim.Native.Nat.{ℕ, _+_, _*_, _≤_}
 use native.Mathlib.Omega.{arith}
 use lib.Ieee.{Float}
 use lib.ListN.{length, take}
-use Rattle.lists.specs.TestLaws.{true-of}
 use Rattle.rules.specs.Elements.{Side, origin, next, destination}
 use Rattle.rules.specs.Tables.{borders, edges, columns, e2e, v2e}
 use Rattle.rules.specs.Refusals.{Answer, gives, roomCheck, onto}
@@ -22,16 +20,12 @@ use Rattle.theory.specs.Edits.{onto-front, onto-length, over-longer}
 use Rattle.theory.specs.Splitting.{split-fours, same-columns}
 use Rattle.theory.specs.SplitAnswers.{split-answer}
 use Rattle.theory.specs.SplitTests.{vertex, new}
-use Rattle.edits.specs.Holding.{lentEdit, holds, means-holds}
+use Rattle.edits.specs.Holding.{lentEdit, more-entries}
 use Rattle.edits.specs.Leaving.{after-answer}
 use Rattle.edits.specs.HeldRows.{held-elements, held-side, held-origin, held-destination}
-use Rattle.edits.specs.Fronts.{Ready, Fronted}
+use Rattle.edits.specs.Fronts.{Fitting, Fronted}
 use Rattle.split.specs.NewRows.{ToSplit, grown}
 use Rattle.split.specs.Stages.{ToWrite, Written}
-
-more-entries : (c : ℕ) {m m′ : ℕ} → (c ≡ 3) ⊎ (c ≡ 4) → m ≤ m′ → c * m ≤ c * m′
-more-entries c (inl e) h = rw e (omega arith)
-more-entries c (inr e) h = rw e (omega arith)
 
 module _ (w : Lent) (P : List Float) {s t m′ : ℕ} (x : ToWrite w P s t m′) where
   abbrev L : List ℕ
@@ -89,25 +83,17 @@ module _ (w : Lent) (P : List Float) {s t m′ : ℕ} (x : ToWrite w P s t m′)
     front : take (4 * m′) list ≡ L′
     front = ap (take (4 * m′)) is ∙ onto-front L′ (w .list) long
 
-    pub ready-then : {c : ℕ} → c ≡ columns L → Ready (lentEdit v m′ list (w .vertices) (w .opposites) (w .border) (w .work)) c
-    ready-then {c} e =
-        let f : c ≡ columns (take (4 * m′) list) = e ∙ sym columned ∙ ap columns (sym front) in
+    pub fits-then : {c : ℕ} → c ≡ columns L → Fitting (lentEdit v m′ list (w .vertices) (w .opposites) (w .border) (w .work)) c
+    fits-then {c} e =
         let same : length list ≡ length (w .list) = ap length is ∙ onto-length L′ (w .list) (omega (arith, long, x .counted, x .holds .list)) in
         let h = x .holds in
-        let rows : 4 * m′ ≤ length list = omega (arith, x .counted, h .list) in
-        let opposites : columns (take (4 * m′) list) * m′ ≤ length (w .opposites) = rw (sym f ∙ e, x .counted) (h .e2e) in
-        let room : v + 16 * m′ ≤ length (w .work) = omega (arith, x .counted, h .work) in
-        let test = holds v m′ list (length (w .vertices)) (length (w .opposites)) (length (w .work)) in
         record {
           sizes = (h .vertices, omega (arith, x .counted, h .size));
-          long = record {
-            passed = true-of test (means-holds v m′ list _ _ _ .shows (rows, (h .v2e, (opposites, room))));
-            columned = f;
-            list = rows;
-            vertices = h .v2e;
-            opposites = rw f opposites;
-            room = room;
-          };
+          columned = e ∙ sym columned ∙ ap columns (sym front);
+          list = omega (arith, x .counted, h .list, same);
+          vertices = h .v2e;
+          opposites = rw (e, x .counted) (h .e2e);
+          room = omega (arith, x .counted, h .work);
         }
 
     -- and its tables

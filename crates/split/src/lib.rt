@@ -6,10 +6,9 @@ ghost use Prim.Native.Nat.{_+_, _*_, _-_, _≤_};
 ghost use lib.ListN.{length, take, getD, set};
 ghost use Rattle.rules.specs.Tables.{columns as columnsIn};
 ghost use Rattle.rules.specs.Refusals.{onto};
-ghost use Rattle.rules.specs.Split.{halved, splitAt, isSplittable, splitAnswer, splitLeaves, splitPoints};
+ghost use Rattle.rules.specs.Split.{halved, splitAt, splitAnswer, splitLeaves, splitPoints};
 ghost use Rattle.answer.specs.Numbers.{numbers};
 ghost use Rattle.edits.specs.Holding.{lentEdit, lentSized};
-ghost use Rattle.edits.specs.Trying.{Tabled};
 ghost use Rattle.edits.specs.Fronts.{Ready};
 ghost use Rattle.split.specs.NewRows.{ToHalve, ToSplit, byBorder};
 ghost use Rattle.split.specs.Testing.{holdsBy};
@@ -24,8 +23,8 @@ use edits::columns_held;
 use edits::counts_fit;
 use edits::entry_of;
 use edits::has_room;
+use edits::is_splittable;
 use edits::is_there;
-use edits::is_triangle;
 use edits::put_row;
 use edits::try_old;
 use halfedge::element_of;
@@ -35,7 +34,6 @@ use halfedge::number_of;
 use halfedge::wide;
 use points::place_midpoint;
 use sides::destination_of;
-use sides::is_side;
 use sides::origin_of;
 use sides::row_at;
 
@@ -83,25 +81,6 @@ fn by_border(t: u32, border: u32, inner: u32) -> u32
         return border;
     }
     inner
-}
-
-// Whether s is a side of a triangle, with a triangle or nothing across it, by the E2e of four columns that stands from n on in the work
-// buffer.
-fn is_splittable(n: usize, list: &[u32], work: &[u32], s: u32) -> bool
-    requires { ⌜ Tabled n (now list) (now work) ⌝ }
-    ensures { λ r. ⌜ r ≡ isSplittable (now (list .entry)) s ⌝ }
-{
-    if !is_side(list, s) {
-        return false;
-    }
-    if !is_triangle(list, element_of(s)) {
-        return false;
-    }
-    let t = entry_of(n, list, work, s);
-    if is_border(t) {
-        return true;
-    }
-    is_triangle(list, element_of(t))
 }
 
 // Whether n and m are at most their maxima, and buffers of these lengths can hold them.

@@ -18,85 +18,11 @@ const TABLE: u32 = 4294967295;
 
 const WORK: u32 = 5;
 
-// The points of 15 vertices: whole numbers, some that are rounded when they are added or halved, the greatest and the least.
-const POINTS: [f64; 45] = [
-    1.0,
-    -2.0,
-    0.1,
-    4.0,
-    8.5,
-    0.2,
-    -3.0,
-    4503599627370496.0,
-    0.3,
-    7.0,
-    4503599627370495.0,
-    1e16,
-    179769313486231570e291,
-    1.0,
-    3.0,
-    179769313486231570e291,
-    9007199254740992.0,
-    5e-324,
-    -0.0,
-    5e-324,
-    5e-324,
-    0.0,
-    15e-324,
-    -5e-324,
-    -0.0,
-    -0.0,
-    22250738585072014e-324,
-    2.5,
-    -1e300,
-    1e-300,
-    6.0,
-    1e300,
-    -1e-300,
-    11.0,
-    12.0,
-    13.0,
-    14.0,
-    15.0,
-    16.0,
-    17.0,
-    18.0,
-    19.0,
-    20.0,
-    21.0,
-    22.0,
-];
-
-// The bits of a number; one that is none has no bits of its own.
-fn bits_of(x: f64) -> u64 {
-    if x != x {
-        return 0;
-    }
-    f64::to_bits(x)
-}
-
-// The bits of points, the upper half of each number first.
-fn put_bits(points: &[f64; 45], out: &mut [u32; 90]) {
-    let mut i = 0;
-    while i < 45 {
-        let bits = bits_of(points[i]);
-        out[2 * i] = (bits >> 32) as u32;
-        out[2 * i + 1] = (bits % 4294967296) as u32;
-        i += 1;
-    }
-}
-
 // Where the bits of the point after n others begin.
 fn point_start(n: u32) -> usize
     ensures { λ r. ⌜ r ≤ 84 ⌝ }
 {
     6 * cases::length(n, 14)
-}
-
-fn emit_tables(v2e: &[u32], e2e: &[u32], b2e: &[u32]) {
-    cases::emit_line(b'V', v2e);
-    cases::emit_line(b'E', e2e);
-    cases::emit_line(b'B', b2e);
 }
 
 fn emit_answer(
@@ -114,7 +40,7 @@ fn emit_answer(
             cases::emit_line(b'N', &[first, second]);
             cases::emit_line(b'S', size);
             cases::emit_line(b'L', list);
-            emit_tables(v2e, e2e, b2e);
+            cases::emit_tables(v2e, e2e, b2e);
             let start = point_start(n);
             let all = &bits[..];
             cases::emit_line(b'P', &all[start..start + 6]);
@@ -141,23 +67,6 @@ fn are_kept(refusal: u32, n: u32, old: &[u32; 90], bits: &[u32; 90]) -> bool {
     buffers::is_same(&before[start + 6..90], &after[start + 6..90])
 }
 
-// After a refusal n, m and the list must be the old ones, and the tables as before.
-fn is_refused_clean(
-    old_size: &[u32; 2],
-    size: &[u32; 2],
-    old: &[u32],
-    list: &[u32],
-    b2e: &[u32],
-) -> bool {
-    if !buffers::is_same(size, old_size) {
-        return false;
-    }
-    if !cases::is_all(b2e, TABLE) {
-        return false;
-    }
-    buffers::is_same(list, old)
-}
-
 fn is_clean(
     refusal: u32,
     old_size: &[u32; 2],
@@ -171,17 +80,23 @@ fn is_clean(
     bits: &[u32; 90],
 ) -> bool {
     let mut old_bits = [0u32; 90];
-    put_bits(&POINTS, &mut old_bits);
+    cases::put_bits(&cases::points(), &mut old_bits);
     if !are_kept(refusal, old_size[0], &old_bits, bits) {
         return false;
     }
-    if !cases::is_clean(refusal, v2e, e2e, TABLE, work, WORK) {
-        return false;
-    }
-    if refusal == 0 {
-        return true;
-    }
-    is_refused_clean(old_size, size, old, list, b2e)
+    cases::is_edit_clean(
+        refusal,
+        old_size,
+        size,
+        old,
+        list,
+        v2e,
+        e2e,
+        b2e,
+        TABLE,
+        work,
+        WORK,
+    )
 }
 
 fn report(
@@ -197,7 +112,7 @@ fn report(
     points: &[f64; 45],
 ) {
     let mut bits = [0u32; 90];
-    put_bits(points, &mut bits);
+    cases::put_bits(points, &mut bits);
     let refusal = cases::numbers_of(a)[0];
     let clean = is_clean(
         refusal,
@@ -226,7 +141,7 @@ fn run(
 ) {
     let old_size = [numbers[1], numbers[2]];
     let mut size = old_size;
-    let mut points = POINTS;
+    let mut points = cases::points();
     let end = cases::length(numbers[8], 45);
     let a = split::split(
         &mut size,

@@ -22,7 +22,7 @@ use Rattle.theory.specs.Swapping.{swapped-replaced}
 use Rattle.build.specs.Building.{Checked}
 use Rattle.edits.specs.Holding.{lentEdit, Held}
 use Rattle.edits.specs.HeldRows.{held-length, held-elements}
-use Rattle.edits.specs.Fronts.{Ready, checked-front}
+use Rattle.edits.specs.Fronts.{Ready, fitting, checked-front}
 use Rattle.edits.specs.Fronts as fronts
 use Rattle.edits.specs.Leaving.{tight, Left, rest, leavesBy, Whole, accepted-fit}
 use Rattle.swap.specs.Swaps.{over-full, becomes-swapped}
@@ -110,7 +110,7 @@ module _ (n m : ℕ) (list V2e E2e B2e work : List ℕ) (s : ℕ) where
     -- the swap was made in the fronts, which end at p, q and r, and the work cleared
     module _ {p q r : ℕ} (rows : p ≡ 4 * m) (vertices : q ≡ n) (opposites : r ≡ c * m) where
       pub checked-at : Checked n (take p list) (take q V2e) (take r E2e) work × (c ≡ columns (take p list))
-      checked-at = fronts.checked-at w ready rows vertices opposites
+      checked-at = fronts.checked-at w (fitting w ready) rows vertices opposites
 
       pub whole : {a : Answer} {L₁ V₁ E₁ B₁ work′ : List ℕ} {l : ℕ} → (editSizes w ≡ true) × (editLengths w true ≡ true)
           → Left (onceAccepted (listAnswer n (take p list)) (newAnswer (length B2e) (swap n (take p list) s))) a (tight n (take p list) (take q V2e) (take r E2e) B2e)
@@ -122,7 +122,7 @@ module _ (n m : ℕ) (list V2e E2e B2e work : List ℕ) (s : ℕ) where
           let (e, f) = calls.cleared (leavesBy w true (swap n L s)) (editSizes w) (editLengths w true) (rest w true (swap n L s)) work fit (x .answer) (z ∙ ap (λ (k : ℕ). replicate k 0) same) in
           let accepted : (i j n′ : ℕ) (L′ : List ℕ) → a ≡ gives i j → swap n L s ≡ becomes n′ L′ → Stays n L n′ L′ =
           λ i j n′ L′ g d.
-          (let (k, o, h, new) = past-old (listAnswer n L) _ (sym (x .answer) ∙ g) in stays n L s (accepted-fit n L (checked-front w ready .sizes) h) d) in
+          (let (k, o, h, new) = past-old (listAnswer n L) _ (sym (x .answer) ∙ g) in stays n L s (accepted-fit n L (checked-front w (fitting w ready) .sizes) h) d) in
           let m-is = sym (ap (λ (u : Lent). u .m) (x .leaves) ∙ same-m (swap n L s) a accepted) in (
             e,
             (λ k. lentEdit n (m-is k) (L₁ ++ drop (rows k) list) (V₁ ++ drop (vertices k) V2e) (E₁ ++ drop (opposites k) E2e) B₁ work′)

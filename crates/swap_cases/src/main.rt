@@ -18,18 +18,12 @@ const TABLE: u32 = 4294967295;
 
 const WORK: u32 = 5;
 
-fn emit_tables(v2e: &[u32], e2e: &[u32], b2e: &[u32]) {
-    cases::emit_line(b'V', v2e);
-    cases::emit_line(b'E', e2e);
-    cases::emit_line(b'B', b2e);
-}
-
 fn emit_answer(a: Answer, list: &[u32], v2e: &[u32], e2e: &[u32], b2e: &[u32]) {
     match a {
         Answer::Gives { first, second } => {
             cases::emit_line(b'N', &[first, second]);
             cases::emit_line(b'L', list);
-            emit_tables(v2e, e2e, b2e);
+            cases::emit_tables(v2e, e2e, b2e);
         }
         Answer::Refused {
             number,

@@ -65,6 +65,12 @@ module _ (old : ℕ) (xs buffer : List ℕ) where
       let z : old - length xs ≡ 0 = omega arith in
       ap (λ (k : ℕ). onto (xs ++ replicate k 0) buffer) z ∙ ap (λ (ys : List ℕ). onto ys buffer) (append-nil xs)
 
+  -- where they stand there already, 0 comes after them
+  pub over-again : overOld old xs (onto xs buffer) ≡ overOld old xs buffer
+  unfolding overOld onto
+  over-again =
+      ap (λ (r : List ℕ). (xs ++ zeros) ++ r) (past-onto xs buffer (length (xs ++ zeros)) (omega (arith, length-append xs zeros)))
+
   -- what stands past both stays
   pub past-over : (p : ℕ) → old ≤ p → length xs ≤ p → drop p (overOld old xs buffer) ≡ drop p buffer
   unfolding overOld

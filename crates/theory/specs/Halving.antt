@@ -45,7 +45,7 @@ module _ {L : List ℕ} {r : ℕ} (v : ℕ) (y : Halvable L r) where
   abbrev M : List ℕ
   M = halved L r v
 
-  front-long : length (withCorner L (next L r) v) ≡ length L
+  pub front-long : length (withCorner L (next L r) v) ≡ length L
   unfolding withCorner
   front-long = length-set L (slot (next L r)) v
 
@@ -69,7 +69,7 @@ module _ {L : List ℕ} {r : ℕ} (v : ℕ) (y : Halvable L r) where
   halved-fours = omega (arith, halved-length, y .fours)
 
   -- the rows of L have v for the destination of r
-  at-stays : (p : ℕ) → p < length L → (p ≡ slot (next L r) → ⊥) → at M p ≡ at L p
+  pub at-stays : (p : ℕ) → p < length L → (p ≡ slot (next L r) → ⊥) → at M p ≡ at L p
   unfolding halved withCorner
   at-stays p h d =
       List·getD-append (withCorner L (next L r) v) _ 0 p (omega (arith, front-long)) ∙ at-other L (slot (next L r)) v p d
@@ -81,7 +81,7 @@ module _ {L : List ℕ} {r : ℕ} (v : ℕ) (y : Halvable L r) where
       List·getD-append (withCorner L (next L r) v) _ 0 (slot (next L r)) (omega (arith, front-long)) ∙ at-same L (slot (next L r)) v h
 
   -- the row after them is that of r, with v for its origin
-  at-appended : (j : ℕ) → j < 4 → at M (length L + j) ≡ at (withCorner L r v) (4 * (r / 8 - 1) + j)
+  pub at-appended : (j : ℕ) → j < 4 → at M (length L + j) ≡ at (withCorner L r v) (4 * (r / 8 - 1) + j)
   unfolding halved
   at-appended j h =
       ap (λ (k : ℕ). at M (k + j)) (sym front-long)
@@ -96,7 +96,7 @@ module _ {L : List ℕ} {r : ℕ} (v : ℕ) (y : Halvable L r) where
   number-three : (1 ≤ r % 8) × (r % 8 ≤ 3)
   number-three = omega (arith, side-facts L r (y .side), y .triangle)
 
-  next-is : next L r ≡ 8 * (r / 8) + (r % 8 % 3 + 1)
+  pub next-is : next L r ≡ 8 * (r / 8) + (r % 8 % 3 + 1)
   next-is = next-of-three L r (y .side) (y .triangle)
 
   previous-is : previous L r ≡ 8 * (r / 8) + ((r % 8 + 1) % 3 + 1)

@@ -40,6 +40,17 @@ pub mod Described
 pub mod Answers
 pub mod SplitAnswers
 pub mod SplitTests
+pub mod Coarsening
+pub mod Renaming
+pub mod Removing
+pub mod Contracting
+pub mod ContractTests
+pub mod Pinching
+pub mod Using
+pub mod Unpinched
+pub mod ContractRefusals
+pub mod Rejoining
+pub mod SplitBack
 pub mod SwapRefusals
 pub mod Calls
 pub mod Edits
@@ -50,6 +61,8 @@ pub mod Reaching
 pub mod Holes
 pub mod Built
 pub mod Rims
+pub mod ContractBorders
+pub mod ContractCounts
 pub mod Rings
 pub mod Opposites
 pub mod Loops

@@ -42,19 +42,19 @@ module _ {n : ℕ} {L : List ℕ} (fit : Fit n L) (p : Pairing L (partner L)) wh
   pub not-border : {q w a b : ℕ} → Runs L q a b → Runs L w b a → partner L q ≡ 0 → ⊥
   not-border {q} {w} k l z = side-positive L w (l .side) (sym (against k l) ∙ z)
 
-between : {L : List ℕ} {q a b c d : ℕ} → Runs L q a b → a ≡ c → b ≡ d → Runs L q c d
+pub between : {L : List ℕ} {q a b c d : ℕ} → Runs L q a b → a ≡ c → b ≡ d → Runs L q c d
 between k e f = record { side = k .side; from = k .from ∙ e; to = k .to ∙ f }
 
-own-runs : {L : List ℕ} {r : ℕ} → Side L r → Runs L r (origin L r) (destination L r)
+pub own-runs : {L : List ℕ} {r : ℕ} → Side L r → Runs L r (origin L r) (destination L r)
 own-runs a = record { side = a; from = refl; to = refl }
 
 -- a partner runs against its side, so a side against which none runs is a border
-partner-runs : (L : List ℕ) (r : ℕ) → (partner L r ≡ 0 → ⊥) → Runs L (partner L r) (destination L r) (origin L r)
+pub partner-runs : (L : List ℕ) (r : ℕ) → (partner L r ≡ 0 → ⊥) → Runs L (partner L r) (destination L r) (origin L r)
 partner-runs L r z =
     let (a, o) = partner-opposed L r z in
     let (e, f) = means-opposed L r (partner L r) .says o in record { side = a; from = sym f; to = sym e }
 
-no-against : {L : List ℕ} {r a b : ℕ} → Runs L r a b → ((w : ℕ) → Runs L w b a → ⊥) → partner L r ≡ 0
+pub no-against : {L : List ℕ} {r a b : ℕ} → Runs L r a b → ((w : ℕ) → Runs L w b a → ⊥) → partner L r ≡ 0
 no-against {L} {r} k f = elim (zero-or (partner L r)) [
   | inl z ↦ z
   | inr z ↦ absurd (f (partner L r) (between (partner-runs L r z) (k .to) (k .from)))

@@ -30,7 +30,7 @@ Ends L o =
 
 module _ (L : List ℕ) (p : Pairing L (partner L)) (v : ℕ) (o : List ℕ) (x : TurnOrder L (partner L) v o) where
   -- a border side, having no turn, is the last of its turn order
-  border-last : (i : ℕ) → i < length o → partner L (at o i) ≡ 0 → i ≡ length o - 1
+  pub border-last : (i : ℕ) → i < length o → partner L (at o i) ≡ 0 → i ≡ length o - 1
   border-last i h z = go (decide (means-lt (suc i) (length o)))
     where
       go : (suc i < length o) ⊎ (suc i < length o → ⊥) → i ≡ length o - 1

@@ -79,7 +79,7 @@ kept-on x y =
     record { side = y .side; from = y .from ∙ x .from; follows = y .follows ∙ x .follows; sided = y .sided ∙ x .sided }
 
 -- a triangle by one of its sides
-triangle-of : (L : List ℕ) (r : ℕ) → Side L r → sides L (r / 8) ≡ 3 → TriangleSide L r (origin L r) (destination L r) (origin L (previous L r))
+pub triangle-of : (L : List ℕ) (r : ℕ) → Side L r → sides L (r / 8) ≡ 3 → TriangleSide L r (origin L r) (destination L r) (origin L (previous L r))
 triangle-of L r a e = record { runs = record { side = a; from = refl; to = refl }; third = refl; triangle = e }
 
 -- "appended .., after the first": s has its twin in the first new triangle, and its partner in the second

@@ -47,7 +47,7 @@ wide-requires-3 c κs = search needs
 mul-entries : tie.Need-mul-entries
 mul-entries c =
     let s = start c in
-    omega (arith, few-entries _ (s .args .m) (three-or-four _) (s .pre .long .columned) (s .pre .sizes .1), product c)
+    omega (arith, few-entries _ (s .args .m) (three-or-four _) (s .pre .columned) (s .pre .sizes .1), product c)
 
 sub-build-fit : tie.Need-sub-build-fit
 sub-build-fit c = search needs
@@ -56,7 +56,7 @@ part-build-fit-start : tie.Need-part-build-fit-start
 part-build-fit-start c = search needs
 
 part-build-fit-end : tie.Need-part-build-fit-end
-part-build-fit-end c = let h = start c .pre .long .list in search needs
+part-build-fit-end c = let h = start c .pre .list in search needs
 
 sub-build-fit-2 : tie.Need-sub-build-fit-2
 sub-build-fit-2 c = search needs
@@ -65,7 +65,7 @@ part-build-fit-start-2 : tie.Need-part-build-fit-start-2
 part-build-fit-start-2 c = search needs
 
 part-build-fit-end-2 : tie.Need-part-build-fit-end-2
-part-build-fit-end-2 c = let h = start (c .before) .pre .long .vertices in search needs
+part-build-fit-end-2 c = let h = start (c .before) .pre .vertices in search needs
 
 sub-build-fit-3 : tie.Need-sub-build-fit-3
 sub-build-fit-3 c = search needs
@@ -76,7 +76,7 @@ part-build-fit-start-3 c = search needs
 part-build-fit-end-3 : tie.Need-part-build-fit-end-3
 part-build-fit-end-3 c =
     let w = c .before .before in
-    let h : w .wide3 .result * w .before .wide2 .result ≤ length (start w .args .e2e .now) = omega (arith, product w, start w .pre .long .opposites) in
+    let h : w .wide3 .result * w .before .wide2 .result ≤ length (start w .args .e2e .now) = omega (arith, product w, start w .pre .opposites) in
     search needs
 
 build-fit-requires : tie.Need-build-fit-requires

@@ -18,7 +18,7 @@ use Rattle.theory.specs.Built.{borders-bound}
 use Rattle.theory.specs.Splitting.{means-splittable}
 use Rattle.theory.specs.SplitTests.{vertex, new}
 use Rattle.edits.specs.Holding.{lentEdit}
-use Rattle.edits.specs.Trying.{Tabled}
+use Rattle.edits.specs.Trying.{Tabled, tabled-at}
 use Rattle.edits.specs.HeldRows.{held-length, held-elements}
 use Rattle.split.specs.NewRows.{byBorder, elements-then}
 use Rattle.split.specs.Testing.{can-hold-by}
@@ -44,11 +44,8 @@ front c =
     ap (λ (k : ℕ). take k (start c .args .list .now)) e
 
 -- their tables, with n as an index
-carried : {a b : ℕ} {X Y work : List ℕ} → a ≡ b → X ≡ Y → Tabled b Y work → Tabled a X work
-carried e f x = rw (e, f) x
-
 tables : (c : tie.After-wide2) → Tabled (c .before .wide .result) (take (4 * c .wide2 .result - 0) (start c .args .list .now)) (start c .args .work .now)
-tables c = carried (c .before .wide .ensures) (front c) (start c .pre .tabled)
+tables c = tabled-at (c .before .wide .ensures) (front c) (start c .pre .tabled)
 
 -- the half-edge is there
 abbrev began : tie.After-is-there → tie.After-wide2

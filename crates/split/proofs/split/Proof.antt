@@ -1,4 +1,4 @@
--- `split::split` meets its contract. The laws of the whole call are in Calling.
+-- `split::split` meets its contract. The laws of the whole call are those of any edit with points.
 -- Assumes nothing.
 use mathlib.Core.Path.{_≡_, ap, sym, _∙_}
 use mathlib.Core.Bool.{true, false}
@@ -9,11 +9,11 @@ use lib.Ieee.{Float}
 use lib.ListN.{length}
 use borrow.Author.Tests.{le-leb, lt-leb, not-true, not-false}
 use Rattle.rules.specs.Elements.{maxVertex, maxElement}
-use Rattle.rules.specs.Edits.{Lent, editSizes, editLengths}
-use Rattle.rules.specs.Split.{hasPoints}
+use Rattle.rules.specs.Edits.{Edited, Lent, editSizes, editLengths}
+use Rattle.rules.specs.Split.{hasPoints, split, splitPoints, placed}
 use Rattle.edits.specs.Holding.{lentSized, counts-say, found-short, found-long}
 use Rattle.edits.specs.Fronts.{Ready}
-use Rattle.split.specs.Calling.{without-points, with-points, refused-1, refused-2, finished}
+use Rattle.edits.specs.Pointed.{without-points, with-points, refused-1, refused-2, finished}
 use borrow.Author.Needs.{needs}
 use Rattle.split.proofs.split.Statement.{statement}
 use Rattle.split.proofs.split.Tie as tie
@@ -27,6 +27,13 @@ lends c = let a = c .args in lentSized (a .size .now) (a .list .now) (a .v2e .no
 
 abbrev points : tie.Start → List Float
 points c = c .args .points .now
+
+-- what becomes of it
+abbrev edit : tie.Start → Edited
+edit c = split (lends c) (points c) (c .args .code)
+
+abbrev new-points : tie.Start → List Float
+new-points c = placed (lends c) (points c) (c .args .code)
 
 -- check 1
 sizes : (c : tie.After-counts-fit) → editSizes (lends (begun c)) ≡ c .counts-fit .result
@@ -82,10 +89,11 @@ refuse-requires : tie.Need-refuse-requires
 refuse-requires c κs = search needs
 
 returns : tie.Need-returns
+unfolding splitPoints
 returns c =
     let asked = c .before .before in
     let s = begun asked in
-    refused-1 (lends s) (points s) (s .args .code) (sizes asked ∙ not-true _ (c .before .if1 .taken)) (c .refuse .ensures)
+    refused-1 (lends s) (points s) (edit s) (new-points s) (sizes asked ∙ not-true _ (c .before .if1 .taken)) (c .refuse .ensures)
 
 wide-requires : tie.Need-wide-requires
 wide-requires c κs = search needs
@@ -97,11 +105,12 @@ refuse-requires-2 : tie.Need-refuse-requires-2
 refuse-requires-2 c κs = search needs
 
 returns-2 : tie.Need-returns-2
+unfolding splitPoints
 returns-2 c =
     let short = c .before in
     let one = past (short .before) in
     let s = sized-at one in
-    refused-2 (lends s) (points s) (s .args .code) (sized one) (ap (editLengths (lends s)) (few short) ∙ without-points (lends s)) (c .refuse2 .ensures)
+    refused-2 (lends s) (points s) (edit s) (new-points s) (sized one) (ap (editLengths (lends s)) (few short) ∙ without-points (lends s)) (c .refuse2 .ensures)
 
 columns-held-requires : tie.Need-columns-held-requires
 columns-held-requires c κs = within (past (c .before .before))
@@ -113,12 +122,13 @@ same-length : tie.Need-same-length
 same-length c = search needs
 
 returns-3 : tie.Need-returns-3
+unfolding splitPoints
 returns-3 c =
     let asked = c .before .before in
     let two = pointed asked in
     let s = start asked in
     let none = found-short _ _ _ _ _ _ (sym (asked .columns-held .ensures) ∙ c .before .if3 .taken) in
-    refused-2 (lends s) (points s) (s .args .code) (sized (past (two .before))) (with-points (lends s) (many two) none) (c .refuse3 .ensures)
+    refused-2 (lends s) (points s) (edit s) (new-points s) (sized (past (two .before))) (with-points (lends s) (many two) none) (c .refuse3 .ensures)
 
 split-fit-requires : tie.Need-split-fit-requires
 split-fit-requires c κs = ready (c .before .before .before .before .before .before .before)
@@ -145,13 +155,14 @@ same-length-7 : tie.Need-same-length-7
 same-length-7 c = search needs
 
 returns-4 : tie.Need-returns-4
+unfolding splitPoints
 returns-4 c =
     let cleared = c .before .before in
     let done = cleared .before .before .before .before .before .before .before .before .before .before .before .before .before .before in
     let three = done .before .before .before .before .before .before .before .before in
     let two = pointed (three .before) in
     let s = start (three .before) in
-    finished (lends s) (points s) (s .args .code) (sized (past (two .before)), with-points (lends s) (many two) (ready three .long .passed))
+    finished (lends s) (points s) (edit s) (new-points s) (sized (past (two .before)), with-points (lends s) (many two) (ready three .long .passed))
     (done .split-fit .ensures) (cleared .clear .ensures)
 
 pub split-spec : {M : Type 1} → statement M

@@ -10,7 +10,7 @@ use Rattle.rules.specs.Refusals.{gives}
 use Rattle.rules.specs.Edits.{Lent, withWork}
 use Rattle.answer.specs.Numbers.{numbers}
 use Rattle.edits.specs.Holding.{lentSized}
-use Rattle.edits.specs.Fronts.{to-try}
+use Rattle.edits.specs.Fronts.{fitting, to-try}
 use Rattle.split.specs.Stages.{ToWrite}
 use Rattle.split.specs.Outcomes.{old-denied, admissible, new-denied, new-allowed, all-done}
 use borrow.Author.Needs.{needs}
@@ -97,7 +97,7 @@ part-try-old-end : tie.Need-part-try-old-end
 part-try-old-end c = search needs
 
 try-old-requires : tie.Need-try-old-requires
-try-old-requires c κs = let w = c .before .before .before in let s = start w in to-try (lends s) (s .pre) (rows w)
+try-old-requires c κs = let w = c .before .before .before in let s = start w in to-try (lends s) (fitting (lends s) (s .pre)) (rows w)
 
 enum-known-old : tie.Need-enum-known-old
 enum-known-old c = search needs

@@ -4,7 +4,7 @@ use mathlib.Core.List.{List}
 use lib.Ieee.{Float}
 use Rattle.rules.specs.Edits.{Lent}
 use Rattle.edits.specs.Holding.{lentSized}
-use Rattle.split.specs.Writing.{side-there, ends-there, mid, to-split, ready-then, all-written}
+use Rattle.split.specs.Writing.{side-there, ends-there, mid, to-split, fits-then, all-written}
 use borrow.Author.Needs.{needs}
 use Rattle.split.proofs.write.Statement.{statement}
 use Rattle.split.proofs.write.Tie as tie
@@ -61,7 +61,7 @@ split-rows-requires c κs = let s = ends (read c) in to-split (lends s) (points 
 build-front-requires : tie.Need-build-front-requires
 build-front-requires c κs =
     let l = c .before .before .before .before .before .before in
-    let s = begun l in ready-then (lends s) (points s) (s .pre .0) (rows l .split-rows .ensures) (s .pre .1)
+    let s = begun l in fits-then (lends s) (points s) (s .pre .0) (rows l .split-rows .ensures) (s .pre .1)
 
 same-length : tie.Need-same-length
 same-length c = search needs

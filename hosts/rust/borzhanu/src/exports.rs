@@ -122,4 +122,21 @@ extern "C" {
         work_len: usize,
         code: u32,
     ) -> u64;
+
+    pub fn borzhanu_contract(
+        size: *mut Size,
+        elements: *mut u32,
+        elements_len: usize,
+        v2e: *mut u32,
+        v2e_len: usize,
+        e2e: *mut u32,
+        e2e_len: usize,
+        b2e: *mut u32,
+        b2e_len: usize,
+        points: *mut f64,
+        points_len: usize,
+        work: *mut u32,
+        work_len: usize,
+        code: u32,
+    ) -> u64;
 }

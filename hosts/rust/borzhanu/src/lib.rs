@@ -118,9 +118,29 @@
 //! # Ok::<(), borzhanu::Refusal>(())
 //! ```
 //!
-//! [`columns`], [`build`], [`recover`], [`siblings()`], [`swap`], [`split`] and [`Mesh`] are the kernel's own calls, on buffers that
-//! the caller lends; these allocate nothing. Half-edges are codes there, which [`side`], [`border`] and [`HalfEdge`] make,
-//! and code 0 names nothing:
+//! Elsewhere it is coarsened. A contraction merges the two ends of an edge, and closes the gaps in the numbers of elements
+//! and vertices:
+//!
+//! ```
+//! use borzhanu::{HalfEdge, OwnedMesh, Refusal};
+//!
+//! // A panel of two triangles, and a sliver at its edge: vertices 2 and 3 are too near to each other.
+//! let points = [[0.0, 0.0, 0.0], [4.0, 0.0, 0.0], [4.1, 0.0, 0.0], [4.0, 3.0, 0.0], [0.0, 3.0, 0.0]];
+//! let mut panel = OwnedMesh::with_points(&points, &[[2, 3, 4, 0], [1, 2, 5, 0], [2, 4, 5, 0]])?;
+//!
+//! // Vertex 3 is merged into 2, and row 1 goes. Row 3 and vertex 5, the last ones, take the free numbers.
+//! panel.contract(HalfEdge::side(1, 1))?;
+//! assert_eq!(panel.rows(), [[2, 4, 3, 0], [1, 2, 3, 0]]);
+//! assert_eq!(panel.points()[2], [0.0, 3.0, 0.0]);
+//!
+//! // The diagonal can't be contracted: vertices 1 and 4 would have no element any more.
+//! assert_eq!(panel.contract(HalfEdge::side(1, 3)), Err(Refusal::VertexStranded));
+//! # Ok::<(), borzhanu::Refusal>(())
+//! ```
+//!
+//! [`columns`], [`build`], [`recover`], [`siblings()`], [`swap`], [`split`], [`contract`] and [`Mesh`] are the kernel's own
+//! calls, on buffers that the caller lends; these allocate nothing. Half-edges are codes there, which [`side`], [`border`]
+//! and [`HalfEdge`] make, and code 0 names nothing:
 //!
 //! ```
 //! use borzhanu::{build, columns, recover, work_length, Mesh};
@@ -199,8 +219,8 @@ pub const fn border(b: u32) -> u32 {
     8 * b
 }
 
-/// The least length of the work buffer of [`build`], [`recover`], [`siblings()`], [`swap`], [`split`] and [`Mesh::holes`]
-/// for n vertices and m elements.
+/// The least length of the work buffer of [`build`], [`recover`], [`siblings()`], [`swap`], [`split`], [`contract`] and
+/// [`Mesh::holes`] for n vertices and m elements.
 pub const fn work_length(n: u32, m: usize) -> usize {
     n as usize + 16 * m
 }
@@ -511,6 +531,94 @@ pub fn split(
     // SAFETY: each pointer has its slice's own length, and the kernel stays within these and the two numbers of the size.
     let returned = unsafe {
         exports::borzhanu_split(
+            size,
+            elements.as_mut_ptr(),
+            elements.len(),
+            v2e.as_mut_ptr(),
+            v2e.len(),
+            e2e.as_mut_ptr(),
+            e2e.len(),
+            b2e.as_mut_ptr(),
+            b2e.len(),
+            points.as_mut_ptr(),
+            points.len(),
+            work.as_mut_ptr(),
+            work.len(),
+            code,
+        )
+    };
+    counted(returned)
+}
+
+/// Contracts an edge of an element list and closes the gaps, and writes the tables of the new list. [`OwnedMesh`] has this
+/// without buffers to lend.
+///
+/// `code` names the edge by a side from a to b, inner or on the border: b is merged into a. The triangle of the side and
+/// its partner, if there is one, go, the higher-numbered first; each time the last row takes the freed number. Every b
+/// becomes a; then the last vertex, which is n, takes number b, with its point. The point of a stays. Where the row or the
+/// vertex that goes is itself the last, nothing takes its number; where a is the last vertex, it has number b afterwards.
+/// So n is less by 1; an inner edge makes m less by 2 and the number of edges by 3, one on the border m and k by 1 and the
+/// number of edges by 2. Rows and vertices can have other numbers: codes from before don't hold.
+///
+/// The list is the first 4 × m entries of `elements`, where `size` has n and m. `v2e` has at least n entries, `e2e` at
+/// least [`columns`] × m, `points` at least 3 × n numbers, three for each vertex, and `work` at least [`work_length`], or
+/// refusal 2 comes. `b2e` has at least the new k entries (n − 1 are always enough), or 9 comes. After an answer `size` has
+/// the new n and m, and the new list and its tables stand at the starts of their buffers. Between what is held now and what
+/// was held, every entry of `elements`, `v2e`, `e2e` and `points` is 0; past the new k, `b2e` is as it was. A point that
+/// gets another number keeps its bits. Every entry past what was held is as it was. After a refusal `size`, the list, the
+/// tables and the points are as they were. After 1 and 2 `work` is as it was; after everything else all of it is zero.
+///
+/// [`split`] and then the contraction of the same code give back n, m, the list, its tables and its points, with 0 where
+/// the new ones stood.
+///
+/// # Errors
+///
+/// Refusals 1 and 2 for the sizes and lengths; 3, 4, 6 to 8 and 18 where the list is refused; 11 where it has no half-edge
+/// of this code; 15 for a border half-edge and a side with a quadrilateral on either side; 20 where sides join a and b to
+/// a common neighbour that isn't a third corner of a triangle on the edge; 21 where a vertex that was used, b apart, would
+/// be left unused; 8 and 18 where the new list is refused, with a place in that: 8 where a and b are both on a border and
+/// the edge isn't, 18 as on a tetrahedron; 9. In this order.
+///
+/// ```
+/// use borzhanu::{contract, side, work_length, Refusal, Size};
+///
+/// // A triangle that was split from 1 to 2.
+/// let mut size = Size { n: 4, m: 2 };
+/// let mut elements = [1, 4, 3, 0, 4, 2, 3, 0];
+/// let (mut v2e, mut e2e, mut b2e) = ([7; 4], [7; 6], [7; 4]);
+/// let mut points = [0.0, 0.0, 0.0, 3.0, 0.0, 0.0, 0.0, 4.0, 0.0, 1.5, 0.0, 0.0];
+/// let mut work = vec![0; work_length(4, 2)];
+///
+/// // The side from 1 to 4. Row 2 takes the number of row 1, and what it had of vertex 4 is at vertex 1.
+/// let counts =
+///     contract(&mut size, &mut elements, &mut v2e, &mut e2e, &mut b2e, &mut points, &mut work, side(1, 1))?;
+/// assert_eq!((size, counts.borders, counts.edges), (Size { n: 3, m: 1 }, 3, 3));
+/// assert_eq!(elements, [1, 2, 3, 0, 0, 0, 0, 0]);
+/// assert_eq!(v2e, [24, 8, 16, 0]);
+/// assert_eq!(e2e, [8, 16, 24, 0, 0, 0]);
+/// assert_eq!(b2e, [9, 10, 11, 7]);
+/// assert_eq!(points, [0.0, 0.0, 0.0, 3.0, 0.0, 0.0, 0.0, 4.0, 0.0, 0.0, 0.0, 0.0]);
+///
+/// // The last triangle can't go: its corners would be left.
+/// let refused = contract(&mut size, &mut elements, &mut v2e, &mut e2e, &mut b2e, &mut points, &mut work, side(1, 1));
+/// assert_eq!(refused, Err(Refusal::VertexStranded));
+/// # Ok::<(), borzhanu::Refusal>(())
+/// ```
+// The buffers are those of the exported call, in its order.
+#[allow(clippy::too_many_arguments)]
+pub fn contract(
+    size: &mut Size,
+    elements: &mut [u32],
+    v2e: &mut [u32],
+    e2e: &mut [u32],
+    b2e: &mut [u32],
+    points: &mut [f64],
+    work: &mut [u32],
+    code: u32,
+) -> Result<Counts, Refusal> {
+    // SAFETY: each pointer has its slice's own length, and the kernel stays within these and the two numbers of the size.
+    let returned = unsafe {
+        exports::borzhanu_contract(
             size,
             elements.as_mut_ptr(),
             elements.len(),

@@ -7,12 +7,13 @@ use crate::{Counts, HalfEdge, Mesh, Refusal, Tables};
 /// they were. What is lent by [`OwnedMesh::mesh`] and [`OwnedMesh::tables`] has to be given back before the next edit, so
 /// none of it can be out of date.
 ///
-/// Points are there for the edits that make vertices. Who only swaps builds the mesh without them, with
+/// Points are there for the edits that make vertices or take one away. Who only swaps builds the mesh without them, with
 /// [`OwnedMesh::build`]: every point is then 0, 0, 0. [`OwnedMesh::with_points`] takes them with the list, and
 /// [`OwnedMesh::points_mut`] lends them to be moved.
 ///
-/// An edit judges the whole list, before and after, so its time is linear in n + m, as that of building is. A swap
-/// allocates nothing; a split does where a buffer has to grow, by vectors' own rule, so seldom in a run of splits.
+/// An edit judges the whole list, before and after, so its time is linear in n + m, as that of building is. A swap and a
+/// contraction allocate nothing; a split does where a buffer has to grow, by vectors' own rule, so seldom in a run of
+/// splits.
 ///
 /// ```
 /// use borzhanu::{HalfEdge, OwnedMesh};
@@ -179,5 +180,51 @@ impl OwnedMesh {
     /// ```
     pub fn split(&mut self, side: HalfEdge) -> Result<Counts, Refusal> {
         self.tables.split(side, &mut self.points, &mut self.work)
+    }
+
+    /// Contracts an edge and closes the gaps. The edge is named by a side from a to b, inner or on the border, and b is
+    /// merged into a, whose point stays. The triangle of the side and its partner, if there is one, go, the higher-numbered
+    /// first; each time the last row takes the freed number. Every b becomes a; then the last vertex takes number b, with
+    /// its point. Where the row or the vertex that goes is itself the last, nothing takes its number; where a is the last
+    /// vertex, it has number b afterwards. So there is one vertex less, one element less or two, and rows and vertices
+    /// can have other numbers: a side or a vertex is looked for anew. It gives both counts.
+    ///
+    /// A split and then the contraction of the same side give back the mesh as it was.
+    ///
+    /// # Errors
+    ///
+    /// After each of these the mesh is as it was:
+    ///
+    /// - [`Refusal::NotThere`] where the mesh has no such half-edge;
+    /// - [`Refusal::EdgeUnfit`] for a border half-edge, whose side can be contracted, and for a side with a quadrilateral
+    ///   on either side;
+    /// - [`Refusal::EdgePinched`] where a and b have a common neighbour that isn't a third corner of a triangle on the
+    ///   edge;
+    /// - [`Refusal::VertexStranded`] where a vertex that was used, b apart, would be left unused;
+    /// - [`Refusal::FanBroken`] where a and b are both on a border and the edge isn't: a would have two fans;
+    /// - [`Refusal::ElementsClash`] where two elements would then meet otherwise than at one corner or one edge.
+    ///
+    /// Vertex and elements of the last two are numbered as they would be afterwards.
+    ///
+    /// ```
+    /// use borzhanu::{HalfEdge, OwnedMesh, Refusal};
+    ///
+    /// // A square plate of four triangles about vertex 1.
+    /// let points = [[4.0, 4.0, 0.0], [0.0, 0.0, 0.0], [8.0, 0.0, 0.0], [8.0, 8.0, 0.0], [0.0, 8.0, 0.0]];
+    /// let rows = [[2, 3, 1, 0], [3, 4, 1, 0], [4, 5, 1, 0], [5, 2, 1, 0]];
+    /// let mut plate = OwnedMesh::with_points(&points, &rows)?;
+    ///
+    /// // The side from 2 to 1: rows 4 and 1 go, row 3 becomes row 1, and vertex 5 becomes vertex 1.
+    /// let counts = plate.contract(HalfEdge::side(4, 2))?;
+    /// assert_eq!(plate.rows(), [[4, 1, 2, 0], [3, 4, 2, 0]]);
+    /// assert_eq!(plate.points(), [points[4], points[1], points[2], points[3]]);
+    /// assert_eq!((plate.n(), counts.borders, counts.edges), (4, 4, 5));
+    ///
+    /// // Without the diagonal's two triangles nothing would be left.
+    /// assert_eq!(plate.contract(HalfEdge::side(1, 3)), Err(Refusal::VertexStranded));
+    /// # Ok::<(), borzhanu::Refusal>(())
+    /// ```
+    pub fn contract(&mut self, side: HalfEdge) -> Result<Counts, Refusal> {
+        self.tables.contract(side, &mut self.points, &mut self.work)
     }
 }

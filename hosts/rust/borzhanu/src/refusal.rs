@@ -70,7 +70,7 @@ pub enum Refusal {
         needed: u32,
     },
     /// 15: the half-edge named is a border half-edge, or the side named is a border side or has a quadrilateral on either
-    /// side. An edit gives it, after 11. A border side of a triangle can be split, though.
+    /// side. An edit gives it, after 11. A border side of a triangle can be split and contracted, though.
     EdgeUnfit,
     /// 18: two elements meet otherwise than at one corner or one edge, as two triangles back to back do, and two
     /// quadrilaterals with a diagonal in common. It comes after 8 and before 9.
@@ -83,6 +83,13 @@ pub enum Refusal {
     /// 19: the new n or m would be over 1,000,000, or a buffer other than B2e is too short for the new mesh. An edit that
     /// makes the mesh larger gives it, after 15.
     NoRoom,
+    /// 20: the ends of the edge to be contracted have a common neighbour that isn't a third corner of the one or two
+    /// triangles on the edge, as on a thin tube or by a hole of three edges: the mesh would be pinched there. It comes
+    /// after 15.
+    EdgePinched,
+    /// 21: contracted, the edge would leave a vertex unused that was used: a third corner that has no other element, or
+    /// those of the last triangle. It comes after 20.
+    VertexStranded,
 }
 
 impl Refusal {
@@ -109,6 +116,8 @@ impl Refusal {
             15 => Refusal::EdgeUnfit,
             18 => Refusal::ElementsClash { first, second },
             19 => Refusal::NoRoom,
+            20 => Refusal::EdgePinched,
+            21 => Refusal::VertexStranded,
             _ => panic!("libborzhanu.a gave refusal {number}, which this crate doesn't know"),
         }
     }
@@ -132,6 +141,8 @@ impl Refusal {
             Refusal::EdgeUnfit => 15,
             Refusal::ElementsClash { .. } => 18,
             Refusal::NoRoom => 19,
+            Refusal::EdgePinched => 20,
+            Refusal::VertexStranded => 21,
         }
     }
 
@@ -149,7 +160,9 @@ impl Refusal {
             | Refusal::NotThere
             | Refusal::TableBroken
             | Refusal::EdgeUnfit
-            | Refusal::NoRoom => (0, 0),
+            | Refusal::NoRoom
+            | Refusal::EdgePinched
+            | Refusal::VertexStranded => (0, 0),
         }
     }
 
@@ -176,6 +189,10 @@ impl Refusal {
             Refusal::NoRoom => {
                 "n or m would be over 1,000,000, or a buffer other than B2e is too short for the new mesh"
             }
+            Refusal::EdgePinched => {
+                "the edge's ends have a common neighbour that isn't a third corner of its triangles"
+            }
+            Refusal::VertexStranded => "a vertex that was used would be left unused",
         }
     }
 }
@@ -199,7 +216,9 @@ impl fmt::Display for Refusal {
             | Refusal::NotThere
             | Refusal::TableBroken
             | Refusal::EdgeUnfit
-            | Refusal::NoRoom => Ok(()),
+            | Refusal::NoRoom
+            | Refusal::EdgePinched
+            | Refusal::VertexStranded => Ok(()),
         }
     }
 }
@@ -223,7 +242,7 @@ mod tests {
 
     #[test]
     fn header_and_readme_say_the_same() {
-        for number in (1..=13).chain([15, 18, 19]) {
+        for number in (1..=13).chain([15, 18, 19, 20, 21]) {
             let text = Refusal::of(number, 0, 0).text();
             assert_eq!(text_in_header(number), Some(text));
             assert!(README.contains(&format!("| {number} | {text} |")), "README on refusal {number}");

@@ -1,6 +1,6 @@
 //! An element list with its tables, owned.
 
-use crate::{build, columns, split, swap, work_length};
+use crate::{build, columns, contract, split, swap, work_length};
 use crate::{Counts, HalfEdge, Holes, Mesh, Refusal, Size, VertexKind, Walker};
 
 /// An element list and the tables that were built of it. Whatever is asked of them, the only refusal is
@@ -79,6 +79,23 @@ impl Tables {
         self.n = size.n;
         self.resize(size, self.counts.borders, points, work);
         answer
+    }
+
+    /// Contracts an edge: in list, tables and points, or, refused, in none of these. B2e is long enough as it is, since k
+    /// doesn't grow. The buffers are cut to what they hold after.
+    pub(crate) fn contract(
+        &mut self,
+        side: HalfEdge,
+        points: &mut Vec<[f64; 3]>,
+        work: &mut Vec<u32>,
+    ) -> Result<Counts, Refusal> {
+        let mut size = Size { n: self.n, m: self.rows.len() as u32 };
+        let (elements, numbers) = (self.rows.as_flattened_mut(), points.as_flattened_mut());
+        let (v2e, e2e, b2e) = (&mut self.v2e, &mut self.e2e, &mut self.b2e);
+        self.counts = contract(&mut size, elements, v2e, e2e, b2e, numbers, work, side.code())?;
+        self.n = size.n;
+        self.resize(size, self.counts.borders, points, work);
+        Ok(self.counts)
     }
 
     /// Each buffer in the length that it has for n vertices, m elements and k borders.

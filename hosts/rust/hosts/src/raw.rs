@@ -78,24 +78,52 @@ extern "C" {
         work_len: usize,
         code: u32,
     ) -> u64;
-
-    pub fn borzhanu_split(
-        size: *mut u32,
-        elements: *mut u32,
-        elements_len: usize,
-        v2e: *mut u32,
-        v2e_len: usize,
-        e2e: *mut u32,
-        e2e_len: usize,
-        b2e: *mut u32,
-        b2e_len: usize,
-        points: *mut f64,
-        points_len: usize,
-        work: *mut u32,
-        work_len: usize,
-        code: u32,
-    ) -> u64;
 }
+
+/// An edit that is lent the points too.
+pub type WithPoints = unsafe extern "C" fn(
+    size: *mut u32,
+    elements: *mut u32,
+    elements_len: usize,
+    v2e: *mut u32,
+    v2e_len: usize,
+    e2e: *mut u32,
+    e2e_len: usize,
+    b2e: *mut u32,
+    b2e_len: usize,
+    points: *mut f64,
+    points_len: usize,
+    work: *mut u32,
+    work_len: usize,
+    code: u32,
+) -> u64;
+
+macro_rules! with_points {
+    ($($name:ident),*) => {
+        extern "C" {
+            $(
+                pub fn $name(
+                    size: *mut u32,
+                    elements: *mut u32,
+                    elements_len: usize,
+                    v2e: *mut u32,
+                    v2e_len: usize,
+                    e2e: *mut u32,
+                    e2e_len: usize,
+                    b2e: *mut u32,
+                    b2e_len: usize,
+                    points: *mut f64,
+                    points_len: usize,
+                    work: *mut u32,
+                    work_len: usize,
+                    code: u32,
+                ) -> u64;
+            )*
+        }
+    };
+}
+
+with_points!(borzhanu_split, borzhanu_contract);
 
 /// Calls a query on a [`View`](crate::reference::View) and further arguments.
 #[macro_export]

@@ -2,6 +2,7 @@
 //! a hash map keyed by their vertices, as in section 3.2 of T. J. Alumbaugh and X. Jiao, "Compact Array-Based Mesh Data
 //! Structures". Nothing is written in place: each function gives what a call would answer and write.
 
+pub mod contract;
 pub mod edited;
 pub mod holes;
 mod midway;

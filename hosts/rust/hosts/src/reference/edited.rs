@@ -37,6 +37,39 @@ pub fn held(n: u32, m: u32, elements: &[u32], lengths: Lengths) -> Result<&[u32]
     has_room(n, m, columns_of(list), lengths).then_some(list).ok_or(UNFIT)
 }
 
+/// The same with the points of the vertices, three numbers for each.
+pub fn held_with_points<'a>(
+    n: u32,
+    m: u32,
+    elements: &'a [u32],
+    lengths: Lengths,
+    points: &[f64],
+) -> Result<&'a [u32], Refused> {
+    let list = held(n, m, elements, lengths)?;
+    (points.len() >= 3 * n as usize).then_some(list).ok_or(UNFIT)
+}
+
+/// An edge with no quadrilateral on it: a side of it, the partner if there is one, and the vertices where the side begins
+/// and ends.
+#[derive(Clone, Copy, Debug)]
+pub struct Edge {
+    pub(super) s: Side,
+    pub(super) t: Option<Side>,
+    pub(super) a: u32,
+    pub(super) b: u32,
+}
+
+impl Edge {
+    /// How many triangles are on it.
+    pub fn triangles(self) -> u32 {
+        self.sides().count() as u32
+    }
+
+    pub(super) fn sides(self) -> impl Iterator<Item = Side> {
+        [Some(self.s), self.t].into_iter().flatten()
+    }
+}
+
 /// An accepted list on its way through a run of edits.
 #[derive(Clone)]
 pub struct Edited {
@@ -46,12 +79,21 @@ pub struct Edited {
     pub(super) k: u32,
     /// By origin and destination.
     pub(super) sides: HashMap<(u32, u32), Side>,
-    /// The quadrilateral that has these two corners for a diagonal, the lower first. No edit changes these.
+    /// The quadrilateral that has these two corners for a diagonal, the lower first.
     pub(super) diagonals: HashMap<(u32, u32), u32>,
 }
 
 pub(super) fn in_order(a: u32, b: u32) -> (u32, u32) {
     (a.min(b), a.max(b))
+}
+
+/// Of a triangle none.
+pub(super) fn diagonals_of(rows: Rows, f: u32) -> impl Iterator<Item = (u32, u32)> {
+    let ends = match *rows.corners(f) {
+        [a, b, c, d] => Some([in_order(a, c), in_order(b, d)]),
+        _ => None,
+    };
+    ends.into_iter().flatten()
 }
 
 impl Edited {
@@ -66,10 +108,7 @@ impl Edited {
         let sides: HashMap<(u32, u32), Side> =
             rows.sides().map(|s| ((rows.origin(s), rows.destination(s)), s)).collect();
         let k = sides.keys().filter(|&&(a, b)| !sides.contains_key(&(b, a))).count() as u32;
-        let of_element = |f| match *rows.corners(f) {
-            [a, b, c, d] => vec![(in_order(a, c), f), (in_order(b, d), f)],
-            _ => Vec::new(),
-        };
+        let of_element = |f| diagonals_of(rows, f).map(move |ends| (ends, f));
         let diagonals = (1..=rows.elements()).flat_map(of_element).collect();
         Edited { n, list: list.to_vec(), k, sides, diagonals }
     }
@@ -86,16 +125,17 @@ impl Edited {
         self.k
     }
 
-    /// The side of a code, and its partner where it has one. Neither is of a quadrilateral.
-    pub(super) fn triangles(&self, code: u32) -> Result<(Side, Option<Side>), Refused> {
+    /// The edge of a code.
+    pub fn edge(&self, code: u32) -> Result<Edge, Refused> {
         let rows = Rows(&self.list);
         if code % 8 == 0 && (1..=self.k).contains(&(code / 8)) {
             return Err(EDGE_UNFIT);
         }
         let s = rows.side(code).ok_or(NOT_THERE)?;
-        let t = self.sides.get(&(rows.destination(s), rows.origin(s))).copied();
-        let fit = [Some(s), t].into_iter().flatten().all(|side| rows.sides_of(side.f) == 3);
-        fit.then_some((s, t)).ok_or(EDGE_UNFIT)
+        let (a, b) = (rows.origin(s), rows.destination(s));
+        let edge = Edge { s, t: self.sides.get(&(b, a)).copied(), a, b };
+        let fit = edge.sides().all(|side| rows.sides_of(side.f) == 3);
+        fit.then_some(edge).ok_or(EDGE_UNFIT)
     }
 
     /// A row of the list put down, or one after the last; the map knows its sides.

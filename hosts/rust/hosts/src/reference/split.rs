@@ -1,10 +1,8 @@
 //! Splits of edges by the map of an edited list, and by the rule. Midpoints are worked out in whole numbers.
 
-use super::edited::{has_room, held, Edited, NewList, EDGE_UNFIT};
+use super::edited::{has_room, held_with_points, Edge, Edited, NewList, EDGE_UNFIT};
 use super::midway::midway;
-use super::{
-    columns_of, tables, Lengths, Opposites, Refused, Rows, Side, MAX_ELEMENTS, MAX_VERTICES, NOT_THERE, UNFIT,
-};
+use super::{columns_of, tables, Lengths, Opposites, Refused, Rows, Side, MAX_ELEMENTS, MAX_VERTICES, NOT_THERE};
 
 const NO_ROOM: Refused = (19, 0, 0);
 
@@ -13,18 +11,6 @@ const NO_ROOM: Refused = (19, 0, 0);
 pub struct Split {
     pub new: NewList,
     pub point: [f64; 3],
-}
-
-/// Checks 1 and 2, and the list that is held.
-pub fn held_with_points<'a>(
-    n: u32,
-    m: u32,
-    elements: &'a [u32],
-    lengths: Lengths,
-    points: &[f64],
-) -> Result<&'a [u32], Refused> {
-    let list = held(n, m, elements, lengths)?;
-    (points.len() >= 3 * n as usize).then_some(list).ok_or(UNFIT)
 }
 
 pub fn split(n: u32, m: u32, elements: &[u32], lengths: Lengths, points: &[f64], code: u32) -> Result<Split, Refused> {
@@ -37,21 +23,7 @@ pub fn split(n: u32, m: u32, elements: &[u32], lengths: Lengths, points: &[f64],
     Ok(Split { new, point: edge.midpoint(points) })
 }
 
-/// An edge that can be split: a side of it, the partner if there is one, and the vertices where the side begins and ends.
-#[derive(Clone, Copy, Debug)]
-pub struct Edge {
-    s: Side,
-    t: Option<Side>,
-    a: u32,
-    b: u32,
-}
-
 impl Edge {
-    /// How many elements more there are afterwards.
-    pub fn appended(self) -> u32 {
-        1 + self.t.is_some() as u32
-    }
-
     pub fn midpoint(self, points: &[f64]) -> [f64; 3] {
         let number = |v: u32, i: usize| points[3 * (v as usize - 1) + i];
         [0, 1, 2].map(|i| midway(number(self.a, i), number(self.b, i)))
@@ -59,20 +31,13 @@ impl Edge {
 
     /// 19: for one vertex more, and one element or two.
     fn check_room(self, n: u32, m: u32, columns: u32, lengths: Lengths, points: usize) -> Result<(), Refused> {
-        let (n, m) = (n + 1, m + self.appended());
+        let (n, m) = (n + 1, m + self.triangles());
         let fit = n <= MAX_VERTICES && m as usize <= MAX_ELEMENTS && points >= 3 * n as usize;
         (fit && has_room(n, m, columns, lengths)).then_some(()).ok_or(NO_ROOM)
     }
 }
 
 impl Edited {
-    /// The edge of a code.
-    pub fn edge(&self, code: u32) -> Result<Edge, Refused> {
-        let (s, t) = self.triangles(code)?;
-        let rows = Rows(&self.list);
-        Ok(Edge { s, t, a: rows.origin(s), b: rows.destination(s) })
-    }
-
     /// Where there are few elements, the rule is also followed word by word.
     pub fn split(&mut self, edge: Edge) {
         let by_rule = self.has_few().then(|| by_rule(self.n, &self.list, edge.s.code()));

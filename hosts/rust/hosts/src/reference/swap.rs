@@ -1,6 +1,6 @@
 //! Swaps of diagonals by the map of an edited list, and by the rule.
 
-use super::edited::{held, in_order, Edited, NewList, EDGE_UNFIT};
+use super::edited::{held, in_order, Edge, Edited, NewList, EDGE_UNFIT};
 use super::{columns_of, tables, Lengths, Opposites, Refused, Rows, Side, NOT_THERE};
 
 pub fn swap(n: u32, m: u32, elements: &[u32], lengths: Lengths, code: u32) -> Result<NewList, Refused> {
@@ -22,10 +22,9 @@ impl Edited {
     }
 
     fn swap_by_map(&mut self, code: u32) -> Result<(), Refused> {
-        let (s, t) = self.triangles(code)?;
+        let Edge { s, t, a, b } = self.edge(code)?;
         let t = t.ok_or(EDGE_UNFIT)?;
         let rows = Rows(&self.list);
-        let (a, b) = (rows.origin(s), rows.origin(t));
         let [c, d] = [s, t].map(|side| rows.corners(side.f).iter().copied().find(|&v| v != a && v != b));
         let (c, d) = c.zip(d).expect("a triangle has a third corner");
         self.can_join(c, d, s.f, t.f)?;

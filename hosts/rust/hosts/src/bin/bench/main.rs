@@ -1,5 +1,5 @@
-//! Times building, recovery, rings, siblings, holes, swaps and splits, and other means beside them, and prints tables in
-//! Markdown.
+//! Times building, recovery, rings, siblings, holes, swaps, splits and contractions, and other means beside them, and
+//! prints tables in Markdown.
 //!
 //!     bench [FOLDER]               with a folder, also writes lists of triangles to FOLDER/build and FOLDER/holes, for
 //!                                  bench_cpp
@@ -12,7 +12,7 @@ mod hash_maps;
 mod late;
 
 use borzhanu::{
-    build, columns, recover, siblings, split, work_length, Counts, HalfEdge, Mesh, OwnedMesh, Refusal, Size,
+    build, columns, contract, recover, siblings, split, work_length, Counts, HalfEdge, Mesh, OwnedMesh, Refusal, Size,
 };
 use hash_maps::{ends, hash_map_build, hash_map_holes, hash_map_siblings, FastHasher};
 use hosts::meshes::{book, fan, sheet, Dice, Kinds, List};
@@ -749,9 +749,22 @@ fn print_swaps(lists: &[(&str, List)], dice: &mut Dice) {
     println!();
 }
 
-/// A list in buffers with room for one split, and its points.
-struct Splits<'a> {
+/// `split` or `contract`.
+type EdgeEdit = fn(
+    &mut Size,
+    &mut [u32],
+    &mut [u32],
+    &mut [u32],
+    &mut [u32],
+    &mut [f64],
+    &mut [u32],
+    u32,
+) -> Result<Counts, Refusal>;
+
+/// A list in buffers with room for one split, its points, and what is done to its edges.
+struct Edges<'a> {
     list: &'a List,
+    edit: EdgeEdit,
     size: Size,
     elements: Vec<u32>,
     tables: Tables,
@@ -759,14 +772,14 @@ struct Splits<'a> {
     work: Vec<u32>,
 }
 
-impl<'a> Splits<'a> {
-    fn new(list: &'a List) -> Splits<'a> {
+impl<'a> Edges<'a> {
+    fn new(list: &'a List, edit: EdgeEdit) -> Edges<'a> {
         let (n, m) = (list.n + 1, list.rows.len() + 2);
         let Tables { columns, .. } = Tables::new(list);
         let tables = Tables { columns, v2e: vec![1; n as usize], e2e: vec![1; columns * m], b2e: vec![1; n as usize] };
         let points = (0..3 * n).map(f64::from).collect();
         let size = Size { n: list.n, m: list.rows.len() as u32 };
-        Splits { list, size, elements: vec![1; 4 * m], tables, points, work: vec![1; work_length(n, m)] }
+        Edges { list, edit, size, elements: vec![1; 4 * m], tables, points, work: vec![1; work_length(n, m)] }
     }
 
     /// The list is put back before, which isn't timed.
@@ -774,58 +787,57 @@ impl<'a> Splits<'a> {
         self.size = Size { n: self.list.n, m: self.list.rows.len() as u32 };
         self.elements[..self.list.entries().len()].copy_from_slice(self.list.entries());
         read_through(&self.tables, self.list);
-        let Splits { size, elements, tables: Tables { v2e, e2e, b2e, .. }, points, work, .. } = self;
-        timed(times, || split(size, elements, v2e, e2e, b2e, points, work, code))
+        let Edges { edit, size, elements, tables: Tables { v2e, e2e, b2e, .. }, points, work, .. } = self;
+        timed(times, || edit(size, elements, v2e, e2e, b2e, points, work, code))
     }
 }
 
-/// Medians of the milliseconds of a build, of splits of an inner edge and of one on the border, which a closed mesh hasn't,
+/// Medians of the milliseconds of a build, of edits of an inner edge and of one on the border, which a closed mesh hasn't,
 /// and of one that is refused.
-struct SplitTimes {
+struct EdgeTimes {
     build: f64,
     inner: f64,
     border: Option<f64>,
     refused: f64,
 }
 
-/// Splits of a side in the middle of the list, of a border side and of nothing, beside a build of the same list, runs
-/// interleaved.
-fn split_times(list: &List) -> SplitTimes {
+/// Edits of a side in the middle of the list, of a border side and of nothing, beside a build of the same list, runs
+/// interleaved. Each is the first one from there on that is answered.
+fn edge_times(list: &List, edit: EdgeEdit) -> EdgeTimes {
     let mesh = OwnedMesh::build(list.n, &list.rows).expect("the list is accepted");
+    let (mut kernel, mut edges) = (Kernel::new(list), Edges::new(list, edit));
+    let mut is_answered = |&code: &u32| edges.timed(&mut Vec::new(), code).is_ok();
     let is_inner = |&side: &HalfEdge| mesh.tables().across(side).is_ok_and(|element| element != 0);
-    let mut sides = (mesh.m() / 2..=mesh.m()).map(|f| HalfEdge::side(f, 1));
-    let inner = sides.find(is_inner).expect("there are inner edges").code();
+    let sides = (mesh.m() / 2..=mesh.m()).map(|f| HalfEdge::side(f, 1)).filter(is_inner);
+    let inner = sides.map(|side| side.code()).find(&mut is_answered).expect("there are inner edges");
     let b2e = mesh.mesh().b2e();
-    let on_border = b2e.get(b2e.len() / 2).copied();
-    let (mut kernel, mut splits) = (Kernel::new(list), Splits::new(list));
+    let on_border = b2e[b2e.len() / 2..].iter().copied().find(&mut is_answered);
     let [mut builds, mut inners, mut borders, mut refused] = [(); 4].map(|()| Vec::new());
     for _ in 0..ROUNDS {
         kernel.timed_build(&mut builds).expect("the list is accepted");
-        splits.timed(&mut inners, inner).expect("the edge can be split");
+        edges.timed(&mut inners, inner).expect("the edge was edited before");
         if let Some(code) = on_border {
-            splits.timed(&mut borders, code).expect("the edge can be split");
+            edges.timed(&mut borders, code).expect("the edge was edited before");
         }
-        assert_eq!(splits.timed(&mut refused, 0), Err(Refusal::NotThere));
+        assert_eq!(edges.timed(&mut refused, 0), Err(Refusal::NotThere));
     }
     let border = on_border.map(|_| median(&borders));
-    SplitTimes { build: median(&builds), inner: median(&inners), border, refused: median(&refused) }
+    EdgeTimes { build: median(&builds), inner: median(&inners), border, refused: median(&refused) }
 }
 
-fn print_splits(lists: &[(&str, List)]) {
-    println!("## Split edges\n");
+fn print_edges(title: &str, name_of_edit: &str, point: &str, edit: EdgeEdit, lists: &[(&str, List)]) {
+    println!("## {title}\n");
     println!("The lists of 100,000 triangles. Milliseconds of processor time, medians of {ROUNDS} interleaved runs on");
     println!(
         "buffers that hold what the run before left, with the old list put back, which isn't timed, and ratios to a"
     );
     println!("build of the same list. The kernel needs nothing cleared; its time includes all checks of the old list,");
-    println!(
-        "the tables of the new one, the new point, and clearing its work buffer at the end. Refused is a split of"
-    );
-    println!("no half-edge (11): the old list alone is judged.\n");
+    println!("the tables of the new one, {point}, and clearing its work buffer at the end. Refused is a");
+    println!("{name_of_edit} of no half-edge (11): the old list alone is judged.\n");
     println!("| list | build | inner edge | ratio | edge on the border | ratio | refused | ratio |");
     println!("|---|---|---|---|---|---|---|---|");
     for (name, list) in lists {
-        let SplitTimes { build, inner, border, refused } = split_times(list);
+        let EdgeTimes { build, inner, border, refused } = edge_times(list, edit);
         let (on_border, ratio) =
             border.map_or(("-".into(), "-".into()), |time| (format!("{time:.2}"), format!("{:.2}", time / build)));
         println!(
@@ -904,7 +916,8 @@ fn print_others(triangles: &[(&'static str, List)], dice: &mut Dice) {
     print_holes(dice);
     print_refused_holes(dice);
     print_swaps(triangles, dice);
-    print_splits(triangles);
+    print_edges("Split edges", "split", "the new point", split, triangles);
+    print_edges("Contracted edges", "contraction", "the points", contract, triangles);
 }
 
 fn main() -> io::Result<()> {

@@ -1,14 +1,15 @@
 //! One call, made on the kernel between guard pages and compared with the reference.
 
-use borzhanu::{Mesh, Refusal, Size, VertexKind, WalkerRecord, MAX_ELEMENTS, MAX_VERTICES};
+use borzhanu::{Counts, Mesh, Refusal, Size, VertexKind, WalkerRecord, MAX_ELEMENTS, MAX_VERTICES};
 use hosts::guarded::{Guarded, Placement};
-use hosts::raw::{borzhanu_siblings, borzhanu_split, borzhanu_swap, taken_apart};
-use hosts::reference::edited::{held, NewList};
+use hosts::raw::{borzhanu_contract, borzhanu_siblings, borzhanu_split, borzhanu_swap, taken_apart, WithPoints};
+use hosts::reference::contract::{contract, Contracted};
+use hosts::reference::edited::{held, held_with_points, NewList};
 use hosts::reference::holes::{self, Holes};
 use hosts::reference::siblings::{self, Siblings};
-use hosts::reference::split::{held_with_points, split, Split};
+use hosts::reference::split::{split, Split};
 use hosts::reference::swap::swap;
-use hosts::reference::{self, Built, Lengths, Refused, View};
+use hosts::reference::{self, columns_of, Built, Lengths, Refused, View};
 use hosts::told;
 use std::process;
 use std::ptr;
@@ -63,6 +64,10 @@ pub enum Question {
     Split(Edge),
     /// straight to the archive
     RawSplit(Edge),
+    /// through the wrapper
+    Contract(Edge),
+    /// straight to the archive
+    RawContract(Edge),
 }
 
 /// What an edit is told beside n and the buffers.
@@ -126,10 +131,21 @@ pub struct Left {
     pub lengths: Option<Vec<u32>>,
     pub record: Option<WalkerRecord>,
     pub size: Option<Size>,
-    /// It stands after those of the vertices that there were.
-    pub point: Option<[f64; 3]>,
+    pub points: Option<Vec<f64>>,
     pub work_cleared: bool,
 }
+
+/// An edit of the wrapper that is lent the points too.
+pub type EditWithPoints = fn(
+    &mut Size,
+    &mut [u32],
+    &mut [u32],
+    &mut [u32],
+    &mut [u32],
+    &mut [f64],
+    &mut [u32],
+    u32,
+) -> Result<Counts, Refusal>;
 
 static CURRENT: AtomicPtr<Situation> = AtomicPtr::new(ptr::null_mut());
 
@@ -283,7 +299,7 @@ impl Call<'_> {
     fn expected_swap(&self, Edge { m, code }: Edge) -> Outcome {
         let work_cleared = held(self.n, m, self.elements, self.lengths()).is_ok();
         match swap(self.n, m, self.elements, self.lengths(), code) {
-            Ok(new) => edits(new, self.n, None),
+            Ok(new) => edits(Size { n: self.n, m }, self.n, new, None),
             Err(refused) => Outcome { answer: Err(refused), left: Left { work_cleared, ..Left::default() } },
         }
     }
@@ -291,7 +307,18 @@ impl Call<'_> {
     fn expected_split(&self, Edge { m, code }: Edge) -> Outcome {
         let work_cleared = held_with_points(self.n, m, self.elements, self.lengths(), self.points).is_ok();
         match split(self.n, m, self.elements, self.lengths(), self.points, code) {
-            Ok(Split { new, point }) => edits(new, self.n + 1, Some(point)),
+            Ok(Split { new, point }) => {
+                let points = [&self.points[..3 * self.n as usize], &point].concat();
+                edits(Size { n: self.n, m }, self.n + 1, new, Some(points))
+            }
+            Err(refused) => Outcome { answer: Err(refused), left: Left { work_cleared, ..Left::default() } },
+        }
+    }
+
+    fn expected_contraction(&self, Edge { m, code }: Edge) -> Outcome {
+        let work_cleared = held_with_points(self.n, m, self.elements, self.lengths(), self.points).is_ok();
+        match contract(self.n, m, self.elements, self.lengths(), self.points, code) {
+            Ok(Contracted { new, points }) => edits(Size { n: self.n, m }, self.n - 1, new, Some(points)),
             Err(refused) => Outcome { answer: Err(refused), left: Left { work_cleared, ..Left::default() } },
         }
     }
@@ -306,27 +333,48 @@ impl Call<'_> {
             Question::Holes(way) => self.expected_holes(way.told()),
             Question::Swap(edge) | Question::RawSwap(edge) => self.expected_swap(edge),
             Question::Split(edge) | Question::RawSplit(edge) => self.expected_split(edge),
+            Question::Contract(edge) | Question::RawContract(edge) => self.expected_contraction(edge),
         }
     }
 
     /// n and m, which an edit is lent.
     fn size(&self) -> [u32; 2] {
         match self.what {
-            Question::Swap(edge) | Question::RawSwap(edge) | Question::Split(edge) | Question::RawSplit(edge) => {
-                [self.n, edge.m]
-            }
+            Question::Swap(edge)
+            | Question::RawSwap(edge)
+            | Question::Split(edge)
+            | Question::RawSplit(edge)
+            | Question::Contract(edge)
+            | Question::RawContract(edge) => [self.n, edge.m],
             _ => [0, 0],
         }
     }
 }
 
-/// An edit that answers and leaves this list on n vertices, and a new point if it places one.
-pub fn edits(new: NewList, n: u32, point: Option<[f64; 3]>) -> Outcome {
+/// An edit that answers, on a mesh of this size, and leaves this list on n vertices, and these points if it writes any.
+/// Where there was more before, it leaves 0, but not in B2e.
+pub fn edits(before: Size, n: u32, new: NewList, points: Option<Vec<f64>>) -> Outcome {
     let NewList { list, tables: Built { v2e, e2e, b2e, edges } } = new;
     let answer = Ok((b2e.len() as u32, edges));
     let size = Some(Size { n, m: list.len() as u32 / 4 });
-    let (elements, v2e, e2e, b2e) = (Some(list), Some(v2e), Some(e2e), Some(b2e));
-    Outcome { answer, left: Left { elements, v2e, e2e, b2e, size, point, work_cleared: true, ..Left::default() } }
+    let (vertices, m, columns) = (before.n as usize, before.m as usize, columns_of(&list) as usize);
+    let left = Left {
+        elements: Some(at_least(4 * m, list)),
+        v2e: Some(at_least(vertices, v2e)),
+        e2e: Some(at_least(columns * m, e2e)),
+        b2e: Some(b2e),
+        size,
+        points: points.map(|points| at_least(3 * vertices, points)),
+        work_cleared: true,
+        ..Left::default()
+    };
+    Outcome { answer, left }
+}
+
+/// So many entries, with 0 for those that there aren't.
+fn at_least<T: Copy + Default>(len: usize, mut entries: Vec<T>) -> Vec<T> {
+    entries.resize(entries.len().max(len), T::default());
+    entries
 }
 
 fn refuses(refused: Refused) -> Outcome {
@@ -445,8 +493,10 @@ impl Held<'_> {
             Question::Holes(Way::Told(columns)) => taken_apart(self.ask_told_holes(call, columns)),
             Question::Swap(edge) => self.ask_swap(edge.code).map_err(refused),
             Question::RawSwap(edge) => taken_apart(self.ask_raw_swap(edge.code)),
-            Question::Split(edge) => self.ask_split(edge.code).map_err(refused),
-            Question::RawSplit(edge) => taken_apart(self.ask_raw_split(edge.code)),
+            Question::Split(edge) => self.ask_with_points(borzhanu::split, edge.code).map_err(refused),
+            Question::RawSplit(edge) => taken_apart(self.ask_raw_with_points(borzhanu_split, edge.code)),
+            Question::Contract(edge) => self.ask_with_points(borzhanu::contract, edge.code).map_err(refused),
+            Question::RawContract(edge) => taken_apart(self.ask_raw_with_points(borzhanu_contract, edge.code)),
         }
     }
 
@@ -494,17 +544,17 @@ impl Held<'_> {
         }
     }
 
-    fn ask_split(&mut self, code: u32) -> Result<(u32, u32), Refusal> {
+    fn ask_with_points(&mut self, edit: EditWithPoints, code: u32) -> Result<(u32, u32), Refusal> {
         // SAFETY: the memory holds the two numbers of the size, and nothing else refers to it meanwhile.
         let size = unsafe { &mut *(self.size.as_mut_ptr() as *mut Size) };
-        borzhanu::split(size, self.elements, self.v2e, self.e2e, self.b2e, self.points, self.work, code)
+        edit(size, self.elements, self.v2e, self.e2e, self.b2e, self.points, self.work, code)
             .map(|counts| (counts.borders, counts.edges))
     }
 
-    fn ask_raw_split(&mut self, code: u32) -> u64 {
+    fn ask_raw_with_points(&mut self, edit: WithPoints, code: u32) -> u64 {
         // SAFETY: each pointer has its slice's own length, and the kernel stays within these.
         unsafe {
-            borzhanu_split(
+            edit(
                 self.size.as_mut_ptr(),
                 self.elements.as_mut_ptr(),
                 self.elements.len(),
@@ -575,7 +625,7 @@ impl Held<'_> {
         check_buffer("out", self.out, call.out, &want.out);
         check_buffer("lengths", self.lengths, call.lengths, &want.lengths);
         check_buffer("size", self.size, &call.size(), &want.size.map(|size| vec![size.n, size.m]));
-        check_points(self.points, call, want.point);
+        check_points(self.points, call, want.points.as_deref().unwrap_or(&[]));
         if !want.work_cleared {
             check_buffer("work", self.work, call.work, &None);
         } else if self.work.iter().any(|&entry| entry != 0) {
@@ -634,13 +684,13 @@ fn check_buffer(name: &str, left: &[u32], before: &[u32], written: &Option<Vec<u
     }
 }
 
-/// All points are as they were, bit by bit, but for a new one. Where a number of that is to be none, it may be any such.
-fn check_points(left: &[f64], call: &Call, point: Option<[f64; 3]>) {
-    let first = 3 * call.n as usize;
-    let new = |at: usize| point.and_then(|point| point.get(at.wrapping_sub(first)).copied());
+/// The points are those that were to be written, and after these what they were, bit by bit. Where a number of a new vertex
+/// is to be none, it may be any such.
+fn check_points(left: &[f64], call: &Call, written: &[f64]) {
     for (at, (left, before)) in left.iter().zip(call.points).enumerate() {
-        match new(at) {
-            Some(expected) if same_number(*left, expected) => {}
+        match written.get(at) {
+            Some(expected) if left.to_bits() == expected.to_bits() => {}
+            Some(expected) if at >= 3 * call.n as usize && same_number(*left, *expected) => {}
             Some(expected) => fail(&format!("points number {at}: expected {expected:e}, got {left:e}")),
             None if left.to_bits() == before.to_bits() => {}
             None => fail(&format!("points number {at} isn't as it was: {before:e}, now {left:e}")),

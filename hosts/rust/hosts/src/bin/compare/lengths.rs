@@ -37,6 +37,7 @@ fn any_questions(host: &mut Host, m: u32) -> Vec<Question> {
     questions.push(Question::Holes(host.any_way()));
     let edge = Edge { m: count, code: 9 };
     questions.extend([Question::Swap(edge), Question::RawSwap(edge), Question::Split(edge), Question::RawSplit(edge)]);
+    questions.extend([Question::Contract(edge), Question::RawContract(edge)]);
     questions
 }
 
@@ -118,12 +119,16 @@ fn compare_sizes(host: &mut Host, elements: &[u32], sizes: Sizes) {
         holes,
         Question::RawSwap(edge),
         Question::RawSplit(edge),
+        Question::RawContract(edge),
     ] {
         let work_len = match what {
             Question::Build | Question::Siblings | Question::Holes(_) if n <= MAX_VERTICES && rows <= MAX_ELEMENTS => {
                 work_length(n, rows as usize)
             }
-            Question::Recover(m) | Question::RawSwap(Edge { m, .. }) | Question::RawSplit(Edge { m, .. })
+            Question::Recover(m)
+            | Question::RawSwap(Edge { m, .. })
+            | Question::RawSplit(Edge { m, .. })
+            | Question::RawContract(Edge { m, .. })
                 if n <= MAX_VERTICES && m <= MAX_ELEMENTS =>
             {
                 work_length(n, m as usize)

@@ -7,11 +7,14 @@
 
 mod call;
 mod clashes;
+mod contracts;
 mod edits;
 mod holes;
 mod host;
 mod lengths;
 mod numbers;
+mod rooms;
+mod runs;
 mod siblings;
 mod splits;
 mod swaps;
@@ -19,6 +22,7 @@ mod swaps;
 use borzhanu::{MAX_ELEMENTS, MAX_VERTICES};
 use call::Query;
 use clashes::{clashes, large_clashes};
+use contracts::{contract_edges, large_contractions};
 use holes::{compare_holes, holes, large_holes};
 use host::{Host, Tables};
 use hosts::meshes::{any_housing, book, damage, fan, pillow, sheet, Kinds, List};
@@ -239,6 +243,7 @@ fn largest(host: &mut Host) {
     large_holes(host);
     large_swaps(host);
     large_splits(host);
+    large_contractions(host);
     mostly_unused(host);
     about_the_largest(host);
 }
@@ -248,7 +253,7 @@ fn main() {
     let start = Instant::now();
     let mut host = Host::new(seed);
     println!("seed {seed}");
-    let families: [Family; 16] = [
+    let families: [Family; 17] = [
         ("lists of one row", one_row),
         ("lists of two rows", two_rows),
         ("unused vertices", unused_vertices),
@@ -261,6 +266,7 @@ fn main() {
         ("holes", holes),
         ("swapped diagonals", swap_diagonals),
         ("split edges", split_edges),
+        ("contracted edges", contract_edges),
         ("small housings", small_housings),
         ("housings", housings),
         ("large housings", large_housings),

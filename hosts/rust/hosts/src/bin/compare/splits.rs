@@ -2,19 +2,19 @@
 //! to halve, every code of small housings, long runs in which each split is given what the one before left, with swaps
 //! between them, and sizes and lengths about what they must be before and after.
 
-use crate::call::{edits, same_number, Call, Edge, Outcome, Question};
-use crate::edits::{
-    any_triangulated, assert_sound, borders, buffers, codes_about, compare_edit, numbers, refused_late,
-};
+use crate::call::{edits, same_number, Outcome};
+use crate::edits::{any_triangulated, assert_sound, codes_about, numbers, refused_late};
 use crate::edits::{REFUSED, SOME_CODES};
 use crate::host::Host;
 use crate::numbers::{any_points, special_numbers};
-use borzhanu::{border, side, split, swap, work_length, HalfEdge, OwnedMesh, Size};
+use crate::rooms::Length::{New, Old, Zero};
+use crate::rooms::{compare, compare_to, Edit, Room, Subject, B2E, ENOUGH};
+use crate::runs::{bits, Run};
+use borzhanu::{border, side, HalfEdge, OwnedMesh, Size};
 use borzhanu::{MAX_ELEMENTS, MAX_VERTICES};
 use hosts::meshes::{any_housing, sheet, Dice, Kinds, List};
 use hosts::reference::edited::{Edited, NewList};
-use hosts::reference::{self, columns_of, Refused};
-use std::iter;
+use hosts::reference::Refused;
 
 /// n, a list, a code, and the new rows or why there are none.
 type Known = (u32, &'static [[u32; 4]], u32, Result<&'static [[u32; 4]], Refused>);
@@ -88,22 +88,6 @@ const KNOWN: [Known; 41] = [
     (5, &PYRAMID, 28, Err(EDGE_UNFIT)),
 ];
 
-/// A length: so many more than the old mesh needs, or than the new one does.
-#[derive(Clone, Copy, Debug)]
-enum Length {
-    Old(isize),
-    New(isize),
-    Zero,
-}
-
-use Length::{New, Old, Zero};
-
-/// The lengths of list, V2e, E2e, B2e, work buffer and points.
-type Room = [Length; 6];
-
-const ENOUGH: Room = [New(0); 6];
-const B2E: usize = 3;
-
 /// Rooms that differ from enough in one buffer, and some others.
 fn rooms() -> Vec<Room> {
     let mut rooms = vec![
@@ -135,63 +119,9 @@ fn any_room(dice: &mut Dice) -> Room {
     rooms[dice.below(rooms.len() as u32) as usize]
 }
 
-/// What a list, V2e, E2e, B2e, work buffer and points of a mesh need.
-fn needed(n: u32, m: u32, columns: u32, k: u32) -> [usize; 6] {
-    let (vertices, elements) = (n as usize, m as usize);
-    [4 * elements, vertices, columns as usize * elements, k as usize, work_length(n, elements), 3 * vertices]
-}
-
-/// A list on n vertices that has k border half-edges; a split of it appends so many rows.
-#[derive(Clone, Copy)]
-struct Subject<'a> {
-    n: u32,
-    list: &'a [u32],
-    k: u32,
-    appended: u32,
-}
-
-impl<'a> Subject<'a> {
-    /// Two rows where the code has no edge to be split.
-    fn new(list: &'a List, code: u32) -> Subject<'a> {
-        let edge = Edited::new(list.n, list.entries()).and_then(|edited| edited.edge(code));
-        let appended = edge.map_or(2, |edge| edge.appended());
-        Subject { n: list.n, list: list.entries(), k: borders(list), appended }
-    }
-
-    fn lengths(&self, room: Room) -> [usize; 6] {
-        let (m, columns) = (self.list.len() as u32 / 4, columns_of(self.list));
-        let old = needed(self.n, m, columns, self.k);
-        let new = needed(self.n + 1, m + self.appended, columns, self.k + 2 - self.appended);
-        [0, 1, 2, 3, 4, 5].map(|at| match room[at] {
-            Old(more) => old[at].saturating_add_signed(more),
-            New(more) => new[at].saturating_add_signed(more),
-            Zero => 0,
-        })
-    }
-}
-
-/// A split with so much room.
-fn compare_to(
-    host: &mut Host,
-    subject: Subject,
-    code: u32,
-    room: Room,
-    points: &[f64],
-    expected: impl FnOnce(&Call) -> Outcome,
-) -> Outcome {
-    let [list, v2e, e2e, b2e, work, len] = subject.lengths(room);
-    // Past the points stands what is no number, so that no arithmetic leaves it as it is.
-    let past = iter::repeat(f64::from_bits(0x7FF0_DEAD_BEEF_0001));
-    let points: Vec<f64> = points.iter().copied().chain(past).take(len).collect();
-    let edge = Edge { m: subject.list.len() as u32 / 4, code };
-    let questions = [Question::Split(edge), Question::RawSplit(edge)];
-    compare_edit(host, questions, subject.n, subject.list, [list, v2e, e2e, b2e, work], &points, expected)
-}
-
-/// The same to what the reference expects, with points of all kinds.
+/// To what the reference expects, with points of all kinds.
 fn compare_split(host: &mut Host, list: &List, code: u32, room: Room) -> Outcome {
-    let points = any_points(&mut host.dice, list.n as usize);
-    compare_to(host, Subject::new(list, code), code, room, &points, |call| call.expected())
+    compare(host, Edit::Split, list, code, room)
 }
 
 fn known(host: &mut Host) {
@@ -257,8 +187,8 @@ fn compare_owned(host: &mut Host, list: &List, code: u32, want: &Outcome) {
     assert_eq!(numbers(got), want.answer, "owned, code {code}");
     let elements = want.left.elements.as_deref().unwrap_or(list.entries());
     assert_eq!(mesh.mesh().elements(), elements, "owned, code {code}");
-    let bits = |points: &[[f64; 3]]| points.as_flattened().iter().map(|x| x.to_bits()).collect::<Vec<u64>>();
-    assert_eq!(bits(&mesh.points()[..points.len()]), bits(&points), "owned, code {code}");
+    let old = &mesh.points()[..points.len()];
+    assert_eq!(bits(old.as_flattened()), bits(points.as_flattened()), "owned, code {code}");
     assert_eq!(mesh.points().len(), points.len() + got.is_ok() as usize, "owned, code {code}");
     assert_sound(&mesh);
 }
@@ -282,10 +212,10 @@ fn compare_midpoint(host: &mut Host, list: &List, code: u32, ends: (usize, usize
         points[3 * (ends.0 - 1) + i] = x;
         points[3 * (ends.1 - 1) + i] = y;
     }
-    let want = compare_to(host, Subject::new(list, code), code, ENOUGH, &points, |call| call.expected());
-    let point = want.left.point.expect("the edge is split");
+    let want = compare_to(host, Subject::new(Edit::Split, list, code), code, ENOUGH, &points, |call| call.expected());
+    let points = want.left.points.expect("the edge is split");
     // What the machine makes of it, beside what the reference works out in whole numbers.
-    for (midway, (x, y)) in point.into_iter().zip(pairs) {
+    for (&midway, (x, y)) in points[3 * list.n as usize..].iter().zip(pairs) {
         assert!(same_number(midway, (x + y) * 0.5), "the reference, midway between {x:e} and {y:e}");
     }
 }
@@ -306,153 +236,6 @@ fn every_code(host: &mut Host, list: &List) {
     }
 }
 
-/// Past what a buffer holds.
-const PAST: u32 = 7;
-const POINT_PAST: f64 = 0.1;
-
-/// A mesh on its way through a run of edits: as the reference has it, in a mesh that owns its buffers, and in lent buffers
-/// that are longer than they must be until they are full, and then are made longer.
-struct Run {
-    edited: Edited,
-    points: Vec<f64>,
-    owned: OwnedMesh,
-    size: Size,
-    /// the list, V2e, E2e and B2e
-    lent: [Vec<u32>; 4],
-    lent_points: Vec<f64>,
-    work: Vec<u32>,
-}
-
-impl Run {
-    /// Refused as building refuses the list.
-    fn new(list: &List, dice: &mut Dice) -> Result<Run, Refused> {
-        let edited = Edited::new(list.n, list.entries())?;
-        let points = any_points(dice, list.n as usize);
-        let rows: Vec<[f64; 3]> = points.chunks(3).map(|p| [p[0], p[1], p[2]]).collect();
-        let owned = OwnedMesh::with_points(&rows, &list.rows).expect("the list is accepted");
-        let size = Size { n: owned.n(), m: owned.m() };
-        let lent = buffers(&owned).map(|held| held.to_vec());
-        let (lent_points, work) = (points.clone(), vec![PAST; work_length(size.n, list.rows.len())]);
-        Ok(Run { edited, points, owned, size, lent, lent_points, work })
-    }
-
-    fn columns(&self) -> u32 {
-        columns_of(self.edited.list())
-    }
-
-    /// Lent buffers for some edits more.
-    fn lengthen(&mut self, dice: &mut Dice) {
-        let Size { n, m } = self.size;
-        let (n, m) = (n + 1 + dice.below(6), m + 2 + dice.below(9));
-        let [list, v2e, e2e, b2e, work, points] = needed(n, m, self.columns(), n);
-        for (buffer, len) in self.lent.iter_mut().zip([list, v2e, e2e, b2e]) {
-            buffer.resize(len.max(buffer.len()), PAST);
-        }
-        self.work.resize(work.max(self.work.len()), PAST);
-        self.lent_points.resize(points.max(self.lent_points.len()), POINT_PAST);
-    }
-
-    /// What the lent buffers make of a split that the reference takes.
-    fn room_for(&self, appended: u32) -> Result<(), Refused> {
-        let (n, m) = (self.size.n + 1, self.size.m + appended);
-        let [list, v2e, e2e, _, work, points] = needed(n, m, self.columns(), 0);
-        let k = self.edited.borders() + 2 - appended;
-        let lens =
-            [self.lent[0].len(), self.lent[1].len(), self.lent[2].len(), self.work.len(), self.lent_points.len()];
-        if lens.iter().zip([list, v2e, e2e, work, points]).any(|(&len, needed)| len < needed) {
-            return Err(NO_ROOM);
-        }
-        (self.lent[B2E].len() >= k as usize).then_some(()).ok_or((9, k, 0))
-    }
-
-    /// A split in each, and on what it left before, with noise for tables.
-    fn split(&mut self, host: &mut Host, code: u32) -> Result<(), Refused> {
-        let (before, k) = (self.edited.list().to_vec(), self.edited.borders());
-        let edge = self.edited.edge(code);
-        let appended = edge.map_or(2, |edge| edge.appended());
-        let want = match edge {
-            Ok(edge) => {
-                self.split_lent_without_room(host, code, appended);
-                let point = edge.midpoint(&self.points);
-                self.edited.split(edge);
-                edits(self.built_of_copy(), self.size.n + 1, Some(point))
-            }
-            Err(refused) => refused_late(refused),
-        };
-        let subject = Subject { n: self.size.n, list: &before, k, appended };
-        let points = self.points.clone();
-        let want = compare_to(host, subject, code, ENOUGH, &points, |_| want);
-        let owned = self.owned.split(HalfEdge::from_code(code));
-        let [elements, v2e, e2e, b2e] = &mut self.lent;
-        let lent = split(&mut self.size, elements, v2e, e2e, b2e, &mut self.lent_points, &mut self.work, code);
-        host.situation.calls += 2;
-        assert_eq!(owned, lent, "owned and lent, code {code}");
-        assert_eq!(numbers(lent), want.answer, "lent, code {code}");
-        self.points.extend(want.left.point.into_iter().flatten());
-        self.check(code);
-        edge.map(|_| ())
-    }
-
-    /// Where the lent buffers are full, that is said, and they are made longer.
-    fn split_lent_without_room(&mut self, host: &mut Host, code: u32, appended: u32) {
-        let Err(refused) = self.room_for(appended) else { return };
-        let [elements, v2e, e2e, b2e] = &mut self.lent;
-        let lent = split(&mut self.size, elements, v2e, e2e, b2e, &mut self.lent_points, &mut self.work, code);
-        host.situation.calls += 1;
-        assert_eq!(numbers(lent), Err(refused), "lent, code {code}");
-        self.check(code);
-        self.lengthen(&mut host.dice);
-    }
-
-    /// The list, n and its tables as the reference builds them; the map must have led to the same.
-    fn built_of_copy(&self) -> NewList {
-        let tables = reference::tables(self.edited.n(), self.edited.list()).expect("the reference edited");
-        assert_eq!(tables, self.edited.tables(), "the reference's map, in a run of edits");
-        NewList { list: self.edited.list().to_vec(), tables }
-    }
-
-    /// Of the diagonals, without noise.
-    fn swap(&mut self, code: u32) {
-        let answer = self.edited.swap(code);
-        let owned = self.owned.swap(HalfEdge::from_code(code));
-        let [elements, v2e, e2e, b2e] = &mut self.lent;
-        let lent = swap(&mut self.size, elements, v2e, e2e, b2e, &mut self.work, code);
-        assert_eq!(numbers(owned).map(|_| ()), answer, "owned, swap of code {code}");
-        assert_eq!(owned, lent, "owned and lent, swap of code {code}");
-        self.check(code);
-    }
-
-    /// All three have the same.
-    fn check(&self, code: u32) {
-        assert!(self.work.iter().all(|&entry| entry == 0), "the work buffer isn't clean");
-        assert_eq!(self.size, Size { n: self.owned.n(), m: self.owned.m() }, "code {code}");
-        assert_eq!(self.owned.mesh().elements(), self.edited.list(), "owned, code {code}");
-        for (owned, lent) in buffers(&self.owned).into_iter().zip(&self.lent) {
-            assert_eq!(lent[..owned.len()], *owned, "lent and owned, code {code}");
-            assert!(lent[owned.len()..].iter().all(|&entry| entry == PAST), "lent, past what it holds, code {code}");
-        }
-        let owned = self.owned.points().as_flattened();
-        assert_eq!(owned.len(), self.points.len(), "owned, code {code}");
-        for points in [owned, &self.lent_points[..owned.len()]] {
-            assert!(points.iter().zip(&self.points).all(|(&a, &b)| same_number(a, b)), "the points, code {code}");
-        }
-        assert!(self.lent_points[owned.len()..].iter().all(|&x| x == POINT_PAST), "lent points, code {code}");
-    }
-
-    /// Mostly a side, now and then one on the border.
-    fn any_code(&self, dice: &mut Dice) -> u32 {
-        let (m, f, b2e) = (self.size.m, 1 + dice.below(self.size.m), self.owned.mesh().b2e());
-        match dice.below(16) {
-            0 => border(dice.below(self.edited.borders() + 2)),
-            1 => dice.below(8 * (m + 2)),
-            2 => dice.number(),
-            3 => side(f, 4),
-            4 | 5 if !b2e.is_empty() => b2e[dice.below(b2e.len() as u32) as usize],
-            _ => side(f, 1 + dice.below(3)),
-        }
-    }
-}
-
 /// So many edits, each on what the one before left.
 fn run(host: &mut Host, list: &List, steps: u32) {
     let mut run = match Run::new(list, &mut host.dice) {
@@ -468,7 +251,7 @@ fn run(host: &mut Host, list: &List, steps: u32) {
         if host.dice.once_in(4) {
             run.swap(code);
         } else {
-            let _ = run.split(host, code);
+            let _ = run.edit(host, Edit::Split, code);
         }
     }
     assert_sound(&run.owned);
@@ -506,7 +289,7 @@ pub fn large_splits(host: &mut Host) {
 fn most_triangles(host: &mut Host) {
     let List { n, mut rows } = sheet(1000, 500, (true, true), Kinds::Triangles, &mut host.dice);
     let points = vec![1.0; 3 * n as usize];
-    let subject = Subject { n, list: rows.as_flattened(), k: 0, appended: 2 };
+    let subject = Subject { edit: Edit::Split, n, list: rows.as_flattened(), k: 0, triangles: 2 };
     for (code, refused) in
         [(side(MAX_ELEMENTS, 1), NO_ROOM), (side(MAX_ELEMENTS + 1, 1), NOT_THERE), (border(1), NOT_THERE)]
     {
@@ -514,11 +297,13 @@ fn most_triangles(host: &mut Host) {
     }
     rows.pop();
     let mut edited = Edited::of_accepted(n, rows.as_flattened());
-    let subject = Subject { n, list: rows.as_flattened(), k: 3, appended: 1 };
+    let subject = Subject { edit: Edit::Split, n, list: rows.as_flattened(), k: 3, triangles: 1 };
     compare_to(host, subject, side(1, 1), [New(9); 6], &points, |_| refused_late(NO_ROOM));
     let on_border = edited.tables().b2e[0];
     let edge = edited.edge(on_border).expect("a border side can be split");
     edited.split(edge);
     let new = NewList { list: edited.list().to_vec(), tables: edited.tables() };
-    compare_to(host, subject, on_border, ENOUGH, &points, |_| edits(new, n + 1, Some([1.0; 3])));
+    let before = Size { n, m: MAX_ELEMENTS - 1 };
+    let after = vec![1.0; points.len() + 3];
+    compare_to(host, subject, on_border, ENOUGH, &points, |_| edits(before, n + 1, new, Some(after)));
 }

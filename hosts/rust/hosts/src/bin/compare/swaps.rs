@@ -229,7 +229,7 @@ impl Run {
         let before = self.edited.list().to_vec();
         let answer = self.edited.swap(code);
         let want = match answer {
-            Ok(()) => edits(self.built_of_copy(), self.size.n, None),
+            Ok(()) => edits(self.size, self.size.n, self.built_of_copy(), None),
             Err(refused) => refused_late(refused),
         };
         let room = OTHER_ROOM[host.dice.below(LONGER) as usize];
@@ -360,5 +360,6 @@ fn most_triangles(host: &mut Host) {
     }
     assert_eq!(edited.swap(side(last, 1)), Ok(()), "the reference, on {last} triangles");
     let new = NewList { list: edited.list().to_vec(), tables: edited.tables() };
-    compare_to(host, subject, side(last, 1), ENOUGH, |_| edits(new, n, None));
+    let size = Size { n, m: last };
+    compare_to(host, subject, side(last, 1), ENOUGH, |_| edits(size, n, new, None));
 }
