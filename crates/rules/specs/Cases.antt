@@ -1,5 +1,5 @@
 -- Document 01, "Housings to hold up to the rules": "The cases marked P are gathered in a small table, and a single proof shows that the
--- rules above give all its rows". The rows that requests of document 02 bring stand at its end, those of points 6 and 8, with floats in them, in
+-- rules above give all its rows". The rows that requests of document 02 bring stand at its end, those of points 6, 8 and 9 in
 -- tables of their own.
 -- Assumes nothing.
 use mathlib.Core.Bool.{Bool, true, false}
@@ -9,10 +9,10 @@ use Prim.Native.Nat.{ℕ, zero, suc, _+_, _*_, _-_}
 use lib.Count.{trailingZeros}
 use lib.Dec.{T, eqb}
 use lib.Ieee.{Float, binary64, span, climb, size, odd, units, round, sum, add, mul, ofInt, ofFields, ofBits, toBits}
-use lib.IntN.{pos}
+use lib.IntN.{ℤ, pos, negℤ}
 use lib.ListN.{length, take, drop, replicate}
 use Rattle.lists.specs.Tests.{both, same, has}
-use Rattle.lists.specs.Search.{least, count, upto, tab, zeros}
+use Rattle.lists.specs.Search.{least, count, upto, tab, zeros, total}
 use Rattle.rules.specs.Elements.{elements, sidesBy, isSide, slot, origin, nextNumber, previousNumber, next, previous, sideAt, firstSide, countSides, firstNumber}
 use Rattle.rules.specs.Pairing.{alike, opposed, joins, callSizes, sizesFit, unfitCorner, repeatedCorner, rowsFit, isCorner, sharedCorners, shareSide, meetWell}
 use Rattle.rules.specs.Tables.{partner, isBorder, b2e, borderNumber, borders, columns, codeAt, e2eSlot, e2eEntry, e2e, entryOf, wide, borderInto, v2eEntry, v2e, edges}
@@ -33,6 +33,7 @@ use Rattle.rules.specs.Split.{withCorner, halved, splitAt, isSplittable,
 use Rattle.rules.specs.Contract.{withoutRow, withoutBoth, withoutEdge, instead, renamed, merged}
 use Rattle.rules.specs.Contract.{contracted, isNeighbour, isThird, pinches, isUsed, strands, contract}
 use Rattle.rules.specs.Contract.{contractAnswer, contractLeaves, pointOf, withoutPoint, contractPoints}
+use Rattle.rules.specs.Shape.{lowerNeighbours, joinedPairs, shape, complement, signed, shapeLengths, shapeAnswer, shapeWork}
 
 -- an element's row, or a row of E2e, in three columns or in four; lists are rows joined by ++
 unfoldable pub three : ℕ → ℕ → ℕ → List ℕ
@@ -152,6 +153,9 @@ pub data Case : Type 0 where
   contractIs : ℕ → List ℕ → ℕ → ℕ → ℕ → ℕ → List ℕ → List ℕ → Case
   -- as splitRefused
   contractRefused : ℕ → ℕ → List ℕ → ℕ → ℕ → ℕ → ℕ → ℕ → ℕ → Answer → List ℕ → Case
+  -- the number of the shape; and with a work buffer of this length the query's answer, and what it leaves of the work
+  shapeIs : ℕ → List ℕ → ℤ → Case
+  shapeAsked : ℕ → List ℕ → ℕ → Answer → List ℕ → Case
 
 unfoldable pub sameAnswer : Answer → Answer → Bool
 sameAnswer (gives a b) (gives c d) = both (eqb a c) (eqb b d)
@@ -277,6 +281,9 @@ holds (contractRefused n m L v e b points work s a work′) =
     let P = counted points in
     both (sameAnswer (contractAnswer w P s) a)
     (both (sameLent (contractLeaves w P s) w work′) (same (bits (contractPoints w P s)) (bits P)))
+holds (shapeIs n L z) = eqb (complement (shape n L)) (complement z)
+holds (shapeAsked n L long a work′) =
+    let work : List ℕ = replicate long 1 in both (sameAnswer (shapeAnswer n L work) a) (same (shapeWork n L work) work′)
 
 unfoldable pub every : (Case → Bool) → List Case → Bool
 every p [] = true
@@ -577,6 +584,45 @@ contractions =
     contractRefused 1_000_001 2 [] 4 6 4 0 36 9 (refused 1 0 0) (replicate 36 1) ∷
     []
 
+-- a tube bent into a ring, in the fewest triangles, and with an opening where its last vertex was
+unfoldable pub pierced : List ℕ
+pierced = tri 1 2 4 ++ tri 1 4 3 ++ tri 2 3 5 ++ tri 2 5 4 ++ tri 3 4 6 ++ tri 3 6 5 ++ tri 5 6 1 ++ tri 6 2 1
+
+unfoldable pub torus : List ℕ
+torus = pierced ++ (tri 4 5 7 ++ tri 4 7 6 ++ tri 5 1 7 ++ tri 6 7 2 ++ tri 7 1 3 ++ tri 7 3 2)
+
+-- those of point 9
+unfoldable pub shapes : List Case
+shapes =
+    -- document 02, point 9: "vertices − edges + elements, spare vertices counted. It may be negative or zero": nothing, and one vertex; closed
+    -- housings, with a spare vertex too; plates; two plates apart; a band; the ring, and with its opening
+    shapeIs 0 [] (pos 0) ∷
+    shapeIs 1 [] (pos 1) ∷
+    shapeIs 4 tetrahedron (pos 2) ∷
+    shapeIs 5 tetrahedron (pos 3) ∷
+    shapeIs 4 listing (pos 1) ∷
+    shapeIs 5 mixed (pos 1) ∷
+    shapeIs 6 apart (pos 2) ∷
+    shapeIs 6 band (pos 0) ∷
+    shapeIs 7 torus (pos 0) ∷
+    shapeIs 6 pierced (negℤ (pos 1)) ∷
+    -- "distinct joined vertex pairs": three sides on one pair, two that run alike, a diagonal on none
+    shapeIs 5 (tri 1 2 3 ++ tri 2 1 4 ++ tri 1 2 5) (pos 1) ∷
+    shapeIs 4 (tri 1 2 3 ++ tri 1 2 4) (pos 1) ∷
+    shapeIs 6 diagonal (pos 1) ∷
+    -- the query, in a work buffer of just the length that is needed, and a longer one
+    shapeAsked 4 listing 36 (gives 0 1) (blank 36) ∷
+    shapeAsked 5 listing 39 (gives 0 2) (blank 39) ∷
+    shapeAsked 6 pierced 134 (gives 268_435_455 268_435_455) (blank 134) ∷
+    -- it "refuses as build does but for 9"; check 2 asks for the work buffer alone
+    shapeAsked 4 (tri 1 2 3 ++ tri 1 2 4) 36 (refused 7 1 1) (blank 36) ∷
+    shapeAsked 5 (tri 1 2 3 ++ tri 1 4 5) 37 (refused 8 1 0) (blank 37) ∷
+    shapeAsked 4 threeCorners 36 (refused 18 1 2) (blank 36) ∷
+    shapeAsked 2 (tri 1 2 3) 17 (refused 2 0 0) (replicate 17 1) ∷
+    shapeAsked 3 (1 ∷ 2 ∷ 3 ∷ []) 2 (refused 1 0 0) (1 ∷ 1 ∷ []) ∷
+    shapeAsked 1_000_001 [] 3 (refused 1 0 0) (1 ∷ 1 ∷ 1 ∷ []) ∷
+    []
+
 -- the rules give every row of the table
 pub cases-hold : T (every holds cases)
 unfolding three quad tri blank room left built sameAnswer gave holds every listing listingE2e tetrahedron mixed triangles
@@ -618,3 +664,11 @@ unfolding three quad tri blank room left sameAnswer sameEdited holds every listi
     withoutRow withoutBoth withoutEdge instead renamed merged contracted isNeighbour isThird pinches isUsed strands contract pointOf withoutPoint contractPoints
     ofInt ofBits ofFields toBits round size span climb units odd trailingZeros sum add mul
 contractions-hold = tt
+
+pub shapes-hold : T (every holds shapes)
+unfolding quad tri blank sameAnswer holds every listing tetrahedron mixed diagonal threeCorners apart band pierced torus shapes least count upto tab zeros
+    total same sidesBy isSide slot origin nextNumber next sideAt firstSide countSides firstNumber alike opposed joins callSizes sizesFit unfitCorner
+    repeatedCorner isCorner sharedCorners shareSide meetWell partner isBorder b2e borderNumber borders e2eEntry wide borderInto v2eEntry v2e edges
+    sideOfBorder walkStart turnBy trace walkTo walk crowdedSide alikeSide missed unorderedVertex clashOf clashing checkFound listAnswer lengthChecks
+    workAfter onceAccepted isNeighbour lowerNeighbours joinedPairs shape complement signed shapeLengths shapeAnswer shapeWork
+shapes-hold = tt

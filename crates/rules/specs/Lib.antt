@@ -10,4 +10,5 @@ pub mod Edits
 pub mod Swap
 pub mod Split
 pub mod Contract
+pub mod Shape
 pub mod Cases
