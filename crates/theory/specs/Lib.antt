@@ -63,6 +63,7 @@ pub mod Built
 pub mod Rims
 pub mod ContractBorders
 pub mod ContractCounts
+pub mod Joined
 pub mod Shaping
 pub mod Rings
 pub mod Opposites

@@ -1,4 +1,4 @@
--- The number of a shape, document 02, point 9, as one difference of two sums.
+-- The number of a shape, document 02, point 9, as one difference of two sums: of an accepted list it is known by n, m and the number of edges.
 -- Assumes nothing.
 use mathlib.Core.Path.{_≡_, refl, ap, sym, _∙_}
 use mathlib.Core.Bool.{cond}
@@ -11,7 +11,12 @@ use lib.IntN.{ℤ, pos, negsuc, negℤ, subℕ, _+ℤ_, _-ℤ_, +ℤ-assoc, +ℤ
 use Rattle.lists.specs.TestLaws.{true-of, false-of, means-lt, means-not}
 use Rattle.lists.specs.SearchLaws.{le-or-lt}
 use Rattle.rules.specs.Elements.{elements}
+use Rattle.rules.specs.Pairing.{Accepted}
+use Rattle.rules.specs.Tables.{edges}
 use Rattle.rules.specs.Shape.{joinedPairs, shape}
+use Rattle.theory.specs.Orders.{good}
+use Rattle.theory.specs.Joined.{pairs-are-edges}
+use Rattle.theory.specs.SplitCounts.{Grown}
 
 -- a − b, where it isn't negative and where it is
 pub sub-up : (a b : ℕ) → b ≤ a → subℕ a b ≡ pos (a - b)
@@ -49,3 +54,17 @@ shape-by n L =
     ∙ ap (λ (x : ℤ). p +ℤ x) (+ℤ-comm q r)
     ∙ sym (+ℤ-assoc p r q)
     ∙ minus (n + elements L) (joinedPairs n L)
+
+pub shape-counted : (n : ℕ) (L : List ℕ) → Accepted n L → shape n L ≡ subℕ (n + elements L) (edges L)
+shape-counted n L x = shape-by n L ∙ ap (subℕ (n + elements L)) (pairs-are-edges n L (good n L x))
+
+module _ (n : ℕ) (L : List ℕ) (n′ : ℕ) (L′ : List ℕ) (old : Accepted n L) (new : Accepted n′ L′) where
+  pub same-shape : n′ + elements L′ + edges L ≡ n + elements L + edges L′ → shape n′ L′ ≡ shape n L
+  same-shape e =
+      shape-counted n′ L′ new
+      ∙ sub-same (n′ + elements L′) (edges L′) (n + elements L) (edges L) e
+      ∙ sym (shape-counted n L old)
+
+  -- a vertex more, and as many edges more as vertices and elements together
+  pub grown-shape : {m k e : ℕ} → n′ ≡ n + 1 → Grown L L′ m k e → e ≡ m + 1 → shape n′ L′ ≡ shape n L
+  grown-shape v x h = same-shape (omega (arith, x .elements-by, x .edges-by))
