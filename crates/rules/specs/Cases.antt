@@ -153,8 +153,10 @@ pub data Case : Type 0 where
   contractIs : ℕ → List ℕ → ℕ → ℕ → ℕ → ℕ → List ℕ → List ℕ → Case
   -- as splitRefused
   contractRefused : ℕ → ℕ → List ℕ → ℕ → ℕ → ℕ → ℕ → ℕ → ℕ → Answer → List ℕ → Case
-  -- the number of the shape; and with a work buffer of this length the query's answer, and what it leaves of the work
+  -- the number of the shape; a signed number as an answer; and with a work buffer of this length the query's answer, and what it leaves of the
+  -- work
   shapeIs : ℕ → List ℕ → ℤ → Case
+  signedIs : ℤ → Answer → Case
   shapeAsked : ℕ → List ℕ → ℕ → Answer → List ℕ → Case
 
 unfoldable pub sameAnswer : Answer → Answer → Bool
@@ -282,6 +284,7 @@ holds (contractRefused n m L v e b points work s a work′) =
     both (sameAnswer (contractAnswer w P s) a)
     (both (sameLent (contractLeaves w P s) w work′) (same (bits (contractPoints w P s)) (bits P)))
 holds (shapeIs n L z) = eqb (complement (shape n L)) (complement z)
+holds (signedIs z a) = sameAnswer (signed z) a
 holds (shapeAsked n L long a work′) =
     let work : List ℕ = replicate long 1 in both (sameAnswer (shapeAnswer n L work) a) (same (shapeWork n L work) work′)
 
@@ -610,10 +613,14 @@ shapes =
     shapeIs 5 (tri 1 2 3 ++ tri 2 1 4 ++ tri 1 2 5) (pos 1) ∷
     shapeIs 4 (tri 1 2 3 ++ tri 1 2 4) (pos 1) ∷
     shapeIs 6 diagonal (pos 1) ∷
+    -- "signed", in 56 bits: the least numbers on either side of 0, and one beyond 28 bits
+    signedIs (pos 0) (gives 0 0) ∷
+    signedIs (negℤ (pos 1)) (gives 268_435_455 268_435_455) ∷
+    signedIs (negℤ (pos 2)) (gives 268_435_455 268_435_454) ∷
+    signedIs (negℤ (pos 268_435_457)) (gives 268_435_454 268_435_455) ∷
     -- the query, in a work buffer of just the length that is needed, and a longer one
     shapeAsked 4 listing 36 (gives 0 1) (blank 36) ∷
     shapeAsked 5 listing 39 (gives 0 2) (blank 39) ∷
-    shapeAsked 6 pierced 134 (gives 268_435_455 268_435_455) (blank 134) ∷
     -- it "refuses as build does but for 9"; check 2 asks for the work buffer alone
     shapeAsked 4 (tri 1 2 3 ++ tri 1 2 4) 36 (refused 7 1 1) (blank 36) ∷
     shapeAsked 5 (tri 1 2 3 ++ tri 1 4 5) 37 (refused 8 1 0) (blank 37) ∷

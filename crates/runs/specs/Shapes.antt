@@ -104,42 +104,51 @@ swap-keeps w s a w′ run k e gave =
     (same-shape (w .n) (held w) (w .n) (swapped (held w) s) (y .old) (y .new) (omega (arith, sized, edged)))
 
 -- a split makes a vertex more, with two elements and three edges, or with one element and two edges
+split-same : (w : Lent) (P : List Float) (s : ℕ) (a : Answer) (w′ : Lent) (P′ : List Float) → SplitRun w P s a w′ P′ → {k e : ℕ} → a ≡ gives k e
+    → shape (w .n + 1) (splitAt (held w) s (w .n + 1)) ≡ shape (w .n) (held w)
+split-same w P s a w′ P′ run gave =
+    let y = splits.answered w P s a w′ P′ run .0 gave in
+    let g = good (w .n) (held w) (y .old) in
+    let h = y .holds in
+    let new = splits.accepted w P s a w′ P′ run gave in
+    elim (decide (means-eq (partner (held w) s) 0)) [
+      | inl z ↦
+          grown-shape (w .n) (held w) (w .n + 1) _ (y .old) new refl
+          (grown-border (w .n) (held w) g (y .old .meeting) s (y .splittable) (h .vertices) (h .size) z) refl
+      | inr z ↦
+          grown-shape (w .n) (held w) (w .n + 1) _ (y .old) new refl
+          (grown-inner (w .n) (held w) g (y .old .meeting) s (y .splittable) (h .vertices) (h .size) z) refl
+    ]
+
 split-keeps : (w : Lent) (P : List Float) (s : ℕ) (a : Answer) (w′ : Lent) (P′ : List Float) → SplitRun w P s a w′ P′
     → (k e : ℕ) → a ≡ gives k e → Keeps (housing w) (housing w′)
 split-keeps w P s a w′ P′ run k e gave =
-    let y = splits.answered w P s a w′ P′ run .0 gave in
-    let new = splits.accepted w P s a w′ P′ run gave in
-    let g = good (w .n) (held w) (y .old) in
-    lands w w′ (splits.one-more w P s a w′ P′ run gave) (splits.list-left w P s a w′ P′ run gave) new
-    (elim (decide (means-eq (partner (held w) s) 0)) [
-      | inl z ↦
-          grown-shape (w .n) (held w) (w .n + 1) (splitAt (held w) s (w .n + 1)) (y .old) new refl
-          (grown-border (w .n) (held w) g (y .old .meeting) s (y .splittable) (y .holds .vertices) (y .holds .size) z) refl
-      | inr z ↦
-          grown-shape (w .n) (held w) (w .n + 1) (splitAt (held w) s (w .n + 1)) (y .old) new refl
-          (grown-inner (w .n) (held w) g (y .old .meeting) s (y .splittable) (y .holds .vertices) (y .holds .size) z) refl
-    ])
+    lands w w′ (splits.one-more w P s a w′ P′ run gave) (splits.list-left w P s a w′ P′ run gave) (splits.accepted w P s a w′ P′ run gave)
+    (split-same w P s a w′ P′ run gave)
 
 -- a contraction takes as much away
-contract-keeps : (w : Lent) (P : List Float) (s : ℕ) (a : Answer) (w′ : Lent) (P′ : List Float) → ContractRun w P s a w′ P′
-    → (k e : ℕ) → a ≡ gives k e → Keeps (housing w) (housing w′)
-contract-keeps w P s a w′ P′ run k e gave =
+contract-same : (w : Lent) (P : List Float) (s : ℕ) (a : Answer) (w′ : Lent) (P′ : List Float) → ContractRun w P s a w′ P′ → {k e : ℕ} → a ≡ gives k e
+    → shape (w .n) (held w) ≡ shape (w .n - 1) (contracted (w .n) (held w) s)
+contract-same w P s a w′ P′ run gave =
     let y = contractions.answered w P s a w′ P′ run .0 gave in
     let fit = good (w .n) (held w) (y .old) .fit in
     let free = unpinched (w .n) (held w) fit s (y .free) in
     let kept = keeps-used (w .n) (held w) fit s (y .kept) in
-    let fewer = contractions.vertices-fall w P s a w′ P′ run gave in
-    let one : w .n ≡ w .n - 1 + 1 = omega (arith, fewer) in
-    lands w w′ (omega (arith, fewer)) (contractions.list-left w P s a w′ P′ run gave) (y .new)
-    (sym
-    (elim (decide (means-eq (partner (held w) s) 0)) [
+    let one : w .n ≡ w .n - 1 + 1 = omega (arith, contractions.vertices-fall w P s a w′ P′ run gave) in
+    elim (decide (means-eq (partner (held w) s) 0)) [
       | inl z ↦
-          grown-shape (w .n - 1) (contracted (w .n) (held w) s) (w .n) (held w) (y .new) (y .old) one
+          grown-shape (w .n - 1) _ (w .n) (held w) (y .new) (y .old) one
           (fallen-border (w .n) (held w) (y .old) s (y .splittable) free kept z) refl
       | inr z ↦
-          grown-shape (w .n - 1) (contracted (w .n) (held w) s) (w .n) (held w) (y .new) (y .old) one
+          grown-shape (w .n - 1) _ (w .n) (held w) (y .new) (y .old) one
           (fallen-inner (w .n) (held w) (y .old) s (y .splittable) free kept z) refl
-    ]))
+    ]
+
+contract-keeps : (w : Lent) (P : List Float) (s : ℕ) (a : Answer) (w′ : Lent) (P′ : List Float) → ContractRun w P s a w′ P′
+    → (k e : ℕ) → a ≡ gives k e → Keeps (housing w) (housing w′)
+contract-keeps w P s a w′ P′ run k e gave =
+    lands w w′ (omega (arith, contractions.vertices-fall w P s a w′ P′ run gave)) (contractions.list-left w P s a w′ P′ run gave)
+    (contractions.accepted w P s a w′ P′ run gave) (sym (contract-same w P s a w′ P′ run gave))
 
 call-keeps : (w : Lent) (a : Answer) (w′ : Lent) → Call w a w′ → Keeps (housing w) (housing w′)
 call-keeps w a w′ (swapping s run) = edit-keeps _ w a w′ run (swap-keeps w s a w′ run)
