@@ -147,7 +147,8 @@ static inline uint32_t borzhanu_second(uint64_t returned) {
     return (uint32_t)returned & 0xFFFFFFFu;
 }
 
-/* The signed number that borzhanu_shape answers: the 56 bits below the refusal, in two's complement. */
+/* The signed number that borzhanu_shape answers, where it does: the 56 bits below the refusal, in two's
+   complement. */
 static inline int64_t borzhanu_signed(uint64_t returned) {
     int64_t low = (int64_t)(returned & 0xFFFFFFFFFFFFFFu);
     return low < 0x80000000000000 ? low : low - 0x100000000000000;
@@ -528,8 +529,9 @@ uint64_t borzhanu_contract(uint32_t size[2],
  *
  *     2 * pieces - openings - 2 * handles + spare vertices
  *
- * and tells, as in hosts/examples/shape.c, what an imported housing has that isn't drawn. Swaps, splits and
- * contractions never change it, however many there are.
+ * Another number than the drawing's shows that something is wrong. The same number doesn't show that nothing
+ * is: a missing plate and a spare vertex cancel. hosts/examples/shape.c compares openings, handles and spare
+ * vertices too. Swaps, splits and contractions never change the number, however many there are.
  *
  * No tables are needed. It refuses as building does but for 9: 1; 2 where work is too short, and for no other
  * length; 3, 4, 6 to 8 and 18, with the places that building names. What work holds before doesn't matter.

@@ -59,7 +59,9 @@ static void add_face(struct list *list, const struct solid *solid, const uint32_
 
 static void add_faces(struct list *list, const struct solid *solid, const uint32_t cell[AXES], enum kinds kinds,
                       struct dice *dice) {
-    for (int side = 0; is_filled(solid, cell) && side < 2 * AXES; side++) {
+    if (!is_filled(solid, cell))
+        return;
+    for (int side = 0; side < 2 * AXES; side++) {
         uint32_t beside[AXES] = {cell[0], cell[1], cell[2]}, far = (uint32_t)side % 2;
         beside[side / 2] += far ? 1 : UINT32_MAX;
         if (!is_filled(solid, beside))

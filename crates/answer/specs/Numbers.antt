@@ -36,8 +36,11 @@ unpacked x =
     elim (eqb (refusalIn x) 0)
     [ true ↦ gives (firstIn x) (secondIn x) | false ↦ refused (refusalIn x) (firstIn x) (secondIn x) ]
 
--- the formula of borzhanu_signed: bits 0 to 55 as a signed number in two's complement
+-- the formula of borzhanu_signed: bits 0 to 55 as a signed number in two's complement, negative where bit 55 is set
+abbrev pub signBit : ℕ
+signBit = 36_028_797_018_963_968
+
 abbrev pub signedIn : ℕ → ℤ
 signedIn x =
     let low = x % 72_057_594_037_927_936 in
-    elim (ltb low 36_028_797_018_963_968) [ true ↦ pos low | false ↦ negsuc (72_057_594_037_927_935 - low) ]
+    elim (ltb low signBit) [ true ↦ pos low | false ↦ negsuc (72_057_594_037_927_935 - low) ]

@@ -12,3 +12,4 @@ pub mod Split
 pub mod Contract
 pub mod Shape
 pub mod Cases
+pub mod EditCases

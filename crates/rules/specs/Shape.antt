@@ -25,22 +25,25 @@ joinedPairs n L = total (tab n (λ i. lowerNeighbours L (i + 1)))
 unfoldable pub shape : ℕ → List ℕ → ℤ
 shape n L = pos n -ℤ pos (joinedPairs n L) +ℤ pos (elements L)
 
--- a signed number in an answer's two numbers, 28 bits each: in two's complement in 56 bits, where −1 is 2^56 − 1
+-- a signed number in two's complement in 56 bits, where −1 is 2^56 − 1; `negsuc x` is −(x + 1)
 unfoldable pub complement : ℤ → ℕ
 complement (pos x) = x
 complement (negsuc x) = 72_057_594_037_927_935 - x
 
+-- and as an answer: the upper 28 bits are its first number, the lower 28 its second
 unfoldable pub signed : ℤ → Answer
 signed z = gives (complement z / 268_435_456) (complement z % 268_435_456)
 
--- check 2 of a call that "takes n, element list and work buffer"
+-- check 2 of a query that "takes n, element list and work buffer", the latter "at least n + 16 × m"
 unfoldable pub shapeLengths : ℕ → List ℕ → List ℕ → Bool
 shapeLengths n L work = leb (n + 16 * elements L) (length work)
 
--- it "refuses as build does but for 9"
+-- it "refuses as build does but for 9": what is said of the list, and of the call
+unfoldable pub listShape : ℕ → List ℕ → Answer
+listShape n L = onceAccepted (listAnswer n L) (signed (shape n L))
+
 unfoldable pub shapeAnswer : ℕ → List ℕ → List ℕ → Answer
-shapeAnswer n L work =
-    lengthChecks (sizesFit n L) (shapeLengths n L work) (onceAccepted (listAnswer n L) (signed (shape n L)))
+shapeAnswer n L work = lengthChecks (sizesFit n L) (shapeLengths n L work) (listShape n L)
 
 -- what it leaves in the work buffer, the only one that it writes
 unfoldable pub shapeWork : ℕ → List ℕ → List ℕ → List ℕ

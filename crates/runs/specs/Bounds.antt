@@ -9,13 +9,12 @@ use Prim.Native.Nat.{ℕ, zero, suc, _+_, _*_, _/_, _%_, _≤_, _<_}
 use native.Mathlib.Omega.{arith}
 use lib.Dec.{T, leb, eqb}
 use lib.IntN.{ℤ, pos, negsuc}
-use lib.Signed.{mag}
 use lib.Ieee.{Float}
 use lib.ListN.{length}
 use Rattle.lists.specs.Tests.{both, within}
 use Rattle.lists.specs.TestLaws.{passes, Test, pass, fail, test, means-itself, means-both, means-either, means-eq, means-le, means-within}
 use Rattle.lists.specs.SearchLaws.{le-or-lt, count-bound}
-use Rattle.rules.specs.Elements.{maxVertex, maxElement, elements, element, number, sides, isSide, Side, next, sideWith, firstSide, countSides}
+use Rattle.rules.specs.Elements.{maxVertex, maxElement, elements, element, number, sides, isSide, Side, next, firstSide}
 use Rattle.rules.specs.Elements.{firstNumber}
 use Rattle.rules.specs.Pairing.{Accepted, callSizes, sizesFit, unfitCorner, repeatedCorner, rowsFit}
 use Rattle.rules.specs.Tables.{borders, columns, edges}
@@ -26,7 +25,7 @@ use Rattle.rules.specs.Edits.{Edited, becomes, refuses, Lent, held, onceAccepte
 use Rattle.rules.specs.Swap.{swapped, swap, swapAnswer}
 use Rattle.rules.specs.Split.{hasPoints, split, splitAnswer}
 use Rattle.rules.specs.Contract.{contract, contractAnswer}
-use Rattle.rules.specs.Shape.{shape, complement, signed, shapeAnswer}
+use Rattle.rules.specs.Shape.{shape, complement, signed, listShape, shapeAnswer}
 use Rattle.rules.specs.Holes.{HoleBuffers, leastOf, holesUpTo, holeCount, holesFound, holesFit, holesAnswer}
 use Rattle.rules.specs.Queries.{Mesh, columnsAnswer, queryLengths, asked, defined, found, listed, andThen, prepend, readAll, read, bySide, byEntry, follow, over, isBorderCode, isHalfEdge, isEntry}
 use Rattle.rules.specs.Queries.{isVertex, readOpposite, readBorderSide, readVertexEntry, readOrigin, readDestination, opposite, borderNext, startSide}
@@ -38,11 +37,11 @@ use Rattle.theory.specs.Least.{First, nobody, somebody, first-side, FirstNumber
 use Rattle.theory.specs.Steps.{NextNumber, wraps, grows, next-number, previous-side}
 use Rattle.theory.specs.FitRows.{means-sizes}
 use Rattle.theory.specs.Columns.{three-or-four}
-use Rattle.theory.specs.Built.{borders-bound}
+use Rattle.theory.specs.Built.{borders-bound, edges-bound}
 use Rattle.theory.specs.Shaping.{sub-up, sub-down, shape-counted}
 use Rattle.theory.specs.SplitTests as split-tests
 use Rattle.theory.specs.ContractTests as contract-tests
-use Rattle.answer.specs.Packing.{Fits}
+use Rattle.answer.specs.Packing.{Fits, HasRoom}
 use Rattle.swap.specs.Swaps.{refuses-by, becomes-swapped}
 use Rattle.runs.specs.Runs.{walked-answers}
 use Rattle.runs.specs.Demand3.{list-counted}
@@ -103,11 +102,7 @@ module _ (n : ℕ) (L : List ℕ) (z : Sized n L) where
   numbered k h t = number-small k t h (first-number k t)
 
   counts-fit : Fits (gives (borders L) (edges L))
-  unfolding edges countSides
-  counts-fit = (
-    omega (arith, borders-bound L),
-    omega (arith, borders-bound L, count-bound (sideWith L (λ s. true)) (length L)),
-  )
+  counts-fit = (omega (arith, borders-bound L), omega (arith, edges-bound L))
 
   rows-fit : (rest : Answer) → Fits rest → Fits (rowChecks n L rest)
   unfolding unfitCorner repeatedCorner
@@ -184,27 +179,24 @@ contract-fits w P s =
     becomes-sized : Accepted (w .n) (held w) → (n′ : ℕ) (L′ : List ℕ) → contract (w .n) (held w) s ≡ becomes n′ L′ → Sized n′ L′
     becomes-sized old n′ L′ e = means-sizes n′ L′ .says (contract-sizes (w .n) (held w) s old e)
 
--- the number of a shape, which has far fewer than 55 bits
-abbrev Few : ℤ → Type 0
-Few z = mag z < 36_028_797_018_963_968
-
-pub shape-small : (n : ℕ) (L : List ℕ) → Accepted n L → mag (shape n L) < 36_028_797_018_963_968
+-- the number of a shape
+pub shape-small : (n : ℕ) (L : List ℕ) → Accepted n L → HasRoom (shape n L)
 unfolding rowsFit
 shape-small n L x =
     let z = means-sizes n L .says (passes (sizesFit n L) _ (x .rows) .0) in
     let (few, edged) = counts-fit n L z in
     elim (le-or-lt (edges L) (n + elements L)) [
-      | inl h ↦ subst Few (sym (shape-counted n L x ∙ sub-up (n + elements L) (edges L) h)) (omega arith)
-      | inr h ↦ subst Few (sym (shape-counted n L x ∙ sub-down (n + elements L) (edges L) h)) (omega arith)
+      | inl h ↦ subst HasRoom (sym (shape-counted n L x ∙ sub-up (n + elements L) (edges L) h)) (omega arith)
+      | inr h ↦ subst HasRoom (sym (shape-counted n L x ∙ sub-down (n + elements L) (edges L) h)) (omega arith)
     ]
 
-signed-fits : (z : ℤ) → Few z → Fits (signed z)
+signed-fits : (z : ℤ) → HasRoom z → Fits (signed z)
 unfolding complement signed
 signed-fits (pos x) h = omega arith
 signed-fits (negsuc x) h = omega arith
 
 pub shape-fits : (n : ℕ) (L work : List ℕ) → Fits (shapeAnswer n L work)
-unfolding shapeAnswer
+unfolding shapeAnswer listShape
 shape-fits n L work =
     lengths-fit (sizesFit n L) _ _
     (λ s l.

@@ -1,4 +1,4 @@
--- What each exported call returns, taken apart by the header's three formulas, is the rule's answer. `Post` is the call's own contract.
+-- What each exported call returns, taken apart by the header's formulas, is the rule's answer. `Post` is the call's own contract.
 -- Assumes nothing.
 use mathlib.Core.Path.{_≡_, refl, ap, _∙_}
 use contract.Lifetimes.{Lfts}

@@ -2,31 +2,24 @@
 -- Assumes nothing.
 use mathlib.Core.Path.{_≡_, ap, sym, _∙_}
 use mathlib.Core.Bool.{true, false}
-use mathlib.Core.List.{List, _++_}
+use mathlib.Core.List.{List}
 use Prim.Native.Nat.{ℕ, suc, _+_, _*_, _-_, _/_, _%_, _≤_, _<_}
 use native.Mathlib.Omega.{arith}
-use lib.Dec.{T}
 use lib.IntN.{subℕ}
-use lib.ListN.{length, take, drop, replicate, length-take, length-append, length-drop}
+use lib.ListN.{length, replicate}
 use Rattle.lists.specs.TestLaws.{true-of, false-of, means-not, means-le, passed}
-use Rattle.lists.specs.SearchLaws.{count-bound}
-use Rattle.rules.specs.Elements.{elements, sideWith, countSides}
+use Rattle.rules.specs.Elements.{elements}
 use Rattle.rules.specs.Pairing.{Accepted, sizesFit}
 use Rattle.rules.specs.Tables.{edges}
 use Rattle.rules.specs.Refusals.{Answer, gives, refused, listAnswer}
 use Rattle.rules.specs.Edits.{onceAccepted}
-use Rattle.rules.specs.Shape.{shape, complement, signed, shapeLengths, shapeAnswer, shapeWork}
+use Rattle.rules.specs.Shape.{shape, complement, signed, shapeLengths, listShape, shapeAnswer, shapeWork}
 use Rattle.theory.specs.FitRows.{means-sizes}
 use Rattle.theory.specs.Answers.{accepted-answer, given-accepted}
 use Rattle.theory.specs.Calls as calls
-use Rattle.theory.specs.Built.{borders-bound}
+use Rattle.theory.specs.Built.{edges-bound}
 use Rattle.theory.specs.Shaping.{sub-up, sub-down, shape-counted}
-use Rattle.tabulate.specs.Results.{Sized, Tabulated}
-
--- checks 1 and 2 found nothing
-pub record Checked (n : ℕ) (L work : List ℕ) : Type 0 where
-  pub sizes : T (sizesFit n L)
-  pub room : n + 16 * elements L ≤ length work
+use Rattle.tabulate.specs.Results.{Roomy}
 
 -- a difference of two numbers of 28 bits, in two's complement: its upper half is 0, or all ones
 pub not-negative : (more less : ℕ) → more < 268_435_456 → less ≤ more → gives 0 (more - less) ≡ signed (subℕ more less)
@@ -45,33 +38,14 @@ negative more less h k =
     let low : x % 268_435_456 ≡ 268_435_456 - (less - more) = omega arith in
     sym (ap signed (sub-down more less k) ∙ rw (high, low))
 
--- the front of the work buffer, which checks 3 to 8 and 18 use; n as an index is a
-module _ {n : ℕ} {L work : List ℕ} (x : Checked n L work) {a : ℕ} (index : a ≡ n) where
-  pub front-fits : a + 12 * elements L ≤ length work
-  front-fits = omega (arith, x .room)
-
-  front-long : length (take (a + 12 * elements L - 0) work) ≡ n + 12 * elements L
-  front-long = simp length-take (omega (arith, x .room))
-
-  pub sized : Sized n L (take (a + 12 * elements L - 0) work)
-  sized = record { sizes = x .sizes; long = front-long }
-
-  -- the rest of the work stands behind it again
-  pub as-long : {stated t : Answer} {w : List ℕ} → Tabulated n L stated t (take (a + 12 * elements L - 0) work) w →
-      length (w ++ drop (a + 12 * elements L - 0) work) ≡ length work
-  as-long y = simp (length-append, length-drop) (omega (arith, y .long ∙ front-long, x .room))
-
--- what is answered where the lengths are fit
-abbrev pub fitAnswer : ℕ → List ℕ → Answer
-fitAnswer n L = onceAccepted (listAnswer n L) (signed (shape n L))
-
 -- t is what checks 3 to 8 and 18 say
-module _ {n : ℕ} {L work : List ℕ} (x : Checked n L work) {t : Answer} (stated : t ≡ listAnswer n L) where
-  told : {b : Answer} → t ≡ b → onceAccepted b (signed (shape n L)) ≡ fitAnswer n L
+module _ {n : ℕ} {L work : List ℕ} (x : Roomy n L work) {t : Answer} (stated : t ≡ listAnswer n L) where
+  told : {b : Answer} → t ≡ b → onceAccepted b (signed (shape n L)) ≡ listShape n L
+  unfolding listShape
   told e = ap (λ (b : Answer). onceAccepted b (signed (shape n L))) (sym e ∙ stated)
 
-  pub refuses : {r p q : ℕ} → t ≡ refused r p q → t ≡ fitAnswer n L
-  unfolding onceAccepted
+  pub refuses : {r p q : ℕ} → t ≡ refused r p q → t ≡ listShape n L
+  unfolding listShape onceAccepted
   refuses e = e ∙ told e
 
   -- e is the number of edges
@@ -82,18 +56,14 @@ module _ {n : ℕ} {L work : List ℕ} (x : Checked n L work) {t : Answer} (stat
     counted : e ≡ edges L
     counted = let same = sym g ∙ stated ∙ accepted-answer n L (accepted .rows) accepted in cc
 
-    few-edges : edges L ≤ length L
-    unfolding edges countSides
-    few-edges = omega (arith, borders-bound L, count-bound (sideWith L (λ s. true)) (length L))
-
     pub small : (n + elements L < 268_435_456) × (e < 268_435_456)
     small =
         let (vertices, (size, fours)) = means-sizes n L .says (x .sizes) in
-        (omega arith, omega (arith, counted, few-edges))
+        (omega arith, omega (arith, counted, edges-bound L))
 
-    pub shapes : {b : Answer} → b ≡ signed (subℕ (n + elements L) e) → b ≡ fitAnswer n L
-    unfolding onceAccepted
-    shapes f =
+    pub gives-number : {b : Answer} → b ≡ signed (subℕ (n + elements L) e) → b ≡ listShape n L
+    unfolding listShape onceAccepted
+    gives-number f =
         f ∙ ap (λ (i : ℕ). signed (subℕ (n + elements L) i)) counted ∙ ap signed (sym (shape-counted n L accepted)) ∙ told g
 
 -- the whole call
@@ -108,9 +78,9 @@ module _ (n : ℕ) (L work : List ℕ) where
     unfolding shapeLengths
     long-enough h = true-of _ (means-le (n + 16 * elements L) (length work) .shows (omega arith))
 
-  pub checked : (sizesFit n L ≡ true) × (shapeLengths n L work ≡ true) → Checked n L work
+  pub checked : (sizesFit n L ≡ true) × (shapeLengths n L work ≡ true) → Roomy n L work
   unfolding shapeLengths
-  checked (s, l) = record { sizes = rw s tt; room = passed (means-le (n + 16 * elements L) (length work)) l }
+  checked (s, l) = record { sizes = rw s tt; room = omega (arith, passed (means-le (n + 16 * elements L) (length work)) l) }
 
   -- what the work holds, by the answer
   leaves : Answer → List ℕ → List ℕ
@@ -128,6 +98,6 @@ module _ (n : ℕ) (L work : List ℕ) where
   unlengthened = calls.unlengthened leaves (sizesFit n L) (shapeLengths n L work) _ work
 
   pub done : {a : Answer} {work′ : List ℕ} {l : ℕ} → (sizesFit n L ≡ true) × (shapeLengths n L work ≡ true) →
-      (a ≡ fitAnswer n L) × (l ≡ length work) → work′ ≡ replicate l 0 → Whole a work′
+      (a ≡ listShape n L) × (l ≡ length work) → work′ ≡ replicate l 0 → Whole a work′
   unfolding leaves shapeAnswer shapeWork
   done fit (e, long) z = calls.cleared leaves (sizesFit n L) (shapeLengths n L work) _ work fit e (z ∙ ap (λ (k : ℕ). replicate k 0) long)

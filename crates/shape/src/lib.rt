@@ -3,12 +3,9 @@ ghost use mathlib.Core.Path.{_≡_};
 ghost use Prim.Native.Nat.{_<_};
 ghost use lib.IntN.{subℕ};
 ghost use lib.ListN.{length};
-ghost use Rattle.rules.specs.Refusals.{listAnswer};
-ghost use Rattle.rules.specs.Edits.{onceAccepted};
-ghost use Rattle.rules.specs.Shape.{signed, shapeAnswer, shapeWork};
-ghost use Rattle.rules.specs.Shape.{shape as shapeOf};
+ghost use Rattle.rules.specs.Shape.{signed, listShape, shapeAnswer, shapeWork};
 ghost use Rattle.answer.specs.Numbers.{numbers};
-ghost use Rattle.shape.specs.Shapes.{Checked};
+ghost use Rattle.tabulate.specs.Results.{Roomy};
 use answer::Answer;
 use answer::give_two;
 use answer::refuse;
@@ -30,8 +27,8 @@ fn give_signed(more: u32, less: u32) -> Answer
 
 // Checks 3 to 8 and 18, then the number, where the lengths are fit. The work buffer isn't cleared yet.
 fn shape_fit(n: u32, list: &[u32], work: &mut [u32]) -> Answer
-    requires { ⌜ Checked n (now list) (now work) ⌝ }
-    ensures { λ r. ⌜ numbers r ≡ onceAccepted (listAnswer n (now (list .entry))) (signed (shapeOf n (now (list .entry)))) ⌝ }
+    requires { ⌜ Roomy n (now list) (now work) ⌝ }
+    ensures { λ r. ⌜ numbers r ≡ listShape n (now (list .entry)) ⌝ }
     ensures { λ _. ⌜ length (now (work .exit)) ≡ length (now (work .entry)) ⌝ }
 {
     let m = list.len() / 4;

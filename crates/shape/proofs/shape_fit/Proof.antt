@@ -6,7 +6,8 @@ use native.Mathlib.Omega.{arith}
 use Rattle.rules.specs.Elements.{elements}
 use Rattle.rules.specs.Refusals.{listAnswer}
 use Rattle.answer.specs.Numbers.{numbers}
-use Rattle.shape.specs.Shapes.{Checked, front-fits, sized, as-long, refuses, small, shapes}
+use Rattle.tabulate.specs.Results.{Roomy, front-fits, front-sized, as-long}
+use Rattle.shape.specs.Shapes.{refuses, small, gives-number}
 use borrow.Author.Needs.{needs}
 use Rattle.shape.proofs.shape_fit.Statement.{statement}
 use Rattle.shape.proofs.shape_fit.Tie as tie
@@ -27,7 +28,7 @@ told c = c .before
 abbrev found : tie.After-known-told → tie.After-tabulate
 found c = tabled (told c .before .before)
 
-known : (c : tie.Start) → let a = c .args in Checked (a .n) (a .list .now) (a .work .now)
+known : (c : tie.Start) → let a = c .args in Roomy (a .n) (a .list .now) (a .work .now)
 known c = c .pre
 
 stated : (c : tie.After-tabulate) → let a = start c .args in numbers (c .tabulate .result) ≡ listAnswer (a .n) (a .list .now)
@@ -58,7 +59,7 @@ part-tabulate-end : tie.Need-part-tabulate-end
 part-tabulate-end c = let h = front-fits (known (begun c)) (c .wide .ensures) in search needs
 
 tabulate-requires : tie.Need-tabulate-requires
-tabulate-requires c κs = sized (known (begun (c .before))) (c .before .wide .ensures)
+tabulate-requires c κs = front-sized (known (begun (c .before))) (c .before .wide .ensures)
 
 enum-known-t : tie.Need-enum-known-t
 enum-known-t c = search needs
@@ -91,7 +92,7 @@ returns-2 : tie.Need-returns-2
 returns-2 c =
     let t = found (c .before) in
     let x = known (start t) in
-    (shapes x (stated t) (ap numbers (told (c .before) .t .given .1)) (c .give-signed .ensures), as-long x (t .before .before .wide .ensures) (t .tabulate .ensures))
+    (gives-number x (stated t) (ap numbers (told (c .before) .t .given .1)) (c .give-signed .ensures), as-long x (t .before .before .wide .ensures) (t .tabulate .ensures))
 
 pub shape-fit-spec : {M : Type 1} → statement M
 shape-fit-spec =

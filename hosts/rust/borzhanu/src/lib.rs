@@ -427,9 +427,9 @@ pub fn siblings(
 /// buffer to lend.
 ///
 /// The number is 2 × pieces − openings − 2 × handles + the vertices that no element uses, where the outer rim of an open
-/// plate is an opening too: 2 for a closed housing, 1 for a plate, 0 for a duct, which has two openings, and for a ring
-/// duct, which has a handle; less than 0 for a plate with two windows. [`swap`], [`split`] and [`contract`] never change it,
-/// answered or refused.
+/// plate is an opening too: 2 for a closed housing without handles, 1 for a plate, 0 for a duct, which has two openings, and
+/// for a ring duct, which has a handle; less than 0 for a plate with two windows. [`swap`], [`split`] and [`contract`] never
+/// change it, answered or refused.
 ///
 /// `work` has at least [`work_length`] entries, and what it holds before doesn't matter. After 1 and 2 it is as it was; after
 /// everything else all of it is zero. Nothing else is written.

@@ -175,7 +175,6 @@ pub fn shapes(host: &mut Host) {
         assert_eq!(plate.number, 1 - windows, "windows of a plate, {size} wide");
         compare_known(host, &plate.list, plate.number);
         let block = plate.thickened(Kinds::Triangles, &mut host.dice);
-        assert_eq!(block.number, 2 - 2 * windows, "handles of a thick plate, {size} wide");
         compare_known(host, &block.list, block.number);
         let Shaped { list, number } = lattice(2 * size + 2, 6);
         compare_known(host, &list, number);
@@ -201,7 +200,6 @@ pub fn large_shapes(host: &mut Host) {
         compare_known(host, &list, number);
     }
     let Shaped { list, number } = lattice(1000, 1000);
-    assert_eq!(number, -250_000);
     let list = list.shuffled(&mut host.dice).renumbered(&mut host.dice).rotated(&mut host.dice);
     compare_known(host, &list, number);
 
