@@ -36,7 +36,8 @@
  * Answers. Every call returns one 64-bit number with three numbers in it; the functions
  * borzhanu_refusal, borzhanu_first and borzhanu_second take it apart. Refusal 0 means that the call
  * has answered. After a refusal, first and second are its place, 0 and 0 unless named below, and
- * borzhanu_refusal_text says it in words.
+ * borzhanu_refusal_text says it in words. borzhanu_shape answers one signed number in place of first and
+ * second, which borzhanu_signed takes out.
  *
  * The calls keep nothing between them, so several threads may call at once on different buffers, or
  * on the same ones where every call only reads them.
@@ -146,6 +147,13 @@ static inline uint32_t borzhanu_second(uint64_t returned) {
     return (uint32_t)returned & 0xFFFFFFFu;
 }
 
+/* The signed number that borzhanu_shape answers, where it does: the 56 bits below the refusal, in two's
+   complement. */
+static inline int64_t borzhanu_signed(uint64_t returned) {
+    int64_t low = (int64_t)(returned & 0xFFFFFFFFFFFFFFu);
+    return low < 0x80000000000000 ? low : low - 0x100000000000000;
+}
+
 /* What a refusal number means, in words; its place isn't in them. */
 static inline const char *borzhanu_refusal_text(uint32_t refusal) {
     switch (refusal) {
@@ -224,7 +232,7 @@ static inline uint32_t borzhanu_number_of(uint32_t code) {
     return code % 8u;
 }
 
-/* The least length of the work buffer of build, recovery, siblings, holes and edits, in entries. */
+/* The least length of the work buffer of build, recovery, siblings, holes, edits and shape, in entries. */
 static inline size_t borzhanu_work_length(uint32_t n, size_t m) {
     return (size_t)n + 16u * m;
 }
@@ -506,6 +514,32 @@ uint64_t borzhanu_contract(uint32_t size[2],
                            uint32_t *b2e, size_t b2e_len,
                            double *points, size_t points_len,
                            uint32_t *work, size_t work_len, uint32_t code);
+
+/*
+ * Answers the number of a housing's shape, vertices - edges + elements, which may be 0 or negative:
+ * borzhanu_signed takes it out of what is returned. All n vertices count, also those that belong to no
+ * element. Edges are the pairs of vertices that a side joins, each counted once, however many sides join it.
+ *
+ *   elements  4 * m entries, only read
+ *   work      at least n + 16 * m entries
+ *
+ * A closed housing of one piece without handles has the number 2. Each opening makes it 1 less, and the outer
+ * rim of a plate is one; each handle, as a ring duct has one, makes it 2 less; the numbers of several pieces
+ * are added up; and each vertex that belongs to no element makes it 1 more. So the number is
+ *
+ *     2 * pieces - openings - 2 * handles + spare vertices
+ *
+ * Another number than the drawing's shows that something is wrong. The same number doesn't show that nothing
+ * is: a missing plate and a spare vertex cancel. hosts/examples/shape.c compares openings, handles and spare
+ * vertices too. Swaps, splits and contractions never change the number, however many there are.
+ *
+ * No tables are needed. It refuses as building does but for 9: 1; 2 where work is too short, and for no other
+ * length; 3, 4, 6 to 8 and 18, with the places that building names. What work holds before doesn't matter.
+ * After 1 and 2 it is as it was; after everything else it is all zero.
+ */
+uint64_t borzhanu_shape(uint32_t n,
+                        const uint32_t *elements, size_t elements_len,
+                        uint32_t *work, size_t work_len);
 
 /*
  * The queries take a mesh: n, columns, an element list (4 * m entries), V2e (n), E2e (columns * m) and

@@ -3,6 +3,7 @@
 #include "rims.h"
 #include "room.h"
 #include "rounds.h"
+#include "shaping.h"
 
 #include <stdlib.h>
 #include <string.h>
@@ -100,6 +101,13 @@ struct call siblings_of(const struct list *list) {
     call.given[ELEMENTS] = (struct slice){list->rows, 4 * list->m};
     call.given[V2E] = noise_of(V2E, list->n);
     call.given[SIBLINGS] = noise_of(SIBLINGS, 4 * list->m);
+    call.given[WORK] = noise_of(WORK, list->n + 16 * list->m);
+    return call;
+}
+
+struct call shape_of(const struct list *list) {
+    struct call call = empty_call(&shape_call, list->n);
+    call.given[ELEMENTS] = (struct slice){list->rows, 4 * list->m};
     call.given[WORK] = noise_of(WORK, list->n + 16 * list->m);
     return call;
 }
@@ -288,17 +296,28 @@ void try_siblings(const struct list *list, const struct mesh *t) {
         check_opposites(t, results[SIBLINGS]);
 }
 
+void try_shape(const struct list *list, struct answer of_building) {
+    static size_t longer = 5;
+    struct call call = shape_of(list);
+    longer = 5 - longer;
+    call.given[WORK].len += longer;
+    int64_t number = (int64_t)list->n - of_building.second + (int64_t)list->m;
+    compare_answer(&call, of_building.refusal != 0 ? of_building : gives_signed(number));
+}
+
 int built(const struct list *list, struct mesh *t) {
     struct call call = build_of(list, list->n + 3);
     struct slice results[ROLES];
     struct answer answer = compare(&call, results);
     if (answer.refusal != 0) {
         try_siblings(list, NULL);
+        try_shape(list, answer);
         return 0;
     }
     struct slice b2e = {results[B2E].at, answer.first};
     *t = (struct mesh){list->n, 0, copied(results[ELEMENTS]), copied(results[V2E]), copied(results[E2E]), copied(b2e)};
     try_siblings(list, t);
+    try_shape(list, answer);
     return 1;
 }
 

@@ -25,6 +25,7 @@ uint32_t other_columns(const struct mesh *t);
    list's length, a query the columns of the mesh. */
 struct call build_of(const struct list *list, size_t b2e_len);
 struct call siblings_of(const struct list *list);
+struct call shape_of(const struct list *list);
 struct call look_at(const struct list *list);
 struct call recovery_of(const struct mesh *t);
 struct call query_of(const struct exported *exported, const struct mesh *t, uint32_t number);
@@ -50,8 +51,12 @@ void ask_something(const struct mesh *t, struct dice *dice, int times);
    null. */
 void try_siblings(const struct list *list, const struct mesh *t);
 
-/* Builds with room in B2e; where accepted hands over the tables, which the caller drops. In any case the sibling map is
-   tried. */
+/* The number of the shape, with a work buffer of the least length and with a longer one by turns. It is refused as
+   building was, with the same place; where building answered, its number of edges makes the number. */
+void try_shape(const struct list *list, struct answer of_building);
+
+/* Builds with room in B2e; where accepted hands over the tables, which the caller drops. In any case the sibling map and
+   the number of the shape are tried. */
 int built(const struct list *list, struct mesh *t);
 /* B2e of other lengths, and more work space than needed. */
 void build_with_other_room(const struct list *list, size_t k);

@@ -4,6 +4,7 @@
 #include "borzhanu.h"
 #include "contracting.h"
 #include "guarded.h"
+#include "shaping.h"
 #include "splitting.h"
 #include "swapping.h"
 
@@ -64,6 +65,15 @@ static uint64_t kernel_siblings(const struct call *call, const struct slice *b) 
 static struct answer expect_siblings(const struct call *call, const struct slice *b) {
     struct mesh mesh = mesh_of(call, b);
     return reference_siblings(&mesh, b[SIBLINGS], b[WORK]);
+}
+
+static uint64_t kernel_shape(const struct call *call, const struct slice *b) {
+    return borzhanu_shape(call->n, b[ELEMENTS].at, b[ELEMENTS].len, b[WORK].at, b[WORK].len);
+}
+
+static struct answer expect_shape(const struct call *call, const struct slice *b) {
+    struct mesh mesh = mesh_of(call, b);
+    return reference_shape(&mesh, b[WORK]);
 }
 
 static uint64_t kernel_holes(const struct call *call, const struct slice *b) {
@@ -167,6 +177,7 @@ const struct exported build_call = EXPORTED(build, BIT(V2E) | BIT(E2E) | BIT(B2E
 const struct exported columns_call = EXPORTED(columns, 0);
 const struct exported recover_call = EXPORTED(recover, BIT(ELEMENTS) | BIT(WORK));
 const struct exported siblings_call = EXPORTED(siblings, BIT(V2E) | BIT(SIBLINGS) | BIT(WORK));
+const struct exported shape_call = EXPORTED(shape, BIT(WORK));
 const struct exported swap_call = EDIT(swap, 0);
 const struct exported split_call = EDIT(split, BIT(POINTS));
 const struct exported contract_call = EDIT(contract, BIT(POINTS));

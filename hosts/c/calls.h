@@ -31,7 +31,7 @@ struct call {
     struct slice given[ROLES];
 };
 
-extern const struct exported build_call, columns_call, recover_call, siblings_call;
+extern const struct exported build_call, columns_call, recover_call, siblings_call, shape_call;
 extern const struct exported swap_call, split_call, contract_call;
 extern const struct exported vertex_test, border_list, holes_call, start_call, step_call;
 extern const struct exported code_calls[CODE_CALLS], vertex_lists[VERTEX_LISTS];

@@ -59,6 +59,8 @@ static void check_pattern(uint32_t m, uint32_t pattern, struct dice *dice) {
                 pattern >> f & 1 ? fourth[below(dice, COUNT(fourth))] : 0);
     check_columns(&list, pattern == 0 ? 3 : 4);
     try_siblings(&list, NULL);
+    struct call shape = shape_of(&list);
+    compare(&shape, NULL);
     drop_list(&list);
 }
 
@@ -250,7 +252,7 @@ static void check_apart(const struct list *list, struct slice codes) {
     struct slice results[ROLES];
     struct call call = build_of(list, list->n);
     struct mesh t = {list->n, 0, {list->rows, 4 * list->m}, codes, codes, noise_of(B2E, 0)};
-    compare(&call, results);
+    try_shape(list, compare(&call, results));
     if (results[E2E].len != codes.len || memcmp(results[V2E].at, codes.at, codes.len * sizeof(uint32_t)) != 0 ||
         memcmp(results[E2E].at, codes.at, codes.len * sizeof(uint32_t)) != 0)
         fail("the tables aren't 8, 16, 24 and so on");

@@ -17,6 +17,7 @@
 #include "pillows.h"
 #include "printed.h"
 #include "room.h"
+#include "shapes.h"
 #include "siblings.h"
 #include "spare.h"
 #include "splits.h"
@@ -242,7 +243,10 @@ static void noise_tables(struct dice *dice) {
             t.b2e.at[j] = below(dice, 8 * m + 16);
         ask_something(&t, dice, 6);
         recover(&t);
-        try_siblings(&(struct list){n, m, m, t.elements.at}, NULL);
+        struct list list = {n, m, m, t.elements.at};
+        struct call shape = shape_of(&list);
+        try_siblings(&list, NULL);
+        compare(&shape, NULL);
         drop_tables(&t);
     }
 }
@@ -282,14 +286,16 @@ static void try_lengths(const struct call *call, const int *roles, int count, lo
             }
 }
 
-/* Of build, siblings and recovery; the tables are those that the list has, or would have but for 18. */
+/* Of build, siblings, shape and recovery; the tables are those that the list has, or would have but for 18. */
 static void try_list_lengths(const struct list *list, const struct mesh *t, struct dice *dice) {
     static const int of_build[] = {ELEMENTS, V2E, E2E, B2E, WORK}, of_siblings[] = {ELEMENTS, V2E, SIBLINGS, WORK},
-                     of_recovery[] = {V2E, E2E, ELEMENTS, WORK};
+                     of_shape[] = {ELEMENTS, WORK}, of_recovery[] = {V2E, E2E, ELEMENTS, WORK};
     struct call call = build_of(list, t->b2e.len);
     try_lengths(&call, of_build, COUNT(of_build), (long)list->m, dice);
     call = siblings_of(list);
     try_lengths(&call, of_siblings, COUNT(of_siblings), (long)list->m, dice);
+    call = shape_of(list);
+    try_lengths(&call, of_shape, COUNT(of_shape), (long)list->m, dice);
     call = recovery_of(t);
     try_lengths(&call, of_recovery, COUNT(of_recovery), (long)list->m, dice);
 }
@@ -356,6 +362,7 @@ static void try_emptied_calls(const struct list *list) {
     try_emptied(look_at(list));
     try_emptied(build_of(list, t.b2e.len));
     try_emptied(siblings_of(list));
+    try_emptied(shape_of(list));
     try_emptied(recovery_of(&t));
     for (size_t i = 0; i < CODE_CALLS; i++)
         try_emptied(query_of(&code_calls[i], &t, borzhanu_side(1, 1)));
@@ -395,6 +402,7 @@ static void far_lengths(struct dice *dice) {
     try_far(look_at(&triangle));
     try_far(build_of(&triangle, 3));
     try_far(siblings_of(&triangle));
+    try_far(shape_of(&triangle));
     try_far(recovery_of(&t));
     /* told 0, a query may look at the list before it refuses */
     t.columns = 3;
@@ -453,7 +461,7 @@ static void about_the_largest(uint32_t n, size_t m, uint32_t e2e_rows) {
     struct mesh t = {n, 0, noise_of(ELEMENTS, 4 * m), noise_of(V2E, n), noise_of(E2E, 4 * e2e_rows), noise_of(B2E, 9)};
     struct list list = {n, m, m, t.elements.at};
     struct call calls[] = {build_of(&list, 9), look_at(&list), recovery_of(&t), query_of(&code_calls[0], &t, 9),
-                           siblings_of(&list), holes_of(&t)};
+                           siblings_of(&list), holes_of(&t), shape_of(&list)};
     calls[0].given[E2E] = t.e2e;
     calls[2].m = e2e_rows;
     calls[4].given[SIBLINGS] = noise_of(SIBLINGS, 4 * e2e_rows);
@@ -506,6 +514,10 @@ static const struct {
     {"lengths of clashes", lengths_of_clashes},
     {"edges of plates", edges_of_plates},
     {"openings of housings", openings_of_housings},
+    {"known shapes", known_shapes},
+    {"shapes of housings", shapes_of_housings},
+    {"lengths of shapes", lengths_of_shapes},
+    {"the largest shapes", largest_shapes},
     {"known swaps", known_swaps},
     {"swaps of every code", swaps_of_every_code},
     {"runs of swaps", runs_of_swaps},
@@ -524,6 +536,7 @@ static const struct {
     {"contractions to the last", contracts_to_the_last},
     {"lengths of contractions", lengths_of_contracts},
     {"the largest contractions", largest_contracts},
+    {"shapes in runs", shapes_in_runs},
 };
 
 static double seconds(void) {

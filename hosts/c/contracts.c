@@ -180,21 +180,13 @@ void contracts_of_every_code(struct dice *dice) {
 
 /* ---- runs ---- */
 
-/* As many contractions as splits, so that the mesh comes and goes. */
 static void run_of_contracts(struct list list, int edits, struct dice *dice) {
     struct room room = {(uint32_t)edits / 4, (uint32_t)edits / 3};
     struct run run;
     disguise(&list, dice);
     start_run(&run, &list, room, dice);
-    while (edits-- > 0) {
-        uint32_t code = any_code(&run, dice), kind = below(dice, 5);
-        if (kind < 2)
-            contract_in_run(&run, code);
-        else if (kind < 4)
-            split_in_run(&run, code);
-        else
-            swap_in_run(&run, code);
-    }
+    while (edits-- > 0)
+        edit_any(&run, dice);
     drop_run(&run);
     drop_list(&list);
 }
@@ -250,7 +242,7 @@ static void run_taken_back(struct list list, int edits, struct dice *dice) {
 }
 
 void splits_taken_back(struct dice *dice) {
-    static const uint32_t numbers[] = {0, 9, 11, 15};
+    static const uint32_t numbers[] = {0, 11, 15};
     for (int i = 0; i < 8; i++)
         run_on_housings(2 + (uint32_t)i % 4, 40, run_taken_back, dice);
     run_on_housings(30, 9, run_taken_back, dice);

@@ -59,6 +59,27 @@ static void check_codes(void) {
             check_code(code, whole, rest);
 }
 
+static void check_signed_as(uint64_t returned, int64_t number) {
+    static const uint64_t refusals[] = {0, 1, 18, 255};
+    for (size_t i = 0; i < sizeof refusals / sizeof *refusals; i++)
+        if (borzhanu_signed(refusals[i] << 56 | returned) != number)
+            fail_number("borzhanu_signed of a number whose low bits are", (uint32_t)returned);
+}
+
+/* Powers of two and the numbers before them, from -2^55 to 2^55 - 1, the least number and the greatest. The bits of -x
+   are those of 2^56 - x, and the bits of the refusal aren't looked at. */
+static void check_signed(void) {
+    const uint64_t all = (uint64_t)1 << 56;
+    check_signed_as(0, 0);
+    for (uint64_t x = 1; x < all / 2; x *= 2) {
+        check_signed_as(x, (int64_t)x);
+        check_signed_as(2 * x - 1, (int64_t)(2 * x - 1));
+        check_signed_as(all - x, -(int64_t)x);
+        check_signed_as(all - 2 * x, -(int64_t)(2 * x));
+        check_signed_as(all - (2 * x - 1), -(int64_t)(2 * x - 1));
+    }
+}
+
 static const char *sentence(uint32_t number) {
     const char *text = borzhanu_refusal_text(number);
     if (text == NULL || *text == '\0')
@@ -127,6 +148,7 @@ static void check_sibling(void) {
 void check_header(void) {
     check_numbers();
     check_codes();
+    check_signed();
     check_sentences();
     check_words(1, "more than 1,000,000 vertices or elements, or an element list not in fours");
     check_words(2, "a buffer's length doesn't fit n, m and the columns, or the columns told aren't 0, 3 or 4");

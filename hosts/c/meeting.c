@@ -215,6 +215,7 @@ static void check_large(struct list list, struct answer known) {
     check_build_time(&list);
     compare_answer(&call, known);
     try_siblings(&list, NULL);
+    try_shape(&list, known);
     drop_list(&list);
 }
 

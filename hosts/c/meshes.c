@@ -69,7 +69,7 @@ void add_list(struct list *list, const struct list *other) {
     list->n += other->n;
 }
 
-static void add_cell(struct list *list, const uint32_t corner[4], enum kinds kinds, struct dice *dice) {
+void add_cell(struct list *list, const uint32_t corner[4], enum kinds kinds, struct dice *dice) {
     if (kinds == QUADRILATERALS || (kinds == MIXED && below(dice, 2) == 0)) {
         add_row(list, corner[0], corner[1], corner[2], corner[3]);
     } else if (kinds == MIXED && below(dice, 2) == 0) {

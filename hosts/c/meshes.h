@@ -29,6 +29,8 @@ void drop_list(struct list *list);
 void add_row(struct list *list, uint32_t a, uint32_t b, uint32_t c, uint32_t d);
 /* Rows on vertices that the list has. */
 void add_rows(struct list *list, const struct list *other);
+/* A quadrilateral of these corners, or the two triangles of one of its diagonals. */
+void add_cell(struct list *list, const uint32_t corner[4], enum kinds kinds, struct dice *dice);
 /* A list beside it: its vertices come after those that are there. */
 void add_list(struct list *list, const struct list *other);
 

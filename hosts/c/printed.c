@@ -53,6 +53,7 @@ static struct mesh tables_of_case(const struct build_case *c) {
                      copied(results[V2E]),
                      copied(results[E2E]),
                      copied(results[B2E])};
+    try_shape(&list, answer);
     drop_list(&list);
     return t;
 }

@@ -2,6 +2,7 @@
 
 #include "borzhanu.h"
 #include "room.h"
+#include "shaping.h"
 
 #include <stdlib.h>
 #include <string.h>
@@ -11,6 +12,15 @@ static uint32_t sides_in(const struct list *list) {
     for (size_t f = 0; f < list->m; f++)
         sides += corners_of(list->rows + 4 * f);
     return sides;
+}
+
+/* The list as it is now, in the run's buffer. */
+static struct list list_now(const struct run *run) {
+    return (struct list){run->size[0], run->size[1], run->size[1], run->call.given[ELEMENTS].at};
+}
+
+static int64_t number_now(const struct run *run) {
+    return counted_shape(run->size[0], (struct slice){run->call.given[ELEMENTS].at, 4 * (size_t)run->size[1]});
 }
 
 static void put_entries(struct slice to, struct slice from) {
@@ -27,6 +37,7 @@ void start_run(struct run *run, const struct list *list, struct room room, struc
     lengthen_any(&run->call, dice);
     run->k = (uint32_t)t.b2e.len;
     run->edges = (sides_in(list) + run->k) / 2;
+    run->number = number_now(run);
     put_entries(run->call.given[V2E], t.v2e);
     put_entries(run->call.given[E2E], t.e2e);
     put_entries(run->call.given[B2E], t.b2e);
@@ -57,17 +68,25 @@ static borzhanu_mesh asked(const struct mesh *t) {
                            t->e2e.at, t->e2e.len, t->b2e.at, t->b2e.len};
 }
 
-/* The buffers then hold what the edit left. */
+/* By counting, and by the call. */
+static void check_kept(const struct run *run) {
+    struct list list = list_now(run);
+    struct call shape = shape_of(&list);
+    if (number_now(run) != run->number)
+        mismatch("an edit changed the number of the shape");
+    compare_answer(&shape, gives_signed(run->number));
+}
+
+/* The buffers then hold what the edit left; where it was refused, that is what they held. */
 static struct answer edit_run(struct run *run, const struct exported *exported, uint32_t code) {
     struct slice results[ROLES];
     run->call.exported = exported;
     run->call.number = code;
     struct answer answer = counted(compare(&run->call, results));
-    if (answer.refusal != 0)
-        return answer;
     for (int role = 0; role < ROLES; role++)
         if (exported->writes >> role & 1)
             put_entries(run->call.given[role], results[role]);
+    check_kept(run);
     return answer;
 }
 
@@ -166,8 +185,9 @@ static struct list contracted_by_queries(const struct mesh *t, uint32_t side) {
 /* That the diagonal is the other one is shown by runs of swaps. */
 struct answer swap_in_run(struct run *run, uint32_t code) {
     struct answer answer = edit_run(run, &swap_call, code);
+    struct list list = list_now(run);
     if (answer.refusal == 0)
-        check_run(run, &(struct list){run->size[0], run->size[1], run->size[1], run->call.given[ELEMENTS].at});
+        check_run(run, &list);
     return answer;
 }
 
@@ -177,4 +197,11 @@ struct answer split_in_run(struct run *run, uint32_t code) {
 
 struct answer contract_in_run(struct run *run, uint32_t code) {
     return edit_size(run, &contract_call, code, contracted_by_queries, -1);
+}
+
+struct answer edit_any(struct run *run, struct dice *dice) {
+    uint32_t code = any_code(run, dice), kind = below(dice, 5);
+    if (kind < 2)
+        return contract_in_run(run, code);
+    return kind < 4 ? split_in_run(run, code) : swap_in_run(run, code);
 }

@@ -85,6 +85,7 @@ static void try_unfit(const struct few *few) {
     check_answer(few, build_of(&list, MOST), few->refusal, few->first, few->second);
     check_answer(few, build_of(&list, 0), few->refusal, few->first, few->second);
     try_siblings(&list, NULL);
+    try_shape(&list, (struct answer){few->refusal, few->first, few->second});
     drop_list(&list);
 }
 

@@ -3,6 +3,7 @@
 #include "borzhanu.h"
 #include "edits.h"
 #include "room.h"
+#include "shaping.h"
 
 #include <stdlib.h>
 #include <string.h>
@@ -182,6 +183,7 @@ static struct answer swap_in(struct mesh *t, uint32_t code, struct dice *dice) {
     struct slice results[ROLES];
     uint32_t size[SIZE_LENGTH];
     struct call call = swap_of(&list, 0, size, code);
+    int64_t number = counted_shape(t->n, t->elements);
     lend(&call, t, dice);
     struct answer answer = compare(&call, results);
     if (answer.refusal == 0) {
@@ -189,6 +191,8 @@ static struct answer swap_in(struct mesh *t, uint32_t code, struct dice *dice) {
         drop_tables(t);
         *t = left;
     }
+    if (counted_shape(t->n, t->elements) != number)
+        mismatch("a swap changed the number of the shape");
     drop_buffers(&call);
     return counted(answer);
 }

@@ -1,5 +1,5 @@
-# What swaps.py, splits.py and contracts.py share: the rules that docs/TRACE.md quotes of a list, by looking at every pair
-# of sides and every pair of elements.
+# What swaps.py, splits.py, contracts.py and shapes.py share: the rules that docs/TRACE.md quotes of a list, by looking at
+# every pair of sides and every pair of elements.
 import struct,sys
 MOST=1000000
 FILL=4294967295   # what the three tables hold before

@@ -1,8 +1,9 @@
 -- The numbers of document 01 for each case of the enum, and their packing.
 -- Assumes nothing.
 use mathlib.Core.Bool.{true, false}
-use Prim.Native.Nat.{ℕ, _+_, _*_, _/_, _%_}
-use lib.Dec.{eqb}
+use Prim.Native.Nat.{ℕ, _+_, _*_, _-_, _/_, _%_}
+use lib.Dec.{ltb, eqb}
+use lib.IntN.{ℤ, pos, negsuc}
 use Rattle.rules.specs.Refusals.{Answer as Stated, gives, refused}
 use Rattle.answer.specs.declared.Answer.{Answer}
 use Rattle.answer.specs.declared.Answer.the-variants.{Gives, Refused}
@@ -34,3 +35,12 @@ abbrev pub unpacked : ℕ → Stated
 unpacked x =
     elim (eqb (refusalIn x) 0)
     [ true ↦ gives (firstIn x) (secondIn x) | false ↦ refused (refusalIn x) (firstIn x) (secondIn x) ]
+
+-- the formula of borzhanu_signed: bits 0 to 55 as a signed number in two's complement, negative where bit 55 is set
+abbrev pub signBit : ℕ
+signBit = 36_028_797_018_963_968
+
+abbrev pub signedIn : ℕ → ℤ
+signedIn x =
+    let low = x % 72_057_594_037_927_936 in
+    elim (ltb low signBit) [ true ↦ pos low | false ↦ negsuc (72_057_594_037_927_935 - low) ]

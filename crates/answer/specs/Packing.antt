@@ -1,13 +1,16 @@
 -- The packed number, taken apart by the header's three formulas, is the answer again, where its numbers have room.
 -- Assumes nothing.
 use mathlib.Core.Path.{_≡_, ap, _∙_}
-use mathlib.Core.Bool.{false}
-use Prim.Native.Nat.{ℕ, _≤_, _<_}
+use mathlib.Core.Bool.{true, false}
+use Prim.Native.Nat.{ℕ, _-_, _%_, _≤_, _<_}
 use native.Mathlib.Omega.{arith}
-use lib.Dec.{eqb}
-use Rattle.lists.specs.TestLaws.{false-of, means-not, means-eq}
+use lib.Dec.{ltb, eqb}
+use lib.IntN.{ℤ, pos, negsuc}
+use lib.Signed.{mag}
+use Rattle.lists.specs.TestLaws.{true-of, false-of, means-not, means-eq, means-lt}
 use Rattle.rules.specs.Refusals.{Answer, gives, refused}
-use Rattle.answer.specs.Numbers.{packed, packedAnswer, refusalIn, firstIn, secondIn, unpacked}
+use Rattle.rules.specs.Shape.{complement, signed}
+use Rattle.answer.specs.Numbers.{packed, packedAnswer, refusalIn, firstIn, secondIn, unpacked, signBit, signedIn}
 
 -- the numbers of an answer have room in the packed number: 8 bits for the refusal, 28 for each other
 abbrev pub Fits : Answer → Type 0
@@ -35,3 +38,19 @@ unpack-packed (refused r a b) (l, h, i, j) =
 -- what a call returned, taken apart, is the answer that it packed
 pub told : (x : Answer) → Fits x → (r : ℕ) → r ≡ packedAnswer x → unpacked r ≡ x
 told x f r e = ap (λ (y : ℕ). unpacked y) e ∙ unpack-packed x f
+
+-- a signed number from −2^55 to 2^55 − 1 has room in the packed number, and borzhanu_signed tells it
+abbrev pub HasRoom : ℤ → Type 0
+HasRoom z = mag z < signBit
+
+pub signed-told : (z : ℤ) → HasRoom z → (r : ℕ) → r ≡ packedAnswer (signed z) → signedIn r ≡ z
+unfolding signed complement
+signed-told (pos x) h r e =
+    let low : r % 72_057_594_037_927_936 ≡ x = omega arith in
+    rw (low, true-of (ltb x signBit) (means-lt x signBit .shows h), signedIn) (ap pos low)
+signed-told (negsuc x) h r e =
+    let y = 72_057_594_037_927_935 - x in
+    let low : r % 72_057_594_037_927_936 ≡ y = omega arith in
+    let high = false-of (ltb y signBit) (means-not (means-lt y signBit) .shows (λ l. omega arith)) in
+    let back : 72_057_594_037_927_935 - r % 72_057_594_037_927_936 ≡ x = omega arith in
+    rw (low, high, signedIn) (ap negsuc back)

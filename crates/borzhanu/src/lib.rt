@@ -12,6 +12,7 @@ ghost use Rattle.rules.specs.Holes.{holesAnswer, holesLeaves};
 ghost use Rattle.rules.specs.Swap.{swapAnswer, swapLeaves};
 ghost use Rattle.rules.specs.Split.{splitAnswer, splitLeaves, splitPoints};
 ghost use Rattle.rules.specs.Contract.{contractAnswer, contractLeaves, contractPoints};
+ghost use Rattle.rules.specs.Shape.{shapeAnswer, shapeWork};
 ghost use Rattle.build.specs.Building.{lent};
 ghost use Rattle.edits.specs.Holding.{lentSized};
 ghost use Rattle.sibling_map.specs.Mapping.{lentMaps};
@@ -132,6 +133,15 @@ pub extern "C" fn borzhanu_contract(
     ensures { λ _. ⌜ now (points .exit) ≡ contractPoints (lentSized (now (size .entry)) (now (elements .entry)) (now (v2e .entry)) (now (e2e .entry)) (now (b2e .entry)) (now (work .entry))) (now (points .entry)) code ⌝ }
 {
     answer::pack(contract::contract(size, elements, v2e, e2e, b2e, points, work, code))
+}
+
+// The number of vertices less that of edges, and that of elements added: signed, in two's complement in bits 0 to 55.
+#[no_mangle]
+pub extern "C" fn borzhanu_shape(n: u32, elements: &[u32], work: &mut [u32]) -> u64
+    ensures { λ r. ⌜ r ≡ packedAnswer (shapeAnswer n (now (elements .entry)) (now (work .entry))) ⌝ }
+    ensures { λ _. ⌜ now (work .exit) ≡ shapeWork n (now (elements .entry)) (now (work .entry)) ⌝ }
+{
+    answer::pack(shape::shape(n, elements, work))
 }
 
 // The half-edge that runs along the same edge the other way.

@@ -24,7 +24,7 @@ use Rattle.theory.specs.Answers.{room-enough, room-short, past-check}
 use Rattle.theory.specs.Calls.{lengths-known}
 use Rattle.theory.specs.Calls as calls
 use Rattle.buffers.specs.Whole.{onto-full}
-use Rattle.tabulate.specs.Results.{Sized, Holds, Tabulated}
+use Rattle.tabulate.specs.Results.{Roomy, Holds, Tabulated, front-long, as-long}
 
 -- the four buffers
 abbrev pub lent : List ℕ → List ℕ → List ℕ → List ℕ → Buffers
@@ -122,27 +122,20 @@ pub record Scratched (n : ℕ) (L : List ℕ) (t : Answer) (work W : List ℕ) :
   pub holds : (k e : ℕ) → t ≡ gives k e → Holds n L W
   pub long : length W ≡ length work
 
+-- the work has room for them
+pub roomy : {n : ℕ} {L V2e E2e work : List ℕ} → Checked n L V2e E2e work → Roomy n L work
+roomy x = record { sizes = x .sizes; room = x .room }
+
 -- n as an index is a
-module _ {n : ℕ} {L V2e E2e work : List ℕ} (x : Checked n L V2e E2e work) {a : ℕ} (index : a ≡ n) where
-  pub front-fits : a + 12 * elements L ≤ length work
-  front-fits = omega (arith, x .room)
-
-  front-long : length (take (a + 12 * elements L - 0) work) ≡ n + 12 * elements L
-  front-long = simp length-take (omega (arith, x .room))
-
-  pub sized : Sized n L (take (a + 12 * elements L - 0) work)
-  sized = record { sizes = x .sizes; long = front-long }
-
-  pub scratched : {t : Answer} {w : List ℕ} → Tabulated n L (listAnswer n L) t (take (a + 12 * elements L - 0) work) w →
-      Scratched n L t work (w ++ drop (a + 12 * elements L - 0) work)
-  scratched {w = w} y =
-      let long = y .long ∙ front-long in
-      let few : borders L ≤ 4 * elements L = omega (arith, borders-bound L, x .fours) in
-      record {
-        stated = y .answer;
-        holds = λ k e g. holds-front n L w _ long few (y .holds k e g);
-        long = simp (length-append, length-drop) (omega (arith, long, x .room));
-      }
+pub scratched : {n : ℕ} {L work : List ℕ} (x : Roomy n L work) {a : ℕ} (index : a ≡ n) {t : Answer} {w : List ℕ} →
+    Tabulated n L (listAnswer n L) t (take (a + 12 * elements L - 0) work) w → Scratched n L t work (w ++ drop (a + 12 * elements L - 0) work)
+scratched {n} {L} x index {w = w} y =
+    let few : borders L ≤ 4 * elements L = omega (arith, borders-bound L, means-sizes n L .says (x .sizes) .1 .1) in
+    record {
+      stated = y .answer;
+      holds = λ k e g. holds-front n L w _ (y .long ∙ front-long x index) few (y .holds k e g);
+      long = as-long x index y;
+    }
 
 -- a refusal leaves the tables as they were
 module _ {n : ℕ} {L : List ℕ} {t : Answer} {work W : List ℕ} (s : Scratched n L t work W) {V2e E2e B2e : List ℕ} where

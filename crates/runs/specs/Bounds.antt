@@ -1,6 +1,6 @@
 -- A bound on every number that each call can answer, so that nothing is lost in the packed number.
 -- Assumes nothing.
-use mathlib.Core.Path.{_≡_, refl, sym, subst}
+use mathlib.Core.Path.{_≡_, refl, sym, subst, _∙_}
 use mathlib.Core.Bool.{Bool, true, false}
 use mathlib.Core.Logic.{_⊎_, inl, inr}
 use mathlib.Core.Option.{Option, none, some}
@@ -8,14 +8,15 @@ use mathlib.Core.List.{List, [], _∷_}
 use Prim.Native.Nat.{ℕ, zero, suc, _+_, _*_, _/_, _%_, _≤_, _<_}
 use native.Mathlib.Omega.{arith}
 use lib.Dec.{T, leb, eqb}
+use lib.IntN.{ℤ, pos, negsuc}
 use lib.Ieee.{Float}
 use lib.ListN.{length}
 use Rattle.lists.specs.Tests.{both, within}
 use Rattle.lists.specs.TestLaws.{passes, Test, pass, fail, test, means-itself, means-both, means-either, means-eq, means-le, means-within}
-use Rattle.lists.specs.SearchLaws.{count-bound}
-use Rattle.rules.specs.Elements.{maxVertex, maxElement, elements, element, number, sides, isSide, Side, next, sideWith, firstSide, countSides}
+use Rattle.lists.specs.SearchLaws.{le-or-lt, count-bound}
+use Rattle.rules.specs.Elements.{maxVertex, maxElement, elements, element, number, sides, isSide, Side, next, firstSide}
 use Rattle.rules.specs.Elements.{firstNumber}
-use Rattle.rules.specs.Pairing.{Accepted, callSizes, sizesFit, unfitCorner, repeatedCorner}
+use Rattle.rules.specs.Pairing.{Accepted, callSizes, sizesFit, unfitCorner, repeatedCorner, rowsFit}
 use Rattle.rules.specs.Tables.{borders, columns, edges}
 use Rattle.rules.specs.Refusals.{clashOf, clashing, Answer, gives, refused, Buffers, crowdedSide, alikeSide, unorderedVertex, checkFound}
 use Rattle.rules.specs.Refusals.{rowChecks, listAnswer, lengthChecks, roomCheck, buildAnswer, recovers, recoverAnswer}
@@ -24,6 +25,7 @@ use Rattle.rules.specs.Edits.{Edited, becomes, refuses, Lent, held, onceAccepte
 use Rattle.rules.specs.Swap.{swapped, swap, swapAnswer}
 use Rattle.rules.specs.Split.{hasPoints, split, splitAnswer}
 use Rattle.rules.specs.Contract.{contract, contractAnswer}
+use Rattle.rules.specs.Shape.{shape, complement, signed, listShape, shapeAnswer}
 use Rattle.rules.specs.Holes.{HoleBuffers, leastOf, holesUpTo, holeCount, holesFound, holesFit, holesAnswer}
 use Rattle.rules.specs.Queries.{Mesh, columnsAnswer, queryLengths, asked, defined, found, listed, andThen, prepend, readAll, read, bySide, byEntry, follow, over, isBorderCode, isHalfEdge, isEntry}
 use Rattle.rules.specs.Queries.{isVertex, readOpposite, readBorderSide, readVertexEntry, readOrigin, readDestination, opposite, borderNext, startSide}
@@ -35,10 +37,11 @@ use Rattle.theory.specs.Least.{First, nobody, somebody, first-side, FirstNumber
 use Rattle.theory.specs.Steps.{NextNumber, wraps, grows, next-number, previous-side}
 use Rattle.theory.specs.FitRows.{means-sizes}
 use Rattle.theory.specs.Columns.{three-or-four}
-use Rattle.theory.specs.Built.{borders-bound}
+use Rattle.theory.specs.Built.{borders-bound, edges-bound}
+use Rattle.theory.specs.Shaping.{sub-up, sub-down, shape-counted}
 use Rattle.theory.specs.SplitTests as split-tests
 use Rattle.theory.specs.ContractTests as contract-tests
-use Rattle.answer.specs.Packing.{Fits}
+use Rattle.answer.specs.Packing.{Fits, HasRoom}
 use Rattle.swap.specs.Swaps.{refuses-by, becomes-swapped}
 use Rattle.runs.specs.Runs.{walked-answers}
 use Rattle.runs.specs.Demand3.{list-counted}
@@ -99,11 +102,7 @@ module _ (n : ℕ) (L : List ℕ) (z : Sized n L) where
   numbered k h t = number-small k t h (first-number k t)
 
   counts-fit : Fits (gives (borders L) (edges L))
-  unfolding edges countSides
-  counts-fit = (
-    omega (arith, borders-bound L),
-    omega (arith, borders-bound L, count-bound (sideWith L (λ s. true)) (length L)),
-  )
+  counts-fit = (omega (arith, borders-bound L), omega (arith, edges-bound L))
 
   rows-fit : (rest : Answer) → Fits rest → Fits (rowChecks n L rest)
   unfolding unfitCorner repeatedCorner
@@ -179,6 +178,30 @@ contract-fits w P s =
   where
     becomes-sized : Accepted (w .n) (held w) → (n′ : ℕ) (L′ : List ℕ) → contract (w .n) (held w) s ≡ becomes n′ L′ → Sized n′ L′
     becomes-sized old n′ L′ e = means-sizes n′ L′ .says (contract-sizes (w .n) (held w) s old e)
+
+-- the number of a shape
+pub shape-small : (n : ℕ) (L : List ℕ) → Accepted n L → HasRoom (shape n L)
+unfolding rowsFit
+shape-small n L x =
+    let z = means-sizes n L .says (passes (sizesFit n L) _ (x .rows) .0) in
+    let (few, edged) = counts-fit n L z in
+    elim (le-or-lt (edges L) (n + elements L)) [
+      | inl h ↦ subst HasRoom (sym (shape-counted n L x ∙ sub-up (n + elements L) (edges L) h)) (omega arith)
+      | inr h ↦ subst HasRoom (sym (shape-counted n L x ∙ sub-down (n + elements L) (edges L) h)) (omega arith)
+    ]
+
+signed-fits : (z : ℤ) → HasRoom z → Fits (signed z)
+unfolding complement signed
+signed-fits (pos x) h = omega arith
+signed-fits (negsuc x) h = omega arith
+
+pub shape-fits : (n : ℕ) (L work : List ℕ) → Fits (shapeAnswer n L work)
+unfolding shapeAnswer listShape
+shape-fits n L work =
+    lengths-fit (sizesFit n L) _ _
+    (λ s l.
+    once-fits (listAnswer n L) _ (list-fits n L (means-sizes n L .says s))
+    (λ k e g. signed-fits (shape n L) (shape-small n L (list-counted n L s k e g .0))))
 
 pub siblings-fits : (n : ℕ) (L : List ℕ) (w : SiblingBuffers) → Fits (siblingsAnswer n L w)
 unfolding siblingsAnswer

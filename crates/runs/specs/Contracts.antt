@@ -33,6 +33,8 @@ use Rattle.split.proofs.split.Reads as split-reads
 use Rattle.contract.proofs.contract.Kinds as contract-kinds
 use Rattle.contract.proofs.contract.Reads as contract-reads
 use Rattle.sibling_map.specs.Mapping.{lentMaps}
+use Rattle.shape.proofs.shape.Kinds as shape-kinds
+use Rattle.shape.proofs.shape.Reads as shape-reads
 use Rattle.sibling_map.proofs.siblings.Kinds as siblings-kinds
 use Rattle.sibling_map.proofs.siblings.Reads as siblings-reads
 use Rattle.rings.proofs.ring.Kinds as ring-kinds
@@ -54,7 +56,7 @@ use Rattle.walker.specs.declared.Call.the-variants.{Start, Step}
 use Rattle.walker.specs.Walkers.{recordOf, movedOf, calledBy}
 use Rattle.walker.proofs.call_at.Kinds as call-at-kinds
 use Rattle.walker.proofs.call_at.Reads as call-at-reads
-use Rattle.runs.specs.Runs.{StartRun, StepRun, BuildRun, RecoverRun, SiblingsRun, SwapRun}
+use Rattle.runs.specs.Runs.{StartRun, StepRun, BuildRun, RecoverRun, SiblingsRun, SwapRun, ShapeRun}
 use Rattle.runs.specs.Runs.{SplitRun, ContractRun, RingRun, NeighboursRun, BorderLoopRun, HolesRun}
 
 -- next_side(row, i) and previous_side(row, i)
@@ -89,6 +91,11 @@ module _ (κs : Lfts 4) (a : Dens κs siblings-kinds.ps) (r : resT siblings-kind
       → SiblingsRun (a .0) (a .1 .0 .now) (lentMaps (a .1 .1 .0 .now) (a .1 .1 .1 .0 .now) (a .1 .1 .1 .1 .0 .now)) (numbers r)
       (lentMaps (s .1 .1 .0 .now) (s .1 .1 .1 .0 .now) (s .1 .1 .1 .1 .0 .now))
   siblings-run p = record { answer = p .0; leaves = p .1 }
+
+-- shape(n, list, work)
+module _ (κs : Lfts 2) (a : Dens κs shape-kinds.ps) (r : resT shape-kinds.r κs .Denot) (s : AtExit (endedOf 2 shape-kinds.ps shape-kinds.r) κs) where
+  pub shape-run : shape-reads.Post κs a r s → ShapeRun (a .0) (a .1 .0 .now) (a .1 .1 .0 .now) (numbers r) (s .1 .1 .0 .now)
+  shape-run p = record { answer = p .0; clears = p .1 }
 
 -- swap(n, m, list, v2e, e2e, b2e, work, code)
 module _ (κs : Lfts 5) (a : Dens κs swap-kinds.ps) (r : resT swap-kinds.r κs .Denot) (s : AtExit (endedOf 5 swap-kinds.ps swap-kinds.r) κs) where

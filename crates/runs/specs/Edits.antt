@@ -81,7 +81,7 @@ zero-over old xs buffer p h i =
     ∙ getD-replicate {A = ℕ} (old - length xs) (p - length xs) 0 0 (omega arith)
 
 -- what a run of build says of a list with fit sizes, in buffers of fit lengths
-build-tried : (n : ℕ) (L : List ℕ) (u : Buffers) (b : Answer) (u′ : Buffers) → BuildRun n L u b u′ → T (sizesFit n L) → T (buildLengths n L u)
+pub build-tried : (n : ℕ) (L : List ℕ) (u : Buffers) (b : Answer) (u′ : Buffers) → BuildRun n L u b u′ → T (sizesFit n L) → T (buildLengths n L u)
     → b ≡ roomCheck (length (u .border)) (listAnswer n L)
 unfolding buildAnswer lengthChecks
 build-tried n L u b u′ run sizes lengths =

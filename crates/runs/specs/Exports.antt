@@ -1,19 +1,22 @@
--- What each exported call returns, taken apart by the header's three formulas, is the rule's answer. `Post` is the call's own contract.
+-- What each exported call returns, taken apart by the header's formulas, is the rule's answer. `Post` is the call's own contract.
 -- Assumes nothing.
-use mathlib.Core.Path.{_≡_}
+use mathlib.Core.Path.{_≡_, refl, ap, _∙_}
 use contract.Lifetimes.{Lfts}
 use borrow.Fn.Kinds.{Dens, resT, endedOf}
 use denote.Triple.Clauses.{AtExit}
+use lib.Dec.{T}
+use Rattle.rules.specs.Pairing.{Accepted}
 use Rattle.rules.specs.Refusals.{buildAnswer, recoverAnswer}
 use Rattle.rules.specs.Siblings.{siblingsAnswer}
 use Rattle.rules.specs.Swap.{swapAnswer}
 use Rattle.rules.specs.Split.{splitAnswer}
 use Rattle.rules.specs.Contract.{contractAnswer}
+use Rattle.rules.specs.Shape.{shape, shapeLengths, shapeAnswer}
 use Rattle.rules.specs.Holes.{holesAnswer}
 use Rattle.rules.specs.Queries.{told as mesh-of}
 use Rattle.rules.specs.Queries.{Mesh, columnsAnswer, oppositeAnswer, nextAnswer, previousAnswer, elementAnswer, originAnswer, destinationAnswer, acrossAnswer}
 use Rattle.rules.specs.Queries.{halfEdgeBorderAnswer, vertexBorderAnswer, ringAnswer, neighboursAnswer, borderLoopAnswer, walkerStart, walkerStep}
-use Rattle.answer.specs.Numbers.{unpacked}
+use Rattle.answer.specs.Numbers.{packedAnswer, unpacked, signedIn}
 use Rattle.borzhanu.proofs.borzhanu_build.Kinds as build-kinds
 use Rattle.borzhanu.proofs.borzhanu_build.Reads as build-reads
 use Rattle.borzhanu.proofs.borzhanu_columns.Kinds as columns-kinds
@@ -28,6 +31,8 @@ use Rattle.borzhanu.proofs.borzhanu_split.Kinds as split-kinds
 use Rattle.borzhanu.proofs.borzhanu_split.Reads as split-reads
 use Rattle.borzhanu.proofs.borzhanu_contract.Kinds as contract-kinds
 use Rattle.borzhanu.proofs.borzhanu_contract.Reads as contract-reads
+use Rattle.borzhanu.proofs.borzhanu_shape.Kinds as shape-kinds
+use Rattle.borzhanu.proofs.borzhanu_shape.Reads as shape-reads
 use Rattle.borzhanu.proofs.borzhanu_opposite.Kinds as opposite-kinds
 use Rattle.borzhanu.proofs.borzhanu_opposite.Reads as opposite-reads
 use Rattle.borzhanu.proofs.borzhanu_next.Reads as next-reads
@@ -52,10 +57,11 @@ use Rattle.edits.specs.Holding.{lentSized}
 use Rattle.sibling_map.specs.Mapping.{lentMaps}
 use Rattle.holes.specs.Marks.{lentHoles}
 use Rattle.borzhanu.specs.Walkers.{walkerIn}
-use Rattle.answer.specs.Packing.{told}
+use Rattle.answer.specs.Packing.{told, signed-told}
 use Rattle.runs.specs.Contracts.{buffers, of}
+use Rattle.runs.specs.Shapes.{tells}
 use Rattle.runs.specs.Bounds.{build-fits, columns-fits, recover-fits, siblings-fits, swap-fits, split-fits}
-use Rattle.runs.specs.Bounds.{contract-fits, opposite-fits, next-fits, previous-fits, element-fits, origin-fits, destination-fits}
+use Rattle.runs.specs.Bounds.{contract-fits, shape-small, shape-fits, opposite-fits, next-fits, previous-fits, element-fits, origin-fits, destination-fits}
 use Rattle.runs.specs.Bounds.{across-fits, half-edge-border-fits, vertex-border-fits, ring-fits, neighbours-fits}
 use Rattle.runs.specs.Bounds.{border-loop-fits, holes-fits, start-fits, step-fits}
 
@@ -96,6 +102,18 @@ module _ (κs : Lfts 7) (a : Dens κs contract-kinds.ps) (r : resT contract-kind
       ≡ contractAnswer (lentSized (a .0 .now) (a .1 .0 .now) (a .1 .1 .0 .now) (a .1 .1 .1 .0 .now) (a .1 .1 .1 .1 .0 .now) (a .1 .1 .1 .1 .1 .1 .0 .now))
       (a .1 .1 .1 .1 .1 .0 .now) (a .1 .1 .1 .1 .1 .1 .1 .0)
   contract-told p = told _ (contract-fits _ _ _) r (p .0)
+
+-- borzhanu_shape(n, elements, work)
+module _ (κs : Lfts 2) (a : Dens κs shape-kinds.ps) (r : resT shape-kinds.r κs .Denot) (s : AtExit (endedOf 2 shape-kinds.ps shape-kinds.r) κs) where
+  pub shape-told : shape-reads.Post κs a r s → unpacked r ≡ shapeAnswer (a .0) (a .1 .0 .now) (a .1 .1 .0 .now)
+  shape-told p = told _ (shape-fits _ _ _) r (p .0)
+
+  -- of an accepted list borzhanu_signed gives the number
+  pub number-told : shape-reads.Post κs a r s → Accepted (a .0) (a .1 .0 .now) → T (shapeLengths (a .0) (a .1 .0 .now) (a .1 .1 .0 .now))
+      → signedIn r ≡ shape (a .0) (a .1 .0 .now)
+  number-told p x long =
+      signed-told (shape (a .0) (a .1 .0 .now)) (shape-small _ _ x) r
+      (p .0 ∙ ap packedAnswer (tells _ _ _ _ _ (record { answer = refl; clears = p .1 }) long x))
 
 module _ (κs : Lfts 1) (a : Dens κs columns-kinds.ps) (r : resT columns-kinds.r κs .Denot) (s : AtExit (endedOf 1 columns-kinds.ps columns-kinds.r) κs) where
   pub columns-told : columns-reads.Post κs a r s → unpacked r ≡ columnsAnswer (a .0) (a .1 .0 .now)

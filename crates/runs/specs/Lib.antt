@@ -15,6 +15,7 @@ pub mod SplitPoints
 pub mod Contractions
 pub mod ContractionPoints
 pub mod SplitThenContract
+pub mod Shapes
 pub mod SwapBack
 pub mod Bounds
 pub mod Exports

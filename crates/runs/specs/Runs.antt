@@ -14,6 +14,7 @@ use Rattle.rules.specs.Edits.{Edited, Lent, held, editAnswer, editLeaves}
 use Rattle.rules.specs.Swap.{swap}
 use Rattle.rules.specs.Split.{hasPoints, split, splitPoints}
 use Rattle.rules.specs.Contract.{contract, contractPoints}
+use Rattle.rules.specs.Shape.{shapeAnswer, shapeWork}
 use Rattle.rules.specs.Queries.{Mesh, oppositeAnswer, nextAnswer, previousAnswer, elementAnswer, originAnswer, destinationAnswer, acrossAnswer}
 use Rattle.rules.specs.Queries.{halfEdgeBorderAnswer, vertexBorderAnswer, ringAnswer, ringLeaves, neighboursAnswer, neighboursLeaves}
 use Rattle.rules.specs.Queries.{borderLoopAnswer, borderLoopLeaves, Walker, walked, walkerStart, walkerStep}
@@ -52,6 +53,11 @@ pub record SplitRun (w : Lent) (P : List Float) (s : ℕ) (a : Answer) (w′ : L
 pub record ContractRun (w : Lent) (P : List Float) (s : ℕ) (a : Answer) (w′ : Lent) (P′ : List Float) : Type 0 where
   pub edit : EditRun (hasPoints (w .n) P) (contract (w .n) (held w) s) w a w′
   pub points : P′ ≡ contractPoints w P s
+
+-- a run of the query for the shape
+pub record ShapeRun (n : ℕ) (L work : List ℕ) (a : Answer) (work′ : List ℕ) : Type 0 where
+  pub answer : a ≡ shapeAnswer n L work
+  pub clears : work′ ≡ shapeWork n L work
 
 -- runs of the queries that write a list
 pub record RingRun (M : Mesh) (v : ℕ) (out : List ℕ) (a : Answer) (out′ : List ℕ) : Type 0 where

@@ -2,11 +2,11 @@
 -- Assumes nothing.
 use mathlib.Core.Path.{_≡_, refl, ap, sym, subst, _∙_}
 use mathlib.Core.Bool.{Bool, true, false, not}
-use mathlib.Core.List.{List}
-use Prim.Native.Nat.{ℕ, _+_, _*_, _/_, _≤_}
+use mathlib.Core.List.{List, _++_}
+use Prim.Native.Nat.{ℕ, _+_, _*_, _-_, _/_, _≤_}
 use native.Mathlib.Omega.{arith}
 use lib.Dec.{T, eqb}
-use lib.ListN.{length, take, drop}
+use lib.ListN.{length, take, drop, length-take, length-append, length-drop}
 use Rattle.lists.specs.TestLaws.{Means}
 use Rattle.lists.specs.Search.{at}
 use Rattle.lists.specs.SearchLaws.{count-bound}
@@ -38,6 +38,11 @@ use Rattle.ordered.specs.Standing.{Standing}
 pub record Sized (n : ℕ) (L w : List ℕ) : Type 0 where
   pub sizes : T (sizesFit n L)
   pub long : length w ≡ n + 12 * elements L
+
+-- the sizes are fit, and a buffer has that room in its front
+pub record Roomy (n : ℕ) (L work : List ℕ) : Type 0 where
+  pub sizes : T (sizesFit n L)
+  pub room : n + 12 * elements L ≤ length work
 
 -- checks 3 to 7, and then the element that 18 finds
 abbrev pub fitPairs : List ℕ → Answer
@@ -81,6 +86,21 @@ module _ {P : List ℕ → Type 0} where
   restated : {stated stated′ a : Answer} {w w₀ w′ : List ℕ} → stated′ ≡ stated → length w ≡ length w₀ → Leaves P stated a w w′
       → Leaves P stated′ a w₀ w′
   restated e l x = record { answer = x .answer ∙ sym e; holds = x .holds; long = x .long ∙ l }
+
+-- the front of a longer buffer, as it is lent and as it comes back, with the rest behind it; n as an index is a
+module _ {n : ℕ} {L work : List ℕ} (x : Roomy n L work) {a : ℕ} (index : a ≡ n) where
+  pub front-fits : a + 12 * elements L ≤ length work
+  front-fits = omega (arith, x .room)
+
+  pub front-long : length (take (a + 12 * elements L - 0) work) ≡ n + 12 * elements L
+  front-long = simp length-take (omega (arith, x .room))
+
+  pub front-sized : Sized n L (take (a + 12 * elements L - 0) work)
+  front-sized = record { sizes = x .sizes; long = front-long }
+
+  pub as-long : {stated t : Answer} {w : List ℕ} → Tabulated n L stated t (take (a + 12 * elements L - 0) work) w →
+      length (w ++ drop (a + 12 * elements L - 0) work) ≡ length work
+  as-long y = simp (length-append, length-drop) (omega (arith, y .long ∙ front-long, x .room))
 
 -- w₀ has become w, which holds the sibling map; n as an index is a
 pub record Grouping (n a : ℕ) (L w₀ w : List ℕ) : Type 0 where

@@ -15,7 +15,7 @@ use Rattle.lists.specs.Search.{at}
 use Rattle.lists.specs.SearchLaws.{count-bound}
 use Rattle.rules.specs.Elements.{elements, isSide, Side, origin, destination, sideWith, countSides}
 use Rattle.rules.specs.Pairing.{SideAt, rowsFit, sizesFit, unfitCorner, repeatedCorner}
-use Rattle.rules.specs.Tables.{partner, isBorder, b2e, borderNumber, borders, columns, e2e, v2e}
+use Rattle.rules.specs.Tables.{partner, isBorder, b2e, borderNumber, borders, columns, e2e, v2e, edges}
 use Rattle.rules.specs.Refusals.{Answer, lengthChecks}
 use Rattle.rules.specs.Queries.{Mesh, queryLengths, asked, read, bySide, byEntry, isBorderCode, isHalfEdge, isEntry, isVertex, readOpposite, readBorderSide, readVertexEntry, readOrigin, readDestination}
 use Rattle.theory.specs.Sides.{side-facts, side-positive}
@@ -38,6 +38,10 @@ checks-pass false y a s t = absurd s
 pub borders-bound : (L : List ℕ) → borders L ≤ length L
 unfolding borders countSides
 borders-bound L = count-bound (sideWith L (isBorder L)) (length L)
+
+pub edges-bound : (L : List ℕ) → edges L ≤ length L
+unfolding edges countSides
+edges-bound L = omega (arith, borders-bound L, count-bound (sideWith L (λ s. true)) (length L))
 
 module _ (n : ℕ) (L : List ℕ) (fit : Fit n L) where
   sizes : T (sizesFit n L)

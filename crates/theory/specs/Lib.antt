@@ -63,6 +63,8 @@ pub mod Built
 pub mod Rims
 pub mod ContractBorders
 pub mod ContractCounts
+pub mod Joined
+pub mod Shaping
 pub mod Rings
 pub mod Opposites
 pub mod Loops

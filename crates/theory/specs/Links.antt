@@ -157,7 +157,7 @@ module _ (L : List ℕ) (d : ℕ) (x : Diagonal L d) where
 
 module _ (n : ℕ) (L : List ℕ) (fit : Fit n L) where
   -- the vertices of a side of fit rows
-  side-ends : (s : ℕ) → Side L s → (1 ≤ lesser L s) × (lesser L s < greater L s) × (greater L s ≤ n)
+  pub side-ends : (s : ℕ) → Side L s → (1 ≤ lesser L s) × (lesser L s < greater L s) × (greater L s ≤ n)
   unfolding lesser greater
   side-ends s a =
       let d = ends-differ n L fit s a in

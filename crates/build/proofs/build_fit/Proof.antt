@@ -6,7 +6,8 @@ use Prim.Native.Nat.{_+_, _*_, _-_}
 use lib.ListN.{drop}
 use Rattle.rules.specs.Elements.{elements}
 use Rattle.answer.specs.Numbers.{numbers}
-use Rattle.build.specs.Building.{Checked, front-fits, sized, Scratched, scratched, refused-on, short-on, commits, counts-on}
+use Rattle.tabulate.specs.Results.{front-fits, front-sized}
+use Rattle.build.specs.Building.{Checked, roomy, Scratched, scratched, refused-on, short-on, commits, counts-on}
 use borrow.Author.Needs.{needs}
 use Rattle.build.proofs.build_fit.Statement.{statement}
 use Rattle.build.proofs.build_fit.Tie as tie
@@ -38,7 +39,7 @@ scratch : (c : tie.After-tabulate) →
     let a = start c .args in
     let end = c .before .before .wide .result + 12 * elements (a .list .now) in
     Scratched (a .n) (a .list .now) (numbers (c .tabulate .result)) (a .work .now) (c .tabulate .last .1 .1 .0 ++ drop (end - 0) (a .work .now))
-scratch c = scratched (known (start c)) (c .before .before .wide .ensures) (c .tabulate .ensures)
+scratch c = scratched (roomy (known (start c))) (c .before .before .wide .ensures) (c .tabulate .ensures)
 
 wide-requires : tie.Need-wide-requires
 wide-requires c κs = search needs
@@ -56,10 +57,10 @@ part-tabulate-start : tie.Need-part-tabulate-start
 part-tabulate-start c = search needs
 
 part-tabulate-end : tie.Need-part-tabulate-end
-part-tabulate-end c = let h = front-fits (known (begun c)) (c .wide .ensures) in search needs
+part-tabulate-end c = let h = front-fits (roomy (known (begun c))) (c .wide .ensures) in search needs
 
 tabulate-requires : tie.Need-tabulate-requires
-tabulate-requires c κs = sized (known (begun (c .before))) (c .before .wide .ensures)
+tabulate-requires c κs = front-sized (roomy (known (begun (c .before)))) (c .before .wide .ensures)
 
 enum-known-t : tie.Need-enum-known-t
 enum-known-t c = search needs

@@ -1,6 +1,7 @@
 -- `edits::try_old` meets its contract.
 -- Assumes nothing.
-use Rattle.build.specs.Building.{front-fits, sized, scratched}
+use Rattle.tabulate.specs.Results.{front-fits, front-sized}
+use Rattle.build.specs.Building.{roomy, scratched}
 use borrow.Author.Needs.{needs}
 use Rattle.edits.proofs.try_old.Statement.{statement}
 use Rattle.edits.proofs.try_old.Tie as tie
@@ -24,10 +25,10 @@ part-tabulate-start : tie.Need-part-tabulate-start
 part-tabulate-start c = search needs
 
 part-tabulate-end : tie.Need-part-tabulate-end
-part-tabulate-end c = let h = front-fits (start c .pre .checked) (c .wide .ensures) in search needs
+part-tabulate-end c = let h = front-fits (roomy (start c .pre .checked)) (c .wide .ensures) in search needs
 
 tabulate-requires : tie.Need-tabulate-requires
-tabulate-requires c κs = let w = c .before in sized (start w .pre .checked) (w .wide .ensures)
+tabulate-requires c κs = let w = c .before in front-sized (roomy (start w .pre .checked)) (w .wide .ensures)
 
 same-length : tie.Need-same-length
 same-length c = search needs
@@ -35,7 +36,7 @@ same-length c = search needs
 returns : tie.Need-returns
 returns c =
     let done = c .before .before in
-    let w = done .before .before in scratched (start w .pre .checked) (w .wide .ensures) (done .tabulate .ensures)
+    let w = done .before .before in scratched (roomy (start w .pre .checked)) (w .wide .ensures) (done .tabulate .ensures)
 
 pub try-old-spec : {M : Type 1} → statement M
 try-old-spec =

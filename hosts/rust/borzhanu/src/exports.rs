@@ -91,6 +91,8 @@ extern "C" {
         work_len: usize,
     ) -> u64;
 
+    pub fn borzhanu_shape(n: u32, elements: *const u32, elements_len: usize, work: *mut u32, work_len: usize) -> u64;
+
     pub fn borzhanu_swap(
         size: *mut Size,
         elements: *mut u32,

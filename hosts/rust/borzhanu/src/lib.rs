@@ -138,9 +138,29 @@
 //! # Ok::<(), borzhanu::Refusal>(())
 //! ```
 //!
-//! [`columns`], [`build`], [`recover`], [`siblings()`], [`swap`], [`split`], [`contract`] and [`Mesh`] are the kernel's own
-//! calls, on buffers that the caller lends; these allocate nothing. Half-edges are codes there, which [`side`], [`border`]
-//! and [`HalfEdge`] make, and code 0 names nothing:
+//! What a housing is as a whole shows in one number, vertices − edges + elements: 2 for each piece, 1 less for each opening
+//! and 2 less for each handle, and 1 more for each vertex that no element uses. No edit changes it:
+//!
+//! ```
+//! use borzhanu::{HalfEdge, OwnedMesh};
+//!
+//! // A plate of triangles, on vertices 1 to 3 around and 4 to 6 within, about a cable hole.
+//! let rows = [[1, 2, 4, 0], [2, 5, 4, 0], [2, 3, 5, 0], [3, 6, 5, 0], [3, 1, 6, 0], [1, 4, 6, 0]];
+//! let mut plate = OwnedMesh::build(6, &rows)?;
+//! assert_eq!((plate.n(), plate.counts().edges, plate.m()), (6, 12, 6));
+//!
+//! // One piece, whose openings are the outer rim and the hole.
+//! assert_eq!((plate.shape(), plate.tables().holes().count()), (0, 2));
+//!
+//! plate.split(HalfEdge::side(1, 1))?;
+//! plate.swap(HalfEdge::side(3, 3))?;
+//! assert_eq!((plate.n(), plate.shape()), (7, 0));
+//! # Ok::<(), borzhanu::Refusal>(())
+//! ```
+//!
+//! [`columns`], [`build`], [`recover`], [`siblings()`], [`shape`], [`swap`], [`split`], [`contract`] and [`Mesh`] are the
+//! kernel's own calls, on buffers that the caller lends; these allocate nothing. Half-edges are codes there, which
+//! [`side`], [`border`] and [`HalfEdge`] make, and code 0 names nothing:
 //!
 //! ```
 //! use borzhanu::{build, columns, recover, work_length, Mesh};
@@ -219,8 +239,8 @@ pub const fn border(b: u32) -> u32 {
     8 * b
 }
 
-/// The least length of the work buffer of [`build`], [`recover`], [`siblings()`], [`swap`], [`split`], [`contract`] and
-/// [`Mesh::holes`] for n vertices and m elements.
+/// The least length of the work buffer of [`build`], [`recover`], [`siblings()`], [`shape`], [`swap`], [`split`],
+/// [`contract`] and [`Mesh::holes`] for n vertices and m elements.
 pub const fn work_length(n: u32, m: usize) -> usize {
     n as usize + 16 * m
 }
@@ -260,6 +280,12 @@ fn first_number(returned: u64) -> Result<u32, Refusal> {
 
 fn counted(returned: u64) -> Result<Counts, Refusal> {
     taken_apart(returned).map(|(borders, edges)| Counts { borders, edges })
+}
+
+/// The signed number that the two numbers of an answer are together: 56 bits, in two's complement.
+fn signed(returned: u64) -> Result<i64, Refusal> {
+    // The upper eight bits, those of the refusal, become copies of the sign.
+    taken_apart(returned).map(|_| (returned << 8) as i64 >> 8)
 }
 
 /// The columns of E2e for an element list: 3 where no row has a fourth corner, so also where there is no row, else 4.
@@ -394,6 +420,42 @@ pub fn siblings(
         )
     };
     taken_apart(returned).map(|_| ())
+}
+
+/// The shape of an element list in one signed number, n − edges + m. An edge is two vertices that a side joins, counted once
+/// however many sides join them, and anew in each call. [`Tables::shape`] and [`OwnedMesh::shape`] have this without a
+/// buffer to lend.
+///
+/// The number is 2 × pieces − openings − 2 × handles + the vertices that no element uses, where the outer rim of an open
+/// plate is an opening too: 2 for a closed housing without handles, 1 for a plate, 0 for a duct, which has two openings, and
+/// for a ring duct, which has a handle; less than 0 for a plate with two windows. [`swap`], [`split`] and [`contract`] never
+/// change it, answered or refused.
+///
+/// `work` has at least [`work_length`] entries, and what it holds before doesn't matter. After 1 and 2 it is as it was; after
+/// everything else all of it is zero. Nothing else is written.
+///
+/// # Errors
+///
+/// Refusals 1 to 4, 6 to 8 and 18, in this order, as [`build`] has them; 2 is for `work` alone.
+///
+/// ```
+/// use borzhanu::{shape, work_length, Refusal};
+///
+/// // A plate of five cells by three, on vertices six by four, without two cells within.
+/// let cells = (0..15).filter(|at| ![6, 8].contains(at)).map(|at| 1 + at + at / 5);
+/// let plate: Vec<[u32; 4]> = cells.map(|v| [v, v + 1, v + 7, v + 6]).collect();
+/// let mut work = vec![0; work_length(24, 13)];
+/// assert_eq!(shape(24, plate.as_flattened(), &mut work)?, 24 - 38 + 13);
+///
+/// // The work buffer has an entry too few for another vertex.
+/// assert_eq!(shape(25, plate.as_flattened(), &mut work), Err(Refusal::Lengths));
+/// # Ok::<(), borzhanu::Refusal>(())
+/// ```
+pub fn shape(n: u32, elements: &[u32], work: &mut [u32]) -> Result<i64, Refusal> {
+    // SAFETY: each pointer has its slice's own length, and the kernel stays within these.
+    let returned =
+        unsafe { exports::borzhanu_shape(n, elements.as_ptr(), elements.len(), work.as_mut_ptr(), work.len()) };
+    signed(returned)
 }
 
 /// Swaps the diagonal of two triangles in an element list, and writes the tables of the new list. [`OwnedMesh`] has this

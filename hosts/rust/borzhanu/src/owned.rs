@@ -116,6 +116,29 @@ impl OwnedMesh {
         self.tables.counts()
     }
 
+    /// The number n − edges + m, as [`Tables::shape`] has it, but with the mesh's own work buffer, so that nothing is
+    /// allocated. There is nothing to refuse here, since the list is at all times one that was built. No edit changes the
+    /// number, answered or refused.
+    ///
+    /// ```
+    /// use borzhanu::{HalfEdge, OwnedMesh, Refusal};
+    ///
+    /// // A plate of two triangles: one piece and one opening, its outer rim.
+    /// let mut plate = OwnedMesh::build(4, &[[1, 2, 3, 0], [1, 3, 4, 0]])?;
+    /// assert_eq!(plate.shape(), 1);
+    ///
+    /// plate.split(HalfEdge::side(1, 3))?;
+    /// plate.split(HalfEdge::side(1, 2))?;
+    /// assert_eq!((plate.n(), plate.counts().edges, plate.m(), plate.shape()), (6, 10, 5, 1));
+    ///
+    /// assert_eq!(plate.contract(HalfEdge::border(1)), Err(Refusal::EdgeUnfit));
+    /// assert_eq!(plate.shape(), 1);
+    /// # Ok::<(), borzhanu::Refusal>(())
+    /// ```
+    pub fn shape(&mut self) -> i64 {
+        self.tables.shape_with(&mut self.work)
+    }
+
     /// Swaps the diagonal of two triangles, named by a side of either. Where it runs from a to b, with c the third corner
     /// of its triangle and d that of its partner's, its row becomes (c, a, d) and the partner's row (d, b, c). Every
     /// other row stays, and so do both counts, which it gives.

@@ -1,6 +1,6 @@
 //! An element list with its tables, owned.
 
-use crate::{build, columns, contract, split, swap, work_length};
+use crate::{build, columns, contract, shape, split, swap, work_length};
 use crate::{Counts, HalfEdge, Holes, Mesh, Refusal, Size, VertexKind, Walker};
 
 /// An element list and the tables that were built of it. Whatever is asked of them, the only refusal is
@@ -237,6 +237,32 @@ impl Tables {
     /// every border loop of built tables comes back.
     pub fn holes(&self) -> Holes {
         Holes::of(&self.mesh()).expect("every border loop of built tables comes back")
+    }
+
+    /// The number n − edges + m, which tells the shape: 2 × pieces − openings − 2 × handles + the vertices that no element
+    /// uses. There is nothing to refuse here, since the list was built. The edges are counted anew, in time linear in
+    /// n + m.
+    ///
+    /// ```
+    /// use borzhanu::Tables;
+    ///
+    /// // A box of six plates: one piece, closed. And without its lid, which leaves an opening.
+    /// let plates = [[1, 4, 3, 2], [1, 2, 6, 5], [2, 3, 7, 6], [3, 4, 8, 7], [4, 1, 5, 8], [5, 6, 7, 8]];
+    /// assert_eq!(Tables::build(8, &plates)?.shape(), 2);
+    /// assert_eq!(Tables::build(8, &plates[..5])?.shape(), 1);
+    ///
+    /// // The closed box and a vertex that no plate uses: there is no opening, and the number isn't 2.
+    /// let tables = Tables::build(9, &plates)?;
+    /// assert_eq!((tables.holes().count(), tables.shape()), (0, 3));
+    /// # Ok::<(), borzhanu::Refusal>(())
+    /// ```
+    pub fn shape(&self) -> i64 {
+        self.shape_with(&mut vec![0; work_length(self.n, self.rows.len())])
+    }
+
+    /// The same, with a work buffer that is long enough.
+    pub(crate) fn shape_with(&self, work: &mut [u32]) -> i64 {
+        shape(self.n, self.rows.as_flattened(), work).expect("the list was accepted")
     }
 
     /// Walks about a vertex, element by element, with no list to fill. About an unused vertex the walk is over at once.

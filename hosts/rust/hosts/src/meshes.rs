@@ -1,5 +1,6 @@
 //! Element lists to try the calls on: housings that are sound, and housings that aren't.
 
+pub mod shaped;
 pub mod stiffened;
 
 /// A generator of numbers that a seed fixes.
@@ -233,11 +234,22 @@ fn push_cell(rows: &mut Vec<[u32; 4]>, [a, b, c, d]: [u32; 4], kinds: Kinds, dic
 
 /// A sheet of width × height cells. Closed in one direction it is a tube, in both it has no border.
 pub fn sheet(width: u32, height: u32, closed: (bool, bool), kinds: Kinds, dice: &mut Dice) -> List {
+    sheet_of((width, height), closed, |_, _| true, kinds, dice)
+}
+
+/// The same with only those cells, by column and line from 0, that are there.
+fn sheet_of(
+    (width, height): (u32, u32),
+    closed: (bool, bool),
+    is_there: impl Fn(u32, u32) -> bool,
+    kinds: Kinds,
+    dice: &mut Dice,
+) -> List {
     let columns = width + !closed.0 as u32;
     let lines = height + !closed.1 as u32;
     let vertex = |x: u32, y: u32| 1 + x % columns + columns * (y % lines);
     let mut rows = Vec::new();
-    for (y, x) in (0..height).flat_map(|y| (0..width).map(move |x| (y, x))) {
+    for (y, x) in (0..height).flat_map(|y| (0..width).map(move |x| (y, x))).filter(|&(y, x)| is_there(x, y)) {
         let cell = [vertex(x, y), vertex(x + 1, y), vertex(x + 1, y + 1), vertex(x, y + 1)];
         push_cell(&mut rows, cell, kinds, dice);
     }

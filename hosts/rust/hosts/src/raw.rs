@@ -1,6 +1,6 @@
 //! The archive's queries as include/borzhanu.h declares them, to be told any columns on buffers of any length. The
-//! wrapper's meshes have fit lengths and tell their own columns. And siblings, whose two numbers the wrapper drops, and
-//! edits, where it drops the places of refusals that have none.
+//! wrapper's meshes have fit lengths and tell their own columns. And siblings, whose two numbers the wrapper drops, shape,
+//! where it makes one number of the two, and edits, where it drops the places of refusals that have none.
 
 use crate::reference::Refused;
 
@@ -63,6 +63,8 @@ extern "C" {
         work: *mut u32,
         work_len: usize,
     ) -> u64;
+
+    pub fn borzhanu_shape(n: u32, elements: *const u32, elements_len: usize, work: *mut u32, work_len: usize) -> u64;
 
     pub fn borzhanu_swap(
         size: *mut u32,

@@ -6,6 +6,7 @@ pub mod contract;
 pub mod edited;
 pub mod holes;
 mod midway;
+pub mod shape;
 pub mod siblings;
 pub mod split;
 pub mod swap;
@@ -29,7 +30,7 @@ pub struct Built {
     pub edges: u32,
 }
 
-/// The lengths of the buffers of building, recovery and siblings.
+/// The lengths of the buffers of building, recovery, siblings and shape.
 #[derive(Clone, Copy, Debug)]
 pub struct Lengths {
     pub elements: usize,

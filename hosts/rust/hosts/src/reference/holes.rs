@@ -67,15 +67,15 @@ fn by_parts(mesh: &Mesh) -> Result<Holes, Refused> {
 }
 
 /// Parts of 0, 1, .. that were joined: each number leads to a lower one of its part, and the least to itself.
-struct Parts(Vec<usize>);
+pub(super) struct Parts(Vec<usize>);
 
 impl Parts {
-    fn new(count: usize) -> Parts {
+    pub(super) fn new(count: usize) -> Parts {
         Parts((0..count).collect())
     }
 
     /// The least of a number's part; the way there gets shorter.
-    fn least(&mut self, mut at: usize) -> usize {
+    pub(super) fn least(&mut self, mut at: usize) -> usize {
         while self.0[at] != at {
             self.0[at] = self.0[self.0[at]];
             at = self.0[at];
@@ -83,7 +83,7 @@ impl Parts {
         at
     }
 
-    fn join(&mut self, a: usize, b: usize) {
+    pub(super) fn join(&mut self, a: usize, b: usize) {
         let (a, b) = (self.least(a), self.least(b));
         self.0[a.max(b)] = a.min(b);
     }

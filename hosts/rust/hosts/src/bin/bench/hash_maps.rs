@@ -132,6 +132,19 @@ pub fn hash_map_holes(elements: &[u32], b2e: &[u32], hole: &mut [u32], lengths: 
     count
 }
 
+/// n − edges + m by a hash set of the two vertices of each edge, with no check of the list.
+pub fn hash_set_shape(n: u32, elements: &[u32]) -> i64 {
+    let mut edges = HashSet::with_capacity(elements.len() / 2);
+    for row in elements.chunks_exact(4) {
+        let corners = corners_of(row);
+        for i in 0..corners {
+            let (origin, destination) = (row[i], row[(i + 1) % corners]);
+            edges.insert((origin.min(destination), origin.max(destination)));
+        }
+    }
+    i64::from(n) - edges.len() as i64 + (elements.len() / 4) as i64
+}
+
 /// Origin and destination of a side.
 pub fn ends(elements: &[u32], side: u32) -> (u32, u32) {
     let (f, i) = ((side / 8) as usize, (side % 8) as usize);

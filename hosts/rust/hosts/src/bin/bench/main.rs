@@ -1,5 +1,5 @@
-//! Times building, recovery, rings, siblings, holes, swaps, splits and contractions, and other means beside them, and
-//! prints tables in Markdown.
+//! Times building, recovery, rings, siblings, holes, shape, swaps, splits and contractions, and other means beside them,
+//! and prints tables in Markdown.
 //!
 //!     bench [FOLDER]               with a folder, also writes lists of triangles to FOLDER/build and FOLDER/holes, for
 //!                                  bench_cpp
@@ -12,9 +12,10 @@ mod hash_maps;
 mod late;
 
 use borzhanu::{
-    build, columns, contract, recover, siblings, split, work_length, Counts, HalfEdge, Mesh, OwnedMesh, Refusal, Size,
+    build, columns, contract, recover, shape, siblings, split, work_length, Counts, HalfEdge, Mesh, OwnedMesh, Refusal,
+    Size,
 };
-use hash_maps::{ends, hash_map_build, hash_map_holes, hash_map_siblings, FastHasher};
+use hash_maps::{ends, hash_map_build, hash_map_holes, hash_map_siblings, hash_set_shape, FastHasher};
 use hosts::meshes::{book, fan, sheet, Dice, Kinds, List};
 use hosts::raw::taken_apart;
 use hosts::reference::View;
@@ -580,6 +581,43 @@ fn print_refused_holes(dice: &mut Dice) {
     println!();
 }
 
+/// Medians of the milliseconds of the kernel's number, of a build of the same list and of the count by a hash set, runs
+/// interleaved.
+fn shape_times(list: &List) -> [f64; 3] {
+    let (mut kernel, n, entries) = (Kernel::new(list), list.n, list.entries());
+    let [mut shapes, mut builds, mut sets] = [(); 3].map(|()| Vec::new());
+    for _ in 0..ROUNDS {
+        kernel.timed_build(&mut builds).expect("the list is accepted");
+        read_through(&kernel.tables, list);
+        let number = timed(&mut shapes, || shape(n, entries, &mut kernel.work)).expect("the list is accepted");
+        read_through(&kernel.tables, list);
+        assert_eq!(number, timed(&mut sets, || hash_set_shape(n, entries)));
+    }
+    [shapes, builds, sets].map(|times| median(&times))
+}
+
+fn print_shapes(lists: &[(&str, List)]) {
+    println!("## Shape\n");
+    println!(
+        "The lists of 100,000 triangles. Milliseconds of processor time, medians of {ROUNDS} interleaved runs on a"
+    );
+    println!(
+        "work buffer that holds what the run before left, with tables and list read through before each, as in the"
+    );
+    println!("first table, and ratios of the kernel's time. It needs nothing cleared; its time includes all checks of");
+    println!(
+        "the list and clearing its work buffer at the end. The hash set, with the hasher of Rust's library, has the"
+    );
+    println!("two vertices of each edge, is made anew in each run, with room reserved, and nothing is checked.\n");
+    println!("| list | shape | build | ratio | hash set | ratio |");
+    println!("|---|---|---|---|---|---|");
+    for (name, list) in lists {
+        let [shape, build, set] = shape_times(list);
+        println!("| {name} | {shape:.2} | {build:.2} | {:.2} | {set:.2} | {:.2} |", shape / build, shape / set);
+    }
+    println!();
+}
+
 /// Swaps the spokes of an inner vertex until three are left. The neighbours are then joined to each other, so that no
 /// spoke can be swapped any more; one of these is given.
 fn crowded_spoke(mesh: &mut OwnedMesh, v: u32) -> HalfEdge {
@@ -915,6 +953,7 @@ fn print_others(triangles: &[(&'static str, List)], dice: &mut Dice) {
     print_siblings(dice);
     print_holes(dice);
     print_refused_holes(dice);
+    print_shapes(triangles);
     print_swaps(triangles, dice);
     print_edges("Split edges", "split", "the new point", split, triangles);
     print_edges("Contracted edges", "contraction", "the points", contract, triangles);

@@ -2,10 +2,12 @@
 
 use borzhanu::{Counts, Mesh, Refusal, Size, VertexKind, WalkerRecord, MAX_ELEMENTS, MAX_VERTICES};
 use hosts::guarded::{Guarded, Placement};
-use hosts::raw::{borzhanu_contract, borzhanu_siblings, borzhanu_split, borzhanu_swap, taken_apart, WithPoints};
+use hosts::raw::{borzhanu_contract, borzhanu_shape, borzhanu_siblings, borzhanu_split, borzhanu_swap};
+use hosts::raw::{taken_apart, WithPoints};
 use hosts::reference::contract::{contract, Contracted};
 use hosts::reference::edited::{held, held_with_points, NewList};
 use hosts::reference::holes::{self, Holes};
+use hosts::reference::shape::{self, halves};
 use hosts::reference::siblings::{self, Siblings};
 use hosts::reference::split::{split, Split};
 use hosts::reference::swap::swap;
@@ -53,6 +55,10 @@ pub enum Question {
     Siblings,
     /// straight to the archive
     RawSiblings,
+    /// through the wrapper
+    Shape,
+    /// straight to the archive
+    RawShape,
     Query(Way, Query),
     /// asked as a query is
     Holes(Way),
@@ -245,6 +251,12 @@ impl Call<'_> {
         }
     }
 
+    fn expected_shape(&self) -> Outcome {
+        let work_cleared = shape::check(self.n, self.lengths()).is_ok();
+        let answer = shape::shape(self.n, self.elements, self.lengths()).map(halves);
+        Outcome { answer, left: Left { work_cleared, ..Left::default() } }
+    }
+
     fn expected_list(&self, list: Result<Vec<u32>, Refused>) -> Outcome {
         match list {
             Ok(list) if list.len() > self.out.len() => refuses((13, list.len() as u32, 0)),
@@ -329,6 +341,7 @@ impl Call<'_> {
             Question::Recover(m) => self.expected_recovery(m),
             Question::Columns => one_number(reference::columns(self.n, self.elements)),
             Question::Siblings | Question::RawSiblings => self.expected_siblings(),
+            Question::Shape | Question::RawShape => self.expected_shape(),
             Question::Query(way, query) => self.expected_query(way.told(), query),
             Question::Holes(way) => self.expected_holes(way.told()),
             Question::Swap(edge) | Question::RawSwap(edge) => self.expected_swap(edge),
@@ -472,6 +485,14 @@ pub fn refused(refusal: Refusal) -> Refused {
     (refusal.number(), refusal.place().0, refusal.place().1)
 }
 
+/// The wrapper's number in halves, which don't show one that is off by 2^56.
+fn signed(number: i64) -> (u32, u32) {
+    if !(-(1 << 55)..1 << 55).contains(&number) {
+        fail(&format!("the wrapper gave {number}, which isn't a number of 56 bits"));
+    }
+    halves(number)
+}
+
 impl Held<'_> {
     /// Asks the kernel.
     pub fn ask(&mut self, call: &Call) -> Result<(u32, u32), Refused> {
@@ -487,6 +508,8 @@ impl Held<'_> {
                 .map(|()| (0, 0))
                 .map_err(refused),
             Question::RawSiblings => taken_apart(self.ask_raw_siblings(call.n)),
+            Question::Shape => borzhanu::shape(call.n, self.elements, self.work).map(signed).map_err(refused),
+            Question::RawShape => taken_apart(self.ask_raw_shape(call.n)),
             Question::Query(Way::Wrapper, query) => self.ask_wrapper(call, query).map_err(refused),
             Question::Query(Way::Told(columns), query) => taken_apart(self.ask_told(call, columns, query)),
             Question::Holes(Way::Wrapper) => self.ask_wrapper_holes(call).map_err(refused),
@@ -515,6 +538,12 @@ impl Held<'_> {
                 self.work.len(),
             )
         }
+    }
+
+    fn ask_raw_shape(&mut self, n: u32) -> u64 {
+        let (work, work_len) = (self.work.as_mut_ptr(), self.work.len());
+        // SAFETY: each pointer has its slice's own length, and the kernel stays within these.
+        unsafe { borzhanu_shape(n, self.elements.as_ptr(), self.elements.len(), work, work_len) }
     }
 
     fn ask_swap(&mut self, code: u32) -> Result<(u32, u32), Refusal> {

@@ -2,6 +2,7 @@
 
 use crate::call::{fail, watch, Call, Left, Memory, Outcome, Query, Question, Situation, Way};
 use crate::holes::compare_holes;
+use crate::shapes::compare_shape;
 use crate::siblings::{compare_siblings, compare_with_built};
 use borzhanu::{work_length, WalkerRecord};
 use hosts::guarded::{Placement, PLACEMENTS};
@@ -216,10 +217,11 @@ impl Host {
         counts
     }
 
-    /// Siblings, and building with room in B2e; the tables where the list is accepted.
+    /// Siblings, building with room in B2e, and shape; the tables where the list is accepted.
     pub fn build(&mut self, list: &List) -> Option<Tables> {
         let siblings = compare_siblings(self, list);
-        let left = self.compare_build(list, list.n as usize + 3, 0).left;
+        let Outcome { answer, left } = self.compare_build(list, list.n as usize + 3, 0);
+        compare_shape(self, list, answer);
         let tables = Tables::of(list, left.v2e?, left.e2e?, left.b2e?);
         compare_with_built(&tables, &siblings);
         Some(tables)
@@ -249,11 +251,13 @@ impl Host {
         compare_siblings(self, list);
         let want = self.compare_build(list, list.n as usize, 0);
         assert_eq!(want.answer, answer, "the reference, on {} elements", list.rows.len());
+        compare_shape(self, list, answer);
     }
 
     /// Builds a list that is known to be refused after checks 1 and 2; the reference, slow on large lists, isn't asked.
     pub fn build_refused(&mut self, list: &List, refused: Refused) {
         compare_siblings(self, list);
+        compare_shape(self, list, Err(refused));
         let left = Left { work_cleared: true, ..Left::default() };
         self.build_to(list, list.n as usize, 0, Some(Outcome { answer: Err(refused), left }));
     }

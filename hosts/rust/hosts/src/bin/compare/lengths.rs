@@ -32,7 +32,7 @@ fn any_questions(host: &mut Host, m: u32) -> Vec<Question> {
     let counts = [m, m, m, m, m + 1, m - 1, MAX_ELEMENTS + 1, u32::MAX];
     let count = counts[host.dice.below(8) as usize];
     let mut questions = vec![Question::Build, Question::Recover(count), Question::Columns];
-    questions.extend([Question::Siblings, Question::RawSiblings]);
+    questions.extend([Question::Siblings, Question::RawSiblings, Question::Shape, Question::RawShape]);
     questions.extend(QUERIES.map(|query| Question::Query(host.any_way(), query)));
     questions.push(Question::Holes(host.any_way()));
     let edge = Edge { m: count, code: 9 };
@@ -75,7 +75,7 @@ pub fn lengths(host: &mut Host) {
     }
 }
 
-/// Building of a list that clashes, recovery from what its pairing gives, and siblings, with one buffer longer or
+/// Building of a list that clashes, recovery from what its pairing gives, siblings and shape, with one buffer longer or
 /// shorter: 1 and 2 come before 18, and 9 doesn't.
 pub fn lengths_about(host: &mut Host, list: &List) {
     let (n, m) = (list.n, list.rows.len());
@@ -86,7 +86,7 @@ pub fn lengths_about(host: &mut Host, list: &List) {
         let mut buffers = fit.clone();
         buffers[at].resize(fit[at].len().saturating_add_signed(change), 7);
         let [elements, v2e, e2e, b2e, work] = &buffers;
-        for what in [Question::Build, Question::Recover(m as u32), Question::Siblings] {
+        for what in [Question::Build, Question::Recover(m as u32), Question::Siblings, Question::Shape] {
             host.compare(&Call { what, n, elements, v2e, e2e, b2e, work, out: &[], lengths: &[], points: &[] });
         }
     }
@@ -115,6 +115,7 @@ fn compare_sizes(host: &mut Host, elements: &[u32], sizes: Sizes) {
         Question::Recover(m),
         Question::Columns,
         Question::Siblings,
+        Question::RawShape,
         ring,
         holes,
         Question::RawSwap(edge),
@@ -122,7 +123,9 @@ fn compare_sizes(host: &mut Host, elements: &[u32], sizes: Sizes) {
         Question::RawContract(edge),
     ] {
         let work_len = match what {
-            Question::Build | Question::Siblings | Question::Holes(_) if n <= MAX_VERTICES && rows <= MAX_ELEMENTS => {
+            Question::Build | Question::Siblings | Question::RawShape | Question::Holes(_)
+                if n <= MAX_VERTICES && rows <= MAX_ELEMENTS =>
+            {
                 work_length(n, rows as usize)
             }
             Question::Recover(m)

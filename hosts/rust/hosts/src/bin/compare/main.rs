@@ -15,6 +15,7 @@ mod lengths;
 mod numbers;
 mod rooms;
 mod runs;
+mod shapes;
 mod siblings;
 mod splits;
 mod swaps;
@@ -27,6 +28,7 @@ use holes::{compare_holes, holes, large_holes};
 use host::{Host, Tables};
 use hosts::meshes::{any_housing, book, damage, fan, pillow, sheet, Kinds, List};
 use lengths::{about_the_largest, lengths};
+use shapes::{large_shapes, shapes};
 use siblings::{large_siblings, siblings};
 use splits::{large_splits, split_edges};
 use std::env;
@@ -241,6 +243,7 @@ fn largest(host: &mut Host) {
     large_clashes(host);
     large_siblings(host);
     large_holes(host);
+    large_shapes(host);
     large_swaps(host);
     large_splits(host);
     large_contractions(host);
@@ -253,7 +256,7 @@ fn main() {
     let start = Instant::now();
     let mut host = Host::new(seed);
     println!("seed {seed}");
-    let families: [Family; 17] = [
+    let families: [Family; 18] = [
         ("lists of one row", one_row),
         ("lists of two rows", two_rows),
         ("unused vertices", unused_vertices),
@@ -264,6 +267,7 @@ fn main() {
         ("elements that clash", clashes),
         ("edges of many plates", siblings),
         ("holes", holes),
+        ("shapes", shapes),
         ("swapped diagonals", swap_diagonals),
         ("split edges", split_edges),
         ("contracted edges", contract_edges),

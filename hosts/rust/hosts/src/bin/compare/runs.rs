@@ -5,9 +5,10 @@ use crate::edits::{buffers, numbers, refused_late};
 use crate::host::Host;
 use crate::numbers::any_points;
 use crate::rooms::{compare_to, Edit, Numbers, Subject, B2E, ENOUGH};
-use borzhanu::{border, side, swap, work_length, HalfEdge, OwnedMesh, Size};
+use borzhanu::{border, shape, side, swap, work_length, HalfEdge, OwnedMesh, Size};
 use hosts::meshes::{Dice, List};
 use hosts::reference::edited::{Edited, NewList};
+use hosts::reference::shape::number;
 use hosts::reference::{self, columns_of, Refused};
 
 const NO_ROOM: Refused = (19, 0, 0);
@@ -61,6 +62,8 @@ pub struct Run {
     work: Vec<u32>,
     /// What the lent buffers must hold, as far as they reach.
     expected: Buffers,
+    /// The number of the shape before the first edit.
+    number: i64,
 }
 
 impl Run {
@@ -73,7 +76,8 @@ impl Run {
         let size = Size { n: owned.n(), m: owned.m() };
         let lent = Buffers { entries: buffers(&owned).map(<[u32]>::to_vec), points: points.clone() };
         let (expected, work) = (lent.clone(), vec![PAST; work_length(size.n, list.rows.len())]);
-        Ok(Run { edited, owned, points, size, lent, work, expected })
+        let number = number(list.n, list.entries());
+        Ok(Run { edited, owned, points, size, lent, work, expected, number })
     }
 
     /// The mesh with its points' bits.
@@ -121,7 +125,7 @@ impl Run {
     fn make_room(&mut self, host: &mut Host, edit: Edit, code: u32, after: Numbers) {
         let Err(refused) = self.room_for(after) else { return };
         assert_eq!(self.edit_lent(edit, code), Err(refused), "lent, code {code}");
-        host.situation.calls += 1;
+        host.situation.calls += 3;
         self.check(code);
         self.lengthen(&mut host.dice);
     }
@@ -152,7 +156,7 @@ impl Run {
         let want = compare_to(host, subject, code, ENOUGH, &points, |_| want);
         assert_eq!(numbers(edit.owned(&mut self.owned, code)), want.answer, "owned, {edit:?} of code {code}");
         assert_eq!(self.edit_lent(edit, code), want.answer, "lent, {edit:?} of code {code}");
-        host.situation.calls += 2;
+        host.situation.calls += 4;
         self.expected.write(&want.left);
         self.take_new_points(size.n);
         self.check(code);
@@ -191,7 +195,7 @@ impl Run {
     }
 
     /// All three have the same.
-    fn check(&self, code: u32) {
+    fn check(&mut self, code: u32) {
         assert!(self.work.iter().all(|&entry| entry == 0), "the work buffer isn't clean");
         assert_eq!(self.size, Size { n: self.owned.n(), m: self.owned.m() }, "code {code}");
         assert_eq!(self.owned.mesh().elements(), self.edited.list(), "owned, code {code}");
@@ -202,6 +206,19 @@ impl Run {
         assert_eq!(bits(&self.lent.points), bits(&self.expected.points), "lent points, code {code}");
         assert_eq!(bits(self.owned.points().as_flattened()), bits(&self.points), "owned points, code {code}");
         assert_eq!(bits(&self.expected.points[..self.points.len()]), bits(&self.points), "the points, code {code}");
+        self.check_shape(code);
+    }
+
+    /// The number of the shape is the one before the first edit: by the reference's count, and as the kernel has it of the
+    /// mesh that owns its buffers and of the lent list.
+    fn check_shape(&mut self, code: u32) {
+        let list = &self.lent.entries[0][..4 * self.size.m as usize];
+        let numbers = [
+            number(self.edited.n(), self.edited.list()),
+            self.owned.shape(),
+            shape(self.size.n, list, &mut self.work).expect("the list is accepted"),
+        ];
+        assert_eq!(numbers, [self.number; 3], "by count, owned and lent, after code {code}");
     }
 
     /// Mostly a side, now and then one on the border.

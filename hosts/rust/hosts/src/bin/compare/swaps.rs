@@ -11,6 +11,7 @@ use borzhanu::{border, side, swap, work_length, HalfEdge, OwnedMesh, Size};
 use borzhanu::{MAX_ELEMENTS, MAX_VERTICES};
 use hosts::meshes::{any_housing, sheet, Dice, Kinds, List};
 use hosts::reference::edited::{Edited, NewList};
+use hosts::reference::shape::number;
 use hosts::reference::{self, columns_of, Refused};
 
 /// n, a list, a code, and the new rows or why there are none.
@@ -212,6 +213,8 @@ struct Run {
     /// the list, V2e, E2e and B2e
     lent: [Vec<u32>; 4],
     work: Vec<u32>,
+    /// The number of the shape before the first swap.
+    number: i64,
 }
 
 impl Run {
@@ -221,7 +224,8 @@ impl Run {
         let owned = OwnedMesh::build(list.n, &list.rows).expect("the list is accepted");
         let size = Size { n: owned.n(), m: owned.m() };
         let lent = buffers(&owned).map(|held| [held, &PAST].concat());
-        Ok(Run { edited, owned, size, lent, work: vec![7; work_length(list.n, list.rows.len()) + 5] })
+        let work = vec![7; work_length(list.n, list.rows.len()) + 5];
+        Ok(Run { edited, owned, size, lent, work, number: number(list.n, list.entries()) })
     }
 
     /// A swap in each, and on what it left before, with noise for tables.
@@ -236,7 +240,9 @@ impl Run {
         let subject = Subject { n: self.size.n, list: &before, k: self.edited.borders() };
         let want = compare_to(host, subject, code, room, |_| want);
         self.swap_owned_and_lent(code, &want);
-        host.situation.calls += 2;
+        let numbers = [number(self.size.n, self.edited.list()), self.owned.shape()];
+        assert_eq!(numbers, [self.number; 2], "by count and owned, after code {code}");
+        host.situation.calls += 3;
         answer
     }
 
