@@ -7,7 +7,7 @@ ghost use Rattle.answer.specs.Numbers.{numbers, packed, packed_answer};
 use halfedge::{element_of, number_of};
 
 // An answer's two numbers; or a refusal with its number and the two numbers of its place.
-#[derive(Drop)]
+#[derive(Clone, Copy)]
 pub enum Answer {
     Gives {
         first: u32,

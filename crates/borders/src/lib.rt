@@ -11,7 +11,7 @@ use halfedge::{HalfEdge, code_at, is_border, wide};
 use sides::destination_of;
 
 // How many border sides there are, and how many sides.
-#[derive(Drop)]
+#[derive(Clone, Copy)]
 pub struct Counts {
     pub borders: u32,
     pub sides: u32,

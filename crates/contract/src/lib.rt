@@ -25,7 +25,7 @@ use points::close_point;
 use sides::{destination_of, origin_of, previous_code};
 
 // The edge of a side from a to b, with the third corners of the triangles on it: c, and d beyond the edge, or c again on a border.
-#[derive(Drop)]
+#[derive(Clone, Copy)]
 struct Edge {
     a: u32,
     b: u32,

@@ -4,7 +4,7 @@ ghost use Rattle.lists.specs.Search.{at};
 ghost use Rattle.digits.specs.Digits.{digit, run, value};
 
 // How many digits stand at a place, at most 8, and the number that they write.
-#[derive(Drop)]
+#[derive(Clone, Copy)]
 pub struct Number {
     pub digits: usize,
     pub value: u32,

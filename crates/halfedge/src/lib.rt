@@ -11,7 +11,7 @@ mod quadrilateral;
 mod triangle;
 
 // A side ⟨f,i⟩ or a border half-edge ⟨b,0⟩ by its code. Code 0 names nothing.
-#[derive(Drop)]
+#[derive(Clone, Copy)]
 pub struct HalfEdge {
     pub code: u32,
 }

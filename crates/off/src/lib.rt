@@ -16,7 +16,7 @@ use halfedge::{HalfEdge, wide};
 use off_items::{Kind, Outcome, item_from, next, pass};
 
 // The word and the three counts: the place after them, or that of a bad item.
-#[derive(Drop)]
+#[derive(Clone, Copy)]
 struct Head {
     good: bool,
     n: u32,
@@ -25,7 +25,7 @@ struct Head {
 }
 
 // The first face that has neither three nor four corners, 0 where all have, and the place after the faces; or the place of a bad item.
-#[derive(Drop)]
+#[derive(Clone, Copy)]
 struct Faces {
     good: bool,
     unfit: u32,
@@ -33,7 +33,7 @@ struct Faces {
 }
 
 // A text in form, by its counts, its first such face and the place before the faces; or the place of the first bad item.
-#[derive(Drop)]
+#[derive(Clone, Copy)]
 struct Judged {
     good: bool,
     n: u32,
@@ -202,7 +202,7 @@ fn line_of(text: &[u8], p: usize) -> u32
 }
 
 // The row of a face, and the place after the face.
-#[derive(Drop)]
+#[derive(Clone, Copy)]
 struct Row {
     row: [u32; 4],
     at: usize,

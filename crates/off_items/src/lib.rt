@@ -10,7 +10,7 @@ ghost use Rattle.off_items.specs.declared.Kind.TheVariants.{Word, Whole, Decimal
 use digits::{byte, is_digit, number_at};
 
 // What is looked for.
-#[derive(Drop)]
+#[derive(Clone, Copy)]
 pub enum Kind {
     Word,
     Whole,
@@ -18,7 +18,7 @@ pub enum Kind {
 }
 
 // An item of the kind looked for, with its number if it is a whole one, and the place after it; or the place of what stands there instead.
-#[derive(Drop)]
+#[derive(Clone, Copy)]
 pub struct Outcome {
     pub good: bool,
     pub value: u32,

@@ -13,7 +13,7 @@ use halfedge::{element_of, wide};
 use reads::{Read, loop_next, read_destination, ring_next};
 
 // What is listed: the elements about a vertex, their sides' ends, or border numbers.
-#[derive(Drop)]
+#[derive(Clone, Copy)]
 pub enum Walk {
     Elements,
     Ends,
@@ -21,7 +21,7 @@ pub enum Walk {
 }
 
 // What is listed for a step, and where the walk goes on; 0 where it stops.
-#[derive(Drop)]
+#[derive(Clone, Copy)]
 enum Step {
     To { shown: u32, next: u32 },
     Lost,

@@ -7,7 +7,7 @@ ghost use Rattle.edit_rules.specs.Contract.{without_point};
 
 use halfedge::wide;
 
-#[derive(Drop)]
+#[derive(Clone, Copy)]
 pub struct Point {
     pub x: f64,
     pub y: f64,

@@ -11,7 +11,7 @@ ghost use Rattle.reads.specs.Readings.{read_of, prior_vertex};
 use halfedge::{HalfEdge, element_of, is_border, narrow_slot_of, number_of, slot_of, wide};
 use sides::{is_side, next_code, origin_of};
 
-#[derive(Drop)]
+#[derive(Clone, Copy)]
 pub enum Read {
     Value(u32),
     Broken,

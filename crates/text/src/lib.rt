@@ -8,7 +8,7 @@ ghost use Rattle.text.specs.Reading.{parsed, list_after};
 use digits::{byte, number_at};
 
 // What parse finds: a mesh's n and m; the first bad line; or rows that the list has no room for.
-#[derive(Drop)]
+#[derive(Clone, Copy)]
 pub enum Parsed {
     Mesh { n: u32, m: u32 },
     Bad { line: u32 },
@@ -16,7 +16,7 @@ pub enum Parsed {
 }
 
 // How many good fields come first, and where the next one starts.
-#[derive(Drop)]
+#[derive(Clone, Copy)]
 struct Reach {
     fields: u32,
     at: usize,

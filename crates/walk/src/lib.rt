@@ -11,7 +11,7 @@ use halfedge::{element_of, is_border, slot_of, wide};
 use sides::{is_side, next_by_row, next_code};
 
 // Where the walk goes from a side.
-#[derive(Drop)]
+#[derive(Clone, Copy)]
 enum Step {
     On(u32),
     Over,

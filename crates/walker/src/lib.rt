@@ -12,7 +12,7 @@ use reads::{Read, ring_next, start_side};
 use sides::is_side;
 
 // The ring's start side, the side whose element comes next (0 when the ring is over), and the count handed out.
-#[derive(Drop)]
+#[derive(Clone, Copy)]
 pub struct Walker {
     pub start: u32,
     pub following: u32,
@@ -20,14 +20,14 @@ pub struct Walker {
 }
 
 // What a walker is called for: to start at a vertex, or to step.
-#[derive(Drop)]
+#[derive(Clone, Copy)]
 pub enum Call {
     Start(u32),
     Step,
 }
 
 // What a walker call answers, and the record that it leaves.
-#[derive(Drop)]
+#[derive(Clone, Copy)]
 pub struct Moved {
     pub answer: Answer,
     pub walker: Walker,
