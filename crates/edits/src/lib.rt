@@ -33,7 +33,7 @@ pub fn counts_fit(n: u32, m: u32) -> bool
 }
 
 // Whether buffers of these lengths have room for n vertices and m elements.
-pub fn has_room_lem(
+pub fn has_room(
     n: u32,
     m: u32,
     columns: u32,

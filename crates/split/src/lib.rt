@@ -13,7 +13,7 @@ ghost use Rattle.split.specs.Stages.{Admissible, ToWrite, Admitted, Written, Out
 use answer::{Answer, give_two, refuse, refuse_at};
 use buffers::clear;
 use edits::{
-    build_front, columns_held, counts_fit, entry_of, has_room_lem, is_splittable, is_there, put_row,
+    build_front, columns_held, counts_fit, entry_of, has_room, is_splittable, is_there, put_row,
     try_old,
 };
 use halfedge::{element_of, is_border, next_side, number_of, wide};
@@ -86,7 +86,7 @@ fn can_hold(
     if points < 3 * wide(n) {
         return false;
     }
-    has_room_lem(n, m, columns, list, v2e, e2e, work)
+    has_room(n, m, columns, list, v2e, e2e, work)
 }
 
 // What follows the trial of the old list, with k border half-edges, and comes before anything is written: 11, 15, 19 and, by the new k, 9. If

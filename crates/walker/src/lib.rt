@@ -34,7 +34,7 @@ pub struct Moved {
 }
 
 // The side that the record goes on to, 0 at the ring's end.
-fn goes_to_lem(
+fn goes_to(
     w: Walker,
     n: u32,
     columns: u32,
@@ -92,7 +92,7 @@ fn step_at(
             walker: w,
         };
     }
-    let turn = goes_to_lem(w, n, columns, list, v2e, e2e, b2e);
+    let turn = goes_to(w, n, columns, list, v2e, e2e, b2e);
     let Read::Value(t) = turn else {
         return Moved {
             answer: refuse(12),
