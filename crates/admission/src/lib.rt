@@ -1,4 +1,6 @@
 // Checks 1, 2 and 11. A check answers the refusal's number, 0 where it finds nothing.
+#![tactic(auto)]
+
 ghost use Rattle.std.specs.Prelude.{true, ◌≡◌, ◌*◌, ◌≤◌, leb, eqb, length};
 ghost use Rattle.lists.specs.Tests.{both, within};
 ghost use Rattle.rules.specs.Elements.{max_element, is_side};

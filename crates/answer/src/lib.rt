@@ -1,4 +1,6 @@
 // What the public calls answer, and the one 64-bit number in which a host gets it.
+#![tactic(auto)]
+
 ghost use Rattle.std.specs.Prelude.{◌≡◌};
 ghost use Rattle.rules.specs.Elements.{element, number};
 ghost use Rattle.rules.specs.Refusals.{gives, refused};

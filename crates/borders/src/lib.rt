@@ -2,6 +2,8 @@
 //
 // The work holds for each vertex its least side, which becomes V2e; for each place of the list the sibling, which becomes E2e; and then
 // B2e, as many places again.
+#![tactic(auto)]
+
 ghost use Rattle.std.specs.Prelude.{◌≡◌, ◌+◌, ◌*◌, ◌-◌, ◌≤◌, ◌<◌, length};
 ghost use Rattle.rules.specs.Elements.{max_element, Side, destination, side_at};
 ghost use Rattle.borders.specs.Numbers.{Ready, Numbered, Matched, Numbering, Put, entered};

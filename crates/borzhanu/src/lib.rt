@@ -1,4 +1,6 @@
 // The exported calls. Each answers in one 64-bit number: the refusal's number (0: an answer), and two numbers beside it.
+#![tactic(auto)]
+
 ghost use Rattle.std.specs.Prelude.{◌≡◌};
 ghost use Rattle.answer.specs.Numbers.{packed_answer};
 ghost use Rattle.rules.specs.Refusals.{build_answer, build_leaves, recover_answer, recover_list, recover_work};

@@ -1,4 +1,6 @@
 // Building: an element list to V2e, E2e and B2e.
+#![tactic(auto)]
+
 ghost use Rattle.std.specs.Prelude.{◌≡◌, ◌⊎◌, ◌+◌, ◌*◌, ◌≤◌, length};
 ghost use Rattle.rules.specs.Elements.{max_vertex, max_element};
 ghost use Rattle.rules.specs.Tables.{columns as columnsIn};

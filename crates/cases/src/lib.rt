@@ -1,5 +1,7 @@
 // What the test programs share. A program reads its cases from standard input, a case to a line: the label, and then numbers, each after
 // one byte that is no digit; the first such byte is a semicolon. Lines with no semicolon are headings of the cases after them.
+#![tactic(auto)]
+
 ghost use Rattle.std.specs.Prelude.{◌≤◌, ◌<◌, length as List·length};
 
 use answer::Answer;

@@ -1,4 +1,6 @@
 // Checks 6 and 7 over a list of fit rows, by what the sibling map tells, and the least side of each vertex.
+#![tactic(auto)]
+
 ghost use Rattle.std.specs.Prelude.{◌≡◌, ◌+◌, ◌≤◌, ◌<◌, length};
 ghost use Rattle.lists.specs.Search.{at};
 ghost use Rattle.lists.specs.Stores.{Kept};

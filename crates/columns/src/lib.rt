@@ -1,4 +1,6 @@
 // E2e's columns, document 02, point 10: how many a list has, and a table between four columns, as scratch tables have them, and its own.
+#![tactic(auto)]
+
 ghost use Rattle.std.specs.Prelude.{◌⊎◌, ◌≡◌, ◌+◌, ◌*◌, ◌/◌, ◌≤◌, length};
 ghost use Rattle.lists.specs.Search.{tab};
 ghost use Rattle.lists.specs.Tests.{same};

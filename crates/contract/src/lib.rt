@@ -1,4 +1,6 @@
 // An edge contracted and the gaps closed, document 02, point 8.
+#![tactic(auto)]
+
 ghost use Rattle.std.specs.Prelude.{◌≡◌, [], ◌+◌, ◌*◌, ◌≤◌, length, take, get_or};
 ghost use Rattle.lists.specs.Search.{at};
 ghost use Rattle.rules.specs.Elements.{elements as elementsOf, Side, slot, origin, destination};

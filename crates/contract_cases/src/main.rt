@@ -9,6 +9,8 @@
 //   3       the code
 //   4 to 8  the lengths of V2e, E2e, B2e, the work buffer and the points
 // and then the entries of the list, which may be more than m rows.
+#![tactic(auto)]
+
 ghost use Rattle.std.specs.Prelude.{◌≤◌, ◌<◌, length};
 
 use answer::Answer;

@@ -1,4 +1,6 @@
 // Checks 3 and 4: unfit and repeated corners.
+#![tactic(auto)]
+
 ghost use Rattle.std.specs.Prelude.{◌≡◌, ◌+◌, ◌*◌, ◌≤◌, length};
 ghost use Rattle.rules.specs.Elements.{elements, max_element};
 ghost use Rattle.rules.specs.Refusals.{gives, row_checks};

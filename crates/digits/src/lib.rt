@@ -1,4 +1,6 @@
 // Digits in a text, and the number that they write.
+#![tactic(auto)]
+
 ghost use Rattle.std.specs.Prelude.{◌≡◌, ◌-◌, ◌≤◌};
 ghost use Rattle.lists.specs.Search.{at};
 ghost use Rattle.digits.specs.Digits.{digit, run, value};

@@ -1,5 +1,7 @@
 // What edits share: checks 1 and 2, where buffers may be longer than what they hold, the trial of the old list, whether the half-edge named is
 // there, what the tables of the old list say of a side, a row put in its place, and the tables of the new list.
+#![tactic(auto)]
+
 ghost use Rattle.std.specs.Prelude.{◌≡◌, ◌⊎◌, ◌*◌, ◌≤◌, eqb, length, take};
 ghost use Rattle.lists.specs.Search.{at};
 ghost use Rattle.rules.specs.Elements.{max_vertex, max_element, sides, Side, slot};

@@ -1,4 +1,6 @@
 // What a contraction does to the element list, document 02, point 8: rows go, numbers are renamed, and vertices may be left unused.
+#![tactic(auto)]
+
 ghost use Rattle.std.specs.Prelude.{◌≡◌, ◌*◌, ◌-◌, ◌%◌, ◌≤◌, length, take};
 ghost use Rattle.rules.specs.Elements.{elements, origin, destination};
 ghost use Rattle.edit_rules.specs.Contract.{without_row, without_both, without_edge, renamed, merged, is_used};

@@ -1,4 +1,6 @@
 // Half-edge numbers and element rows, document 01, "Element list and half-edge numbers".
+#![tactic(auto)]
+
 ghost use Rattle.std.specs.Prelude.{◌≡◌, ◌+◌, ◌*◌, ◌≤◌, ◌<◌, eqb};
 ghost use Rattle.lists.specs.Search.{at};
 ghost use Rattle.lists.specs.Tests.{within};

@@ -9,6 +9,8 @@
 //   3 to 5   the lengths of both outputs and of the work buffer
 //   6 to 9   the lengths of the list, V2e, E2e and B2e
 // and then the entries of the list, V2e, E2e and B2e.
+#![tactic(auto)]
+
 ghost use Rattle.std.specs.Prelude.{◌≤◌, ◌<◌, length};
 
 use answer::Answer;

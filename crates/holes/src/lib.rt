@@ -4,6 +4,8 @@
 // of x as k + next. Then border half-edges are gone over in order; from one that has no number yet its loop is followed, and the number of
 // the hole takes the place of next. A loop that meets a number elsewhere than at its start runs into another loop, or into its own middle,
 // and never comes back. So the tables are read in the order of the border half-edges, and along a loop only the work.
+#![tactic(auto)]
+
 ghost use Rattle.std.specs.Prelude.{◌≡◌, ◌+◌, ◌*◌, ◌-◌, ◌≤◌, leb, length};
 ghost use Rattle.lists.specs.Tests.{both};
 ghost use Rattle.lists.specs.Parts.{part};

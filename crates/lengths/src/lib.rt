@@ -1,4 +1,6 @@
 // Checks 1 and 2, on the lengths of the buffers.
+#![tactic(auto)]
+
 ghost use Rattle.std.specs.Prelude.{◌≡◌, ◌+◌, ◌*◌, ◌/◌, ◌≤◌, leb, eqb};
 ghost use Rattle.lists.specs.Tests.{both};
 ghost use Rattle.rules.specs.Elements.{max_vertex, max_element};

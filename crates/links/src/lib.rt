@@ -1,4 +1,6 @@
 // The part of the work buffer that the walk's start reads: for each border number the least side with that border, by an E2e of any content.
+#![tactic(auto)]
+
 ghost use Rattle.std.specs.Prelude.{◌+◌, ◌*◌, ◌<◌};
 ghost use Rattle.walk.specs.Layout.{Sizes};
 ghost use Rattle.links.specs.Links.{Linkable, Linking, LinkedBy};

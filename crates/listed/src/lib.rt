@@ -1,4 +1,6 @@
 // What the listing program prints for a text, document 01, "The listing program".
+#![tactic(auto)]
+
 ghost use Rattle.std.specs.Prelude.{◌≡◌, ◌≤◌, leb, length};
 ghost use Rattle.rules.specs.Tables.{columns as columnsIn};
 ghost use Rattle.build.specs.Building.{lent};

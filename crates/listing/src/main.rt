@@ -1,4 +1,6 @@
 // The listing program, document 01. The first 8,192 bytes of the input tell what is printed (crate `listed`, `listing_first_bytes`).
+#![tactic(auto)]
+
 fn main() {
     let mut text: [u8; 8192] = [0; 8192];
     let n = io::read_full(0, &mut text);

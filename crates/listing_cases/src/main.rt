@@ -3,6 +3,8 @@
 // A case in `stdin` is a line with its label; the text, byte for byte; and, in no text, the byte `#` and a newline. Cases come in this
 // order: accepted, the rows of document 01 and others worked out by its rules; refused by build's checks 3 to 8 and 18; a bad line 1; a bad line 2
 // or 3 among four; a bad last line, a missing one, and bytes after it.
+#![tactic(auto)]
+
 ghost use Rattle.std.specs.Prelude.{◌≤◌, ◌<◌, length};
 
 fn emit_listing(text: &[u8]) {

@@ -1,1 +1,3 @@
 // Definitions and laws on numbers and lists; they stand in specs/.
+#![tactic(auto)]
+

@@ -2,6 +2,8 @@
 //
 // Two elements clash where a diagonal of one joins two vertices that a side or a diagonal of the other joins too, which the sibling map's
 // pass has found; or where they are triangles with the same corners, which the map tells.
+#![tactic(auto)]
+
 ghost use Rattle.std.specs.Prelude.{◌≡◌, ◌+◌, ◌*◌, ◌≤◌, eqb};
 ghost use Rattle.lists.specs.Tests.{both};
 ghost use Rattle.rules.specs.Elements.{elements, max_element, Side, some_number, sides};

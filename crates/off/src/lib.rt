@@ -1,4 +1,6 @@
 // Reading OFF files, document 02, point 3: a text is judged whole, then its faces are written.
+#![tactic(auto)]
+
 ghost use Rattle.std.specs.Prelude.{◌++◌, false, ◌≡◌, ◌+◌, ◌*◌, ◌≤◌, ◌<◌, min, length, drop};
 ghost use Rattle.lists.specs.Search.{tab};
 ghost use Rattle.answer.specs.Numbers.{numbers};

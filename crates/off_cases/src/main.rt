@@ -3,6 +3,8 @@
 //
 // The numbers of a case in `stdin` (crate `cases`) are the length of the list and that of the text, which follows on the next line, byte by
 // byte, with a newline after it.
+#![tactic(auto)]
+
 ghost use Rattle.std.specs.Prelude.{◌≤◌, ◌<◌, length};
 
 use answer::Answer;

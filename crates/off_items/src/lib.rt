@@ -1,4 +1,6 @@
 // The items of a text, document 02, point 3: blanks and comments are passed over, and an item is held to what is looked for.
+#![tactic(auto)]
+
 ghost use Rattle.std.specs.Prelude.{◌≡◌, ◌+◌, ◌≤◌, ◌<◌, T, eqb, length};
 ghost use Rattle.lists.specs.Search.{at};
 ghost use Rattle.off_rules.specs.Off.{is_off, first_from, past_digits, past_sign, past_fraction};

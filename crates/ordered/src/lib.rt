@@ -1,5 +1,7 @@
 // Check 8, decided: the walk over a list's own tables meets as many sides as there are exactly where every vertex has a turn order. So it is
 // enough to count, and nothing is written. Where there are fewer, the crates walk and unordered find the least vertex that has none.
+#![tactic(auto)]
+
 ghost use Rattle.std.specs.Prelude.{true, ◌≡◌, ◌-◌, ◌≤◌};
 ghost use Rattle.lists.specs.TestLaws.{Means};
 ghost use Rattle.rules.specs.Elements.{count_sides};

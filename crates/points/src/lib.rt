@@ -1,4 +1,6 @@
 // The points of vertices, document 02, points 6 and 8: three f64 numbers for each vertex.
+#![tactic(auto)]
+
 ghost use Rattle.std.specs.Prelude.{◌≡◌, [], ◌∷◌, ◌+◌, ◌*◌, ◌≤◌, length};
 ghost use Rattle.edit_rules.specs.Split.{coordinate, with_point};
 ghost use Rattle.edit_rules.specs.Split.{midpoint as midpointOf};

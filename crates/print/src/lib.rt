@@ -1,4 +1,6 @@
 // The lines that the listing program prints, document 01, "The listing program".
+#![tactic(auto)]
+
 ghost use Rattle.std.specs.Prelude.{[], ◌∷◌, ◌≡◌, ℕ, ◌+◌, ◌*◌, ◌/◌, ◌≤◌, ◌<◌, length};
 ghost use Rattle.print.specs.Lines.{digits, joined, item, items, line_of, width_of, row_line, Written, Counts, shown_line, shown_refusal, shown_tables};
 

@@ -11,6 +11,8 @@
 //   9        the columns that each call is told, 0 to look at the list
 //   10 to 13 the lengths of the list, V2e, E2e and B2e; of 1, the last is found by build
 // and then the entries of the list, V2e, E2e and B2e; of 1, the tables are put behind the list once they are built.
+#![tactic(auto)]
+
 ghost use Rattle.std.specs.Prelude.{◌≤◌, ◌<◌, length};
 
 use answer::Answer;

@@ -1,4 +1,6 @@
 // The queries that answer one number.
+#![tactic(auto)]
+
 ghost use Rattle.std.specs.Prelude.{◌≡◌};
 ghost use Rattle.answer.specs.Numbers.{numbers};
 ghost use Rattle.rules.specs.Refusals.{gives};

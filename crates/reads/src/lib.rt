@@ -1,4 +1,6 @@
 // What a query reads from the tables: a value that names something, or a broken entry.
+#![tactic(auto)]
+
 ghost use Rattle.std.specs.Prelude.{◌⊎◌, ◌≡◌, ◌≤◌, T, length};
 ghost use Rattle.lists.specs.Tests.{within};
 ghost use Rattle.rules.specs.Elements.{Side};

@@ -1,4 +1,6 @@
 // Recovery: V2e and E2e back to the element list.
+#![tactic(auto)]
+
 ghost use Rattle.std.specs.Prelude.{◌⊎◌, ◌≡◌, ◌+◌, ◌*◌, ◌≤◌, eqb, length, take};
 ghost use Rattle.lists.specs.Parts.{part};
 ghost use Rattle.lists.specs.Tests.{both, either};

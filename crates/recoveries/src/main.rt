@@ -8,6 +8,8 @@
 //   3       m
 //   4 to 7  the lengths of V2e, E2e, the list and the work buffer
 // and then the entries of V2e and E2e.
+#![tactic(auto)]
+
 ghost use Rattle.std.specs.Prelude.{◌≤◌, ◌<◌, length};
 
 use answer::Answer;

@@ -1,4 +1,6 @@
 // The queries that write a list: ring, neighbours and border loop of document 01.
+#![tactic(auto)]
+
 ghost use Rattle.std.specs.Prelude.{◌≡◌};
 ghost use Rattle.answer.specs.Numbers.{numbers};
 ghost use Rattle.rules.specs.Queries.{ring_answer, ring_leaves, neighbours_answer, neighbours_leaves, border_loop_answer, border_loop_leaves};

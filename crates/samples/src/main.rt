@@ -5,6 +5,8 @@
 // The numbers of a case in `stdin` (crate `cases`) are n; the lengths of V2e, E2e, B2e and the work buffer; and the rows of the list.
 // Of the sample surface mesh the rows are figure 3's elements, and the tables expected are those of figure 4, its pairs <f,i> turned
 // into codes 8 * f + i by hand: document 01 chooses as the figure does in every entry.
+#![tactic(auto)]
+
 ghost use Rattle.std.specs.Prelude.{◌≤◌, ◌<◌, length};
 
 use answer::Answer;

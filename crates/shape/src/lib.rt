@@ -1,4 +1,6 @@
 // The shape of a housing, document 02, point 9: vertices − edges + elements.
+#![tactic(auto)]
+
 ghost use Rattle.std.specs.Prelude.{◌≡◌, ◌<◌, length};
 ghost use Rattle.std.proofs.Math.IntN.{sub_ℕ};
 ghost use Rattle.edit_rules.specs.Shape.{signed, list_shape, shape_answer, shape_work};

@@ -2,6 +2,8 @@
 // is as it must be. `stdout` is worked out by the rules of document 02, point 9, without these crates.
 //
 // The numbers of a case in `stdin` (crate `cases`) are n; the length of the work buffer; and the rows of the list.
+#![tactic(auto)]
+
 ghost use Rattle.std.specs.Prelude.{◌≤◌, ◌<◌, length};
 
 use answer::Answer;

@@ -3,6 +3,8 @@
 // worked out by the rules of document 02, point 12, without these crates.
 //
 // The numbers of a case in `stdin` (crate `cases`) are n; the lengths of V2e, the map and the work buffer; and the rows of the list.
+#![tactic(auto)]
+
 ghost use Rattle.std.specs.Prelude.{◌≤◌, ◌<◌, length};
 
 use answer::Answer;

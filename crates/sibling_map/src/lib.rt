@@ -1,4 +1,6 @@
 // Edges of any number of plates, document 02, point 12: an element list to the sibling of each side and the least side of each vertex.
+#![tactic(auto)]
+
 ghost use Rattle.std.specs.Prelude.{◌≡◌, ◌+◌, ◌*◌, ◌≤◌, length};
 ghost use Rattle.rules.specs.Elements.{elements};
 ghost use Rattle.rules.specs.Siblings.{siblings_answer, siblings_leaves, v2he};

@@ -1,4 +1,6 @@
 // What the element list alone says of a side. Elements are read through their parts of the list and their rows.
+#![tactic(auto)]
+
 ghost use Rattle.std.specs.Prelude.{◌≡◌, ◌*◌, ◌≤◌, length};
 ghost use Rattle.rules.specs.Elements.{is_side, Side, origin, destination, next, previous};
 ghost use Rattle.rules.specs.Elements.{row as row_in};

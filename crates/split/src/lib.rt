@@ -1,4 +1,6 @@
 // A new vertex on a side, and its midpoint, document 02, point 6.
+#![tactic(auto)]
+
 ghost use Rattle.std.specs.Prelude.{◌≡◌, ◌⊎◌, [], ◌+◌, ◌*◌, ◌-◌, ◌≤◌, length, take, get_or, set};
 ghost use Rattle.rules.specs.Tables.{columns as columnsIn};
 ghost use Rattle.rules.specs.Refusals.{onto};

@@ -1,4 +1,6 @@
 // Swapping the diagonal of two triangles, document 02, point 1.
+#![tactic(auto)]
+
 ghost use Rattle.std.specs.Prelude.{◌≡◌, [], ◌∷◌, ◌*◌, length};
 ghost use Rattle.lists.specs.Search.{at};
 ghost use Rattle.rules.specs.Tables.{columns as columnsIn};

@@ -9,6 +9,8 @@
 //   3       the code
 //   4 to 7  the lengths of V2e, E2e, B2e and the work buffer
 // and then the entries of the list, which may be more than m rows.
+#![tactic(auto)]
+
 ghost use Rattle.std.specs.Prelude.{◌≤◌, ◌<◌, length};
 
 use answer::Answer;

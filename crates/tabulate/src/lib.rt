@@ -1,5 +1,7 @@
 // Checks 3 to 8 and 18 and the three tables of a list, in a scratch buffer of n + 12m entries; nothing else is written. Whether checks 6, 7
 // and 8 find something is decided first, and only then is the place looked for.
+#![tactic(auto)]
+
 ghost use Rattle.std.specs.Prelude.{◌≡◌, ◌+◌, ◌*◌, length};
 ghost use Rattle.rules.specs.Elements.{elements};
 ghost use Rattle.rules.specs.Refusals.{clashing, unordered_vertex, list_answer};

@@ -1,4 +1,6 @@
 // The text that the listing program reads, document 01, "The listing program".
+#![tactic(auto)]
+
 ghost use Rattle.std.specs.Prelude.{◌++◌, ◌≡◌, ◌+◌, ◌*◌, ◌≤◌, ◌<◌, length, drop};
 ghost use Rattle.lists.specs.Search.{tab};
 ghost use Rattle.digits.specs.Digits.{run, number};

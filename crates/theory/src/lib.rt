@@ -1,1 +1,3 @@
 // Theorems about the rules; they stand in specs/.
+#![tactic(auto)]
+

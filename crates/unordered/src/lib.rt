@@ -1,4 +1,6 @@
 // Check 8, after the walk: the least vertex with a side that the walk did not write.
+#![tactic(auto)]
+
 ghost use Rattle.std.specs.Prelude.{◌≡◌, ◌+◌, ◌≤◌, ◌<◌, length, drop};
 ghost use Rattle.rules.specs.Elements.{first_number};
 ghost use Rattle.rules.specs.Refusals.{missed};

@@ -1,5 +1,7 @@
 // The walk over a V2e and an E2e of any content, in a work buffer of n + 12m entries: V2e (n), E2e (4m), for each border number the least
 // side with that border (4m), and what the walk writes (4m).
+#![tactic(auto)]
+
 ghost use Rattle.std.specs.Prelude.{◌≡◌, ◌+◌, ◌*◌, ◌-◌, ◌≤◌, ◌<◌};
 ghost use Rattle.lists.specs.Search.{at};
 ghost use Rattle.rules.specs.Elements.{Side};

@@ -1,4 +1,6 @@
 // A walker: a record that each call moves on by one element of the ring.
+#![tactic(auto)]
+
 ghost use Rattle.std.specs.Prelude.{◌≡◌};
 ghost use Rattle.rules.specs.Queries.{goes_to, walker_start, walker_step};
 ghost use Rattle.reads.specs.Meshes.{mesh, Fit};

@@ -22,54 +22,54 @@ differ a b f = sym (false_of (same a b) (not_T (same a b) (λ t. f ((means_same 
 agree : (a b : List ℕ) → length a ≡ length b → ((k : ℕ) → k < length a → at a k ≡ at b k) → true ≡ same a b
 agree a b e f = sym (true_of (same a b) ((means_same a b).shows (ext_get_or 0 a b e f)))
 
-abbrev invariant_loop : tie.invariant-loop
+abbrev invariant_loop : tie.invariant-loop-i
 invariant_loop a b i₀ i = (i ≤ length a) × ((k : ℕ) → k < i → at a k ≡ at b k)
 
-abbrev decreases_loop : tie.decreases-loop
+abbrev decreases_loop : tie.decreases-loop-i
 decreases_loop a b i₀ i = length a - i
 
 -- the turn of the loop in which both entries were read
-abbrev turn : tie.After-shared-slice-known2 invariant_loop decreases_loop → tie.At-loop invariant_loop decreases_loop
+abbrev turn : tie.After-shared_slice_known-in-loop-i-1 invariant_loop decreases_loop → tie.At-loop-i invariant_loop decreases_loop
 turn c = c.before.before.before
 
-returns : tie.Need-returns invariant_loop decreases_loop
-returns c = differ c.before.args.a.now c.before.args.b.now (λ e. c.if1.true (ap length e))
+returns : tie.Need-returns-then-a-b invariant_loop decreases_loop
+returns c = differ c.before.args.a.now c.before.args.b.now (λ e. c.if-a-b.true (ap length e))
 
-loop_holds : tie.Need-loop-init invariant_loop decreases_loop
+loop_holds : tie.Need-loop-i-init invariant_loop decreases_loop
 loop_holds c = (omega arith, λ k h. absurd (omega arith))
 
-mul_if2 : tie.Need-overflow-mul-if2 invariant_loop decreases_loop
+mul_if2 : tie.Need-offset_bounds-a-i invariant_loop decreases_loop
 mul_if2 c = search rules
 
-shared_slice_read_if2 : tie.Need-shared-slice-read-if2 invariant_loop decreases_loop
+shared_slice_read_if2 : tie.Need-bounds-a-i invariant_loop decreases_loop
 shared_slice_read_if2 c = search rules
 
-mul_if2_2 : tie.Need-overflow-mul-if2-2 invariant_loop decreases_loop
+mul_if2_2 : tie.Need-offset_bounds-b-i invariant_loop decreases_loop
 mul_if2_2 c = search rules
 
-shared_slice_read_if2_2 : tie.Need-shared-slice-read-if2-2 invariant_loop decreases_loop
+shared_slice_read_if2_2 : tie.Need-bounds-b-i invariant_loop decreases_loop
 shared_slice_read_if2_2 c = search rules
 
-returns_2 : tie.Need-returns-2 invariant_loop decreases_loop
+returns_2 : tie.Need-returns-then-a-i invariant_loop decreases_loop
 returns_2 c =
-    let loop = (turn c.before).loop in
+    let loop = (turn c.before).loop-i in
     let args = (turn c.before).before.before.args in
-    differ args.a.now args.b.now (λ e. c.if2.true (ap (λ (l : List ℕ). at l loop.i) e))
+    differ args.a.now args.b.now (λ e. c.if-a-i.true (ap (λ (l : List ℕ). at l loop.i) e))
 
-add_i : tie.Need-overflow-add-i invariant_loop decreases_loop
+add_i : tie.Need-overflow_add-i invariant_loop decreases_loop
 add_i c = search rules
 
-loop_less : tie.Need-loop-smaller invariant_loop decreases_loop
+loop_less : tie.Need-loop-i-smaller invariant_loop decreases_loop
 loop_less c = omega arith
 
-loop_again : tie.Need-loop-preserved invariant_loop decreases_loop
-loop_again c = (omega arith, below_more _ _ (turn c.before).loop.inv.1 c.if2.false)
+loop_again : tie.Need-loop-i-preserved invariant_loop decreases_loop
+loop_again c = (omega arith, below_more _ _ (turn c.before).loop-i.invariant.1 c.if-a-i.false)
 
-returns_3 : tie.Need-returns-3 invariant_loop decreases_loop
+returns_3 : tie.Need-returns invariant_loop decreases_loop
 returns_3 c =
     let tested = c.before.before in
     let args = tested.before.args in
-    agree args.a.now args.b.now tested.if1.false (λ k h. c.before.loop.invariant.1 k (omega arith))
+    agree args.a.now args.b.now tested.if-a-b.false (λ k h. c.before.loop-i.invariant.1 k (omega arith))
 
 pub is_same_spec : {M : Type 1} → statement M
 is_same_spec =

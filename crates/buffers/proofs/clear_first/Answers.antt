@@ -4,13 +4,11 @@ use mathlib.Core.Path.{◌≡◌, ap, ◌∙◌}
 use mathlib.Core.List.{List, ◌++◌}
 use Prim.Native.Nat.{ℕ, ◌-◌, ◌≤◌, ◌<◌}
 use native.Mathlib.Omega.{arith}
-use borrow.Author.Rules.{rules}
 use lib.ListN.{length, take, drop, replicate, length-replicate, length-take}
 use Rattle.lists.specs.Search.{at}
 use Rattle.lists.specs.SearchLaws.{at_blank}
 use Rattle.lists.specs.Stores.{Kept, front_kept, front_at}
-use Rattle.buffers.proofs.clear_first.Statement.{statement}
-use Rattle.buffers.proofs.clear_first.Tie as tie
+use Rattle.buffers.proofs.clear_first.Goals as goal
 
 module _ (n : ℕ) (w part : List ℕ) (h : n ≤ length w) (e : part ≡ replicate (length (take (n - 0) w)) 0) where
   zeros : part ≡ replicate n 0
@@ -25,28 +23,7 @@ module _ (n : ℕ) (w part : List ℕ) (h : n ≤ length w) (e : part ≡ replic
     (λ i l. front_at n w part h many i l ∙ ap (λ (x : List ℕ). at x i) zeros ∙ at_blank n i),
   )
 
-sub_clear : tie.Need-overflow-sub-clear
-sub_clear c = search rules
-
-part_clear_start : tie.Need-slice-bounds-clear-start
-part_clear_start c = search rules
-
-part_clear_end : tie.Need-slice-bounds-clear-end
-part_clear_end c = search rules
-
-clear_requires : tie.Need-clear-requires
-clear_requires c κs = search rules
-
-same_length : tie.Need-same-length
-same_length c = search rules
-
-returns : tie.Need-returns
-returns c =
-    let done = c.before.before in
+pub returns : goal.returns
+returns c = let done = c.before.before in
     let begun = done.before.before.before in
-    cleared begun.args.n begun.args.out.now done.clear.new.0 begun.requires done.clear.ensures
-
-pub clear_first_spec : {M : Type 1} → statement M
-clear_first_spec =
-    tie.close
-    (tie.spec sub_clear part_clear_start part_clear_end clear_requires same_length returns)
+    record { kept = (cleared begun.args.n begun.args.out.now done.clear.new.out begun.requires done.clear.ensures).0; by_index = (cleared begun.args.n begun.args.out.now done.clear.new.out begun.requires done.clear.ensures).1; }

@@ -1,0 +1,15 @@
+-- `halfedge::previous_side` meets its contract.
+-- Assumes nothing.
+use Prim.Native.Nat.{ℕ}
+use Rattle.rules.specs.Elements.{previous_number}
+use Rattle.halfedge.specs.Rows.{step_in, turned}
+use Rattle.halfedge.proofs.Turns.{by_kinds}
+use Rattle.halfedge.proofs.previous_side.Goals as goal
+
+pub returns : goal.returns
+unfolding turned
+returns c =
+    let quadrilateral = c.before in
+    let triangle = quadrilateral.before in
+    let args = triangle.before.args in
+    by_kinds (λ (k : ℕ). step_in previous_number k args.i) args.row triangle.previous.ensures quadrilateral.previous-2.ensures c.by_kind.ensures
