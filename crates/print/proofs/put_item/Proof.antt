@@ -12,36 +12,36 @@ use Rattle.print.proofs.put_item.Statement.{statement}
 use Rattle.print.proofs.put_item.Tie as tie
 
 -- the comma is put
-abbrev put : tie.After-shared-slice-known2 → tie.After-put-byte
+abbrev put : tie.After-shared_slice_known-2-1 → tie.After-put_byte-q
 put c = c.before.before.before.before
 
-abbrev start : tie.After-shared-slice-known2 → tie.Start
+abbrev start : tie.After-shared_slice_known-2-1 → tie.Start
 start c = (put c).before.before.before.before
 
-ten : (c : tie.After-shared-slice-known2) → length (digits (at (start c).args.numbers.now (start c).args.i)) ≤ 10
-ten c = ten_digits (at (start c).args.numbers.now (start c).args.i) (c.shared-slice-known2.given (start c).args.i).fits
+ten : (c : tie.After-shared_slice_known-2-1) → length (digits (at (start c).args.numbers.now (start c).args.i)) ≤ 10
+ten c = ten_digits (at (start c).args.numbers.now (start c).args.i) (c.shared_slice_known-2-1.given (start c).args.i).fits
 
-put_byte_requires : tie.Need-put-byte-requires
+put_byte_requires : tie.Need-put_byte-q-requires
 put_byte_requires c κs = search rules
 
-mul_put_number : tie.Need-overflow-mul-put-number
+mul_put_number : tie.Need-offset_bounds-numbers-i
 mul_put_number c = search rules
 
-shared_slice_read_put_number : tie.Need-shared-slice-read-put-number
+shared_slice_read_put_number : tie.Need-bounds-numbers-i
 shared_slice_read_put_number c = search rules
 
-put_number_requires : tie.Need-put-number-requires
-put_number_requires c κs = let b = (put c).put_byte in omega (arith, b.ensures.0, b.kept.0, ten c)
+put_number_requires : tie.Need-put_number-requires
+put_number_requires c κs = let b = (put c).put_byte-q in omega (arith, b.ensures.0, b.auto.out, ten c)
 
-same_length : tie.Need-same-length
+same_length : tie.Need-shape_of-out
 same_length c = search rules
 
 returns : tie.Need-returns
 returns c =
     let n = c.before.before in
-    let b = (put n.before).put_byte.ensures in (
-      written_next (start n.before).args.out.now (44 ∷ []) (digits _) _ b n.put-number.ensures,
-      omega (arith, b.0, n.put-number.ensures.0, ten n.before),
+    let b = (put n.before).put_byte-q.ensures in (
+      written_next (start n.before).args.out.now (44 ∷ []) (digits _) _ b n.put_number.ensures,
+      omega (arith, b.0, n.put_number.ensures.0, ten n.before),
     )
 
 pub put_item_spec : {M : Type 1} → statement M

@@ -10,43 +10,43 @@ use borrow.Author.Rules.{rules}
 use Rattle.sides.proofs.next_by_row.Statement.{statement}
 use Rattle.sides.proofs.next_by_row.Tie as tie
 
-abbrev begun : tie.After-element-of → tie.Start
+abbrev begun : tie.After-element_of-f → tie.Start
 begun c = c.before.before
 
 -- the side that was stepped to
-stepped : (c : tie.After-next-side)
-    → let a = (begun c.before.before.before).args in c.next-side.result ≡ next_number (sides a.list.now (a.s / 8)) (a.s % 8)
+stepped : (c : tie.After-next_side)
+    → let a = (begun c.before.before.before).args in c.next_side.result ≡ next_number (sides a.list.now (a.s / 8)) (a.s % 8)
 stepped c =
     let numbered = c.before in
     let split = numbered.before.before in
-    turn_read _ _ (begun split).requires split.element-of.ensures numbered.number_of_lem.ensures numbered.before.row_at.ensures
-    next_number c.next-side.ensures
+    turn_read _ _ (begun split).requires split.element_of-f.ensures numbered.number_of.ensures numbered.before.row_at.ensures
+    next_number c.next_side.ensures
 
-element_of_requires : tie.Need-element-of-requires
+element_of_requires : tie.Need-element_of-f-requires
 element_of_requires c κs = search rules
 
-row_at_requires : tie.Need-row-at-requires
-row_at_requires c κs = row_there _ _ (begun c).requires c.element-of.ensures
+row_at_requires : tie.Need-row_at-requires
+row_at_requires c κs = row_there _ _ (begun c).requires c.element_of-f.ensures
 
-number_of_requires : tie.Need-number-of-requires
+number_of_requires : tie.Need-number_of-requires
 number_of_requires c κs = search rules
 
-next_side_requires : tie.Need-next-side-requires
+next_side_requires : tie.Need-next_side-requires
 next_side_requires c κs = search rules
 
-side_code_requires : tie.Need-side-code-requires
+side_code_requires : tie.Need-side_code-requires
 side_code_requires c κs =
     let split = c.before.before.before in
     let s = begun split in (
-      omega (arith, split.element-of.ensures),
-      step_four _ _ s.pre split.element-of.ensures next_number (stepped c) (next_numbered _ _ s.pre),
+      omega (arith, split.element_of-f.ensures),
+      step_four _ _ s.requires split.element_of-f.ensures next_number (stepped c) (next_numbered _ _ s.requires),
     )
 
 returns : tie.Need-returns
 unfolding next
 returns c =
     let split = c.before.before.before.before in
-    step_read _ _ (begun split).requires split.element-of.ensures next_number (stepped c.before) c.side-code.ensures
+    step_read _ _ (begun split).requires split.element_of-f.ensures next_number (stepped c.before) c.side_code.ensures
 
 pub next_by_row_spec : {M : Type 1} → statement M
 next_by_row_spec =
