@@ -13,122 +13,116 @@ use borrow.Author.Rules.{rules}
 use Rattle.corners.proofs.check_rows.Statement.{statement}
 use Rattle.corners.proofs.check_rows.Tie as tie
 
-abbrev invariant_loop : tie.invariant-loop
+abbrev invariant_loop : tie.invariant-loop-a
 invariant_loop n list repeated₀ a₀ repeated a = Scanned n list a repeated
 
-abbrev decreases_loop : tie.decreases-loop
+abbrev decreases_loop : tie.decreases-loop-a
 decreases_loop n list repeated₀ a₀ repeated a = length list - a
 
 abbrev Inside : Type 0
-Inside = tie.In-loop invariant_loop decreases_loop
-
-abbrev begun : Inside → tie.Start invariant_loop decreases_loop
-begun c = c.before.before.before
+Inside = tie.In-loop-a invariant_loop decreases_loop
 
 abbrev the_list_lem : Inside → List ℕ
-the_list_lem c = (begun c).args.list.now
+the_list_lem c = c.args.list.now
 
 -- a whole row begins at a
-fits : (c : Inside) → c.before.loop.a + 4 ≤ length (the_list_lem c)
-fits c = omega (arith, c.before.loop.invariant.aligned, (begun c).requires.0)
+fits : (c : Inside) → c.loop-a.a + 4 ≤ length (the_list_lem c)
+fits c = omega (arith, c.loop-a.invariant.aligned, c.requires.0)
 
 bound : (c : Inside) → length (the_list_lem c) ≤ 4 * max_element
-bound c = omega (arith, (begun c).requires)
+bound c = omega (arith, c.requires)
 
 -- the row that was read, and the number of its first unfit corner
 abbrev Read : Type 0
-Read = tie.After-unfit-in invariant_loop decreases_loop
-
-abbrev inside : Read → Inside
-inside c = c.before.before.before
+Read = tie.After-unfit_in-i invariant_loop decreases_loop
 
 abbrev row : Read → List ℕ
-row c = let a = (inside c).before.loop.a in row_at (the_list_lem (inside c)) a (a + 4)
+row c = let a = c.loop-a.a in row_at (the_list_lem c.before.before.before) a (a + 4)
 
-unfit_in : (c : Read) → UnfitIn (begun (inside c)).args.n (row c) c.unfit-in.result
-unfit_in c = rw c.before.row.ensures at c.unfit-in.ensures
+unfit_in : (c : Read) → UnfitIn c.args.n (row c) c.unfit_in-i.result
+unfit_in c = rw c.row-row.ensures at c.unfit_in-i.ensures
 
-small : (c : Read) → c.unfit-in.result ≤ 4
+small : (c : Read) → c.unfit_in-i.result ≤ 4
 small c = first_le_four (at (row c) 3) (unfit_in c)
 
-loop_holds : tie.Need-loop-init invariant_loop decreases_loop
-loop_holds c = scan_start c.before.args.n c.before.args.list.now
+loop_holds : tie.Need-loop-a-init invariant_loop decreases_loop
+loop_holds c = scan_start c.args.n c.args.list.now
 
-add_e : tie.Need-overflow-add-e invariant_loop decreases_loop
+add_e : tie.Need-overflow_add-e invariant_loop decreases_loop
 add_e c = search rules
 
-mul_row : tie.Need-overflow-mul-row invariant_loop decreases_loop
+mul_row : tie.Need-offset_bounds-list-a invariant_loop decreases_loop
 mul_row c = search rules
 
-sub_row : tie.Need-overflow-sub-row invariant_loop decreases_loop
+sub_row : tie.Need-slice_bounds-row-count invariant_loop decreases_loop
 sub_row c = search rules
 
-part_row_start : tie.Need-slice-bounds-row-start invariant_loop decreases_loop
+part_row_start : tie.Need-slice_bounds-row-start invariant_loop decreases_loop
 part_row_start c = search rules
 
-part_row_end : tie.Need-slice-bounds-row-end invariant_loop decreases_loop
+part_row_end : tie.Need-slice_bounds-row-end invariant_loop decreases_loop
 part_row_end c = let h = fits c in search rules
 
-row_requires : tie.Need-row-requires invariant_loop decreases_loop
+row_requires : tie.Need-row-row-requires invariant_loop decreases_loop
 row_requires c κs = search rules
 
-unfit_in_requires : tie.Need-unfit-in-requires invariant_loop decreases_loop
+unfit_in_requires : tie.Need-unfit_in-i-requires invariant_loop decreases_loop
 unfit_in_requires c κs = search rules
 
 wide_requires : tie.Need-wide-requires invariant_loop decreases_loop
 wide_requires c κs = search rules
 
-add_code_at : tie.Need-overflow-add-code-at invariant_loop decreases_loop
-add_code_at c = let read = c.before.before in omega (arith, fits (inside read), bound (inside read), small read)
+add_code_at : tie.Need-overflow_add-a invariant_loop decreases_loop
+add_code_at c = let read = c.before.before in omega (arith, fits read.before.before.before, bound read.before.before.before, small read)
 
-sub_code_at : tie.Need-overflow-sub-code-at invariant_loop decreases_loop
-sub_code_at c = let d = c.before.if1.true in omega arith
+sub_code_at : tie.Need-overflow_sub-a invariant_loop decreases_loop
+sub_code_at c = let d = c.if-i-ne0.true in omega arith
 
-code_at_requires : tie.Need-code-at-requires invariant_loop decreases_loop
+code_at_requires : tie.Need-code_at-requires invariant_loop decreases_loop
 code_at_requires c κs =
     let read = c.before.before in
-    let d = c.before.if1.true in omega (arith, fits (inside read), bound (inside read), small read)
+    let d = c.if-i-ne0.true in omega (arith, fits read.before.before.before, bound read.before.before.before, small read)
 
-refuse_side_requires : tie.Need-refuse-side-requires invariant_loop decreases_loop
+refuse_side_requires : tie.Need-refuse_side-requires invariant_loop decreases_loop
 refuse_side_requires c κs = search rules
 
-returns : tie.Need-returns invariant_loop decreases_loop
+returns : tie.Need-returns-then-i-ne0 invariant_loop decreases_loop
 returns c =
     let coded = c.before in
     let found = coded.before.before in
     let read = found.before in
-    c.refuse-side.ensures
-    ∙ scan_unfit (inside read).before.loop.invariant refl (fits (inside read)) (unfit_in read) found.if1.true coded.before.wide.ensures
+    c.refuse_side.ensures
+    ∙ scan_unfit read.loop-a.invariant refl (fits read.before.before.before) (unfit_in read) found.if-i-ne0.true coded.wide.ensures
     coded.code_at.ensures
 
-first_repeated_requires : tie.Need-first-repeated-requires invariant_loop decreases_loop
-first_repeated_requires c κs = let i = inside c.before in omega (arith, fits i, bound i)
+first_repeated_requires : tie.Need-first_repeated-repeated-requires invariant_loop decreases_loop
+first_repeated_requires c κs = let i = c.before.before.before.before in omega (arith, fits i, bound i)
 
-loop_less : tie.Need-loop-smaller invariant_loop decreases_loop
-loop_less c = omega (arith, fits (inside c.before.before))
+loop_less : tie.Need-loop-a-smaller invariant_loop decreases_loop
+loop_less c = omega (arith, fits c.before.before.before.before.before)
 
-loop_again : tie.Need-loop-preserved invariant_loop decreases_loop
+loop_again : tie.Need-loop-a-preserved invariant_loop decreases_loop
 loop_again c =
     let read = c.before.before in
-    let row_is = read.before.row.ensures in
-    scan_row (inside read).before.loop.invariant refl (fits (inside read)) (rw (c.before.if1.false, row_is) at read.unfit-in.ensures)
-    (rw row_is at c.first-repeated.ensures)
+    let row_is = read.row-row.ensures in
+    scan_row read.loop-a.invariant refl (fits read.before.before.before) (rw (c.if-i-ne0.false, row_is) at read.unfit_in-i.ensures)
+    (rw row_is at c.first_repeated-repeated.ensures)
 
-refuse_side_requires_2 : tie.Need-refuse-side-requires-2 invariant_loop decreases_loop
+refuse_side_requires_2 : tie.Need-refuse_side-requires-then-repeated-ne0 invariant_loop decreases_loop
 refuse_side_requires_2 c κs = search rules
 
-returns_2 : tie.Need-returns-2 invariant_loop decreases_loop
+returns_2 : tie.Need-returns-then-repeated-ne0 invariant_loop decreases_loop
 returns_2 c =
     let all = c.before in
-    c.refuse-side2.ensures ∙ scan_repeated all.before.before.loop.invariant (omega arith) all.if2.true
+    c.refuse_side-then-repeated-ne0.ensures ∙ scan_repeated all.loop-a.invariant (omega arith) all.if-repeated-ne0.true
 
-give_two_requires : tie.Need-give-two-requires invariant_loop decreases_loop
+give_two_requires : tie.Need-give_two-requires invariant_loop decreases_loop
 give_two_requires c κs = search rules
 
-returns_3 : tie.Need-returns-3 invariant_loop decreases_loop
+returns_3 : tie.Need-returns invariant_loop decreases_loop
 returns_3 c =
     let all = c.before in
-    c.give-two.ensures ∙ scan_nothing all.before.before.loop.invariant (omega arith) all.if2.false
+    c.give_two.ensures ∙ scan_nothing all.loop-a.invariant (omega arith) all.if-repeated-ne0.false
 
 pub check_rows_spec : {M : Type 1} → statement M
 check_rows_spec =

@@ -12,59 +12,51 @@ use native.Mathlib.Omega.{arith}
 use Rattle.reads.proofs.border_next.Statement.{statement}
 use Rattle.reads.proofs.border_next.Tie as tie
 
-abbrev begun : tie.After-border-destination → tie.Start
-begun c = c.before.before.before.before.before
-
-abbrev ended : tie.After-end → tie.After-border-destination
-ended c = c.before.before
-
 -- the border's destination is a vertex, and has an entry
-numbered : (c : tie.After-wide) → (1 ≤ c.wide.result) × (c.wide.result ≤ length (begun (ended c.before.before)).args.v2e.now)
+numbered : (c : tie.After-wide) → (1 ≤ c.wide.result) × (c.wide.result ≤ length c.args.v2e.now)
 unfolding read_origin
 numbered c =
-    let end = c.before.before in
-    let v = end_vertex _ (origin (begun (ended end)).args.list.now) _ _ (value_of (ended end).border-destination.ensures end.end.given.1) in
-    omega (arith, vertex_facts _ _ v, (begun (ended end)).requires.0.vertices, c.wide.ensures)
+    let v = end_vertex _ (origin c.args.list.now) _ _ (value_of c.border_destination-end.ensures c.in-Value.is) in
+    omega (arith, vertex_facts _ _ v, c.requires.0.vertices, c.wide.ensures)
 
-border_destination_requires : tie.Need-border-destination-requires
+border_destination_requires : tie.Need-border_destination-end-requires
 border_destination_requires c κs = search rules
 
-enum_known_end : tie.Need-enum-known-end
+enum_known_end : tie.Need-enum_known-end
 enum_known_end c = search rules
 
-enum_told : tie.Need-enum-told
+enum_told : tie.Need-enum_told-1
 enum_told c = search rules
 
-returns : tie.Need-returns
+returns : tie.Need-returns-in_default
 unfolding border_next
-returns c = broken_then _ c.before.before.border-destination.ensures c.enum_told.given.1 ∙ and_assoc _ _ _
+returns c = broken_then _ c.border_destination-end.ensures c.in_default.is ∙ and_assoc _ _ _
 
 wide_requires : tie.Need-wide-requires
 wide_requires c κs = search rules
 
-sub_following : tie.Need-overflow-sub-following
+sub_following : tie.Need-overflow_sub-following
 sub_following c = omega (arith, numbered c)
 
-mul_following : tie.Need-overflow-mul-following
+mul_following : tie.Need-offset_bounds-v2e-wide
 mul_following c = search rules
 
-shared_slice_read_following : tie.Need-shared-slice-read-following
+shared_slice_read_following : tie.Need-bounds-v2e-wide
 shared_slice_read_following c = omega (arith, numbered c.before)
 
-is_border_code_requires : tie.Need-is-border-code-requires
+is_border_code_requires : tie.Need-is_border_code-valid-requires
 is_border_code_requires c κs = search rules
 
 checked_requires : tie.Need-checked-requires
 checked_requires c κs = search rules
 
-returns_2 : tie.Need-returns-2
+returns_2 : tie.Need-returns
 unfolding border_next
 returns_2 c =
     let tested = c.before in
     let index = tested.before.before in
-    let end = index.before.before in
-    value_then _ (ended end).border-destination.ensures end.end.given.1
-    (read_at_lem (is_border_code _) (begun (ended end)).args.v2e.now c.checked.ensures tested.is-border-code.ensures index.wide.ensures)
+    value_then _ index.border_destination-end.ensures index.in-Value.is
+    (read_at_lem (is_border_code _) index.args.v2e.now c.checked.ensures tested.is_border_code-valid.ensures index.wide.ensures)
     ∙ and_assoc _ _ _
 
 pub border_next_spec : {M : Type 1} → statement M

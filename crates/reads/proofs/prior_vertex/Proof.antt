@@ -11,63 +11,52 @@ use mathlib.Core.Path.{refl}
 use Rattle.reads.proofs.prior_vertex.Statement.{statement}
 use Rattle.reads.proofs.prior_vertex.Tie as tie
 
--- the entry of V2e isn't 0; it was named, after it was read
-abbrev used : tie.After-is-border → tie.Else1
-used c = c.before
+abbrev code : tie.After-is_border → ℕ
+code c = c.in-Value.code
 
-abbrev named : tie.After-is-border → tie.After-entry
-named c = (used c).before.before
-
-abbrev read : tie.After-is-border → tie.After-read-vertex-entry
-read c = (named c).before.before
-
-abbrev code : tie.After-is-border → ℕ
-code c = (named c).entry.given.0.0
-
-read_vertex_entry_requires : tie.Need-read-vertex-entry-requires
+read_vertex_entry_requires : tie.Need-read_vertex_entry-entry-requires
 read_vertex_entry_requires c κs = search rules
 
-enum_known_entry : tie.Need-enum-known-entry
+enum_known_entry : tie.Need-enum_known-entry
 enum_known_entry c = search rules
 
-enum_told : tie.Need-enum-told
+enum_told : tie.Need-enum_told-1
 enum_told c = search rules
 
-returns : tie.Need-returns
+returns : tie.Need-returns-in_default
 unfolding prior_vertex
-returns c = broken_then _ c.before.before.read-vertex-entry.ensures c.enum_told.given.1
+returns c = broken_then _ c.read_vertex_entry-entry.ensures c.in_default.is
 
-returns_2 : tie.Need-returns-2
+returns_2 : tie.Need-returns-then-code-eq0
 unfolding prior_vertex
 returns_2 c =
-    let entry = c.before.before in
-    value_then _ entry.before.before.read-vertex-entry.ensures entry.entry.given.1
-    (unused_then _ _ _ _ c.if1.true refl)
+    value_then _ c.read_vertex_entry-entry.ensures c.in-Value.is
+    (unused_then _ _ _ _ c.if-code-eq0.true refl)
 
-is_border_requires : tie.Need-is-border-requires
+is_border_requires : tie.Need-is_border-requires
 is_border_requires c κs = search rules
 
-returns_3 : tie.Need-returns-3
+returns_3 : tie.Need-returns-then-not-is_border
 unfolding prior_vertex
 returns_3 c =
     let tested = c.before in
-    value_then _ (read tested).read-vertex-entry.ensures (named tested).entry.given.1
-    (used_then (code tested) _ _ _ (used tested).if1.false
-    (side_then (code tested) _ _ tested.is-border.ensures (not-true _ c.if2.true) refl))
+    value_then _ tested.read_vertex_entry-entry.ensures tested.in-Value.is
+    (used_then (code tested) _ _ _ tested.if-code-eq0.false
+    (side_then (code tested) _ _ tested.is_border.ensures (not-true _ c.if-not-is_border.true-raw) refl))
 
-border_destination_requires : tie.Need-border-destination-requires
+border_destination_requires : tie.Need-border_destination-requires
 border_destination_requires c κs =
     let tested = c.before in
-    entry_border _ _ _ (value_of (read tested).read-vertex-entry.ensures (named tested).entry.given.1) (used tested).if1.false
-    (of_border _ tested.is-border.ensures (not-false _ c.if2.false))
+    entry_border _ _ _ (value_of tested.read_vertex_entry-entry.ensures tested.in-Value.is) tested.if-code-eq0.false
+    (of_border _ tested.is_border.ensures (not-false _ c.if-not-is_border.false-raw))
 
-returns_4 : tie.Need-returns-4
+returns_4 : tie.Need-returns
 unfolding prior_vertex
 returns_4 c =
     let tested = c.before.before in
-    value_then _ (read tested).read-vertex-entry.ensures (named tested).entry.given.1
-    (used_then (code tested) _ _ _ (used tested).if1.false
-    (border_then (code tested) _ _ tested.is-border.ensures (not-false _ c.before.if2.false) c.border-destination.ensures))
+    value_then _ tested.read_vertex_entry-entry.ensures tested.in-Value.is
+    (used_then (code tested) _ _ _ tested.if-code-eq0.false
+    (border_then (code tested) _ _ tested.is_border.ensures (not-false _ c.if-not-is_border.false-raw) c.border_destination.ensures))
 
 pub prior_vertex_spec : {M : Type 1} → statement M
 prior_vertex_spec =

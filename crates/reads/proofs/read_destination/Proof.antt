@@ -9,17 +9,14 @@ use borrow.Author.Rules.{rules}
 use Rattle.reads.proofs.read_destination.Statement.{statement}
 use Rattle.reads.proofs.read_destination.Tie as tie
 
-abbrev begun : tie.After-next-code → tie.Start
-begun c = c.before.before.before.before.before
-
-next_code_requires : tie.Need-next-code-requires
+next_code_requires : tie.Need-next_code-requires
 next_code_requires c κs = search rules
 
-origin_of_requires : tie.Need-origin-of-requires
+origin_of_requires : tie.Need-origin_of-v-requires
 origin_of_requires c κs =
-    let s = begun c in rw c.next-code.ensures (next_side_lem s.args.list.now s.args.s s.pre)
+    let s = c.before.before.before.before.before in rw c.next_code.ensures (next_side_lem s.args.list.now s.args.s s.requires)
 
-is_vertex_requires : tie.Need-is-vertex-requires
+is_vertex_requires : tie.Need-is_vertex-valid-requires
 is_vertex_requires c κs = search rules
 
 checked_requires : tie.Need-checked-requires
@@ -29,8 +26,8 @@ returns : tie.Need-returns
 unfolding read_destination
 returns c =
     let ended = c.before.before in
-    let list = (begun ended.before).args.list.now in
-    read_as (is_vertex _) c.checked.ensures c.before.is-vertex.ensures (ended.origin-of.ensures ∙ ap (origin list) ended.before.next-code.ensures)
+    let list = ended.args.list.now in
+    read_as (is_vertex _) c.checked.ensures c.is_vertex-valid.ensures (ended.origin_of-v.ensures ∙ ap (origin list) ended.next_code.ensures)
 
 pub read_destination_spec : {M : Type 1} → statement M
 read_destination_spec =

@@ -10,26 +10,23 @@ use native.Mathlib.Omega.{arith}
 use Rattle.reads.proofs.read_vertex_entry.Statement.{statement}
 use Rattle.reads.proofs.read_vertex_entry.Tie as tie
 
-abbrev begun : tie.After-wide → tie.Start
-begun c = c.before.before.before.before.before
-
 -- the vertex has an entry
-numbered : (c : tie.After-wide) → (1 ≤ c.wide.result) × (c.wide.result ≤ length (begun c).args.v2e.now)
-numbered c = omega (arith, vertex_facts _ _ (begun c).requires.1, (begun c).requires.0.vertices, c.wide.ensures)
+numbered : (c : tie.After-wide) → (1 ≤ c.wide.result) × (c.wide.result ≤ length c.args.v2e.now)
+numbered c = omega (arith, vertex_facts _ _ c.requires.1, c.requires.0.vertices, c.wide.ensures)
 
 wide_requires : tie.Need-wide-requires
 wide_requires c κs = search rules
 
-sub_code : tie.Need-overflow-sub-code
+sub_code : tie.Need-overflow_sub-code
 sub_code c = omega (arith, numbered c)
 
-mul_code : tie.Need-overflow-mul-code
+mul_code : tie.Need-offset_bounds-v2e-wide
 mul_code c = search rules
 
-shared_slice_read_code : tie.Need-shared-slice-read-code
+shared_slice_read_code : tie.Need-bounds-v2e-wide
 shared_slice_read_code c = omega (arith, numbered c.before)
 
-is_entry_requires : tie.Need-is-entry-requires
+is_entry_requires : tie.Need-is_entry-valid-requires
 is_entry_requires c κs = search rules
 
 checked_requires : tie.Need-checked-requires
@@ -40,7 +37,7 @@ unfolding read_vertex_entry
 returns c =
     let tested = c.before in
     let index = tested.before.before in
-    read_at_lem (is_entry _) (begun index).args.v2e.now c.checked.ensures tested.is-entry.ensures index.wide.ensures
+    read_at_lem (is_entry _) index.args.v2e.now c.checked.ensures tested.is_entry-valid.ensures index.wide.ensures
 
 pub read_vertex_entry_spec : {M : Type 1} → statement M
 read_vertex_entry_spec =

@@ -11,61 +11,54 @@ use mathlib.Core.Path.{refl, sym}
 use Rattle.reads.proofs.ring_next.Statement.{statement}
 use Rattle.reads.proofs.ring_next.Tie as tie
 
--- the entry of E2e was named, after it was read
-abbrev named : tie.After-is-border → tie.After-across
-named c = c.before.before
+abbrev code : tie.After-is_border → ℕ
+code c = c.in-Value.t
 
-abbrev read : tie.After-is-border → tie.After-read-opposite
-read c = (named c).before.before
-
-abbrev code : tie.After-is-border → ℕ
-code c = (named c).across.given.0.0
-
-read_opposite_requires : tie.Need-read-opposite-requires
+read_opposite_requires : tie.Need-read_opposite-across-requires
 read_opposite_requires c κs = search rules
 
-enum_known_across : tie.Need-enum-known-across
+enum_known_across : tie.Need-enum_known-across
 enum_known_across c = search rules
 
-enum_told : tie.Need-enum-told
+enum_told : tie.Need-enum_told-1
 enum_told c = search rules
 
-returns : tie.Need-returns
+returns : tie.Need-returns-in_default
 unfolding onward
-returns c = broken_then _ c.before.before.read-opposite.ensures c.enum_told.given.1
+returns c = broken_then _ c.read_opposite-across.ensures c.in_default.is
 
-is_border_requires : tie.Need-is-border-requires
+is_border_requires : tie.Need-is_border-requires
 is_border_requires c κs = search rules
 
-returns_2 : tie.Need-returns-2
+returns_2 : tie.Need-returns-then-is_border
 unfolding onward
 returns_2 c =
     let tested = c.before in
-    value_then _ (read tested).read-opposite.ensures (named tested).across.given.1
-    (border_then (code tested) _ _ tested.is-border.ensures c.if1.true refl)
+    value_then _ tested.read_opposite-across.ensures tested.in-Value.is
+    (border_then (code tested) _ _ tested.is_border.ensures c.if-is_border.true refl)
 
-next_code_requires : tie.Need-next-code-requires
+next_code_requires : tie.Need-next_code-turn-requires
 unfolding read_opposite
 next_code_requires c κs =
     let tested = c.before in
-    half_side _ _ (was_valid (is_half_edge _) _ _ (value_of (read tested).read-opposite.ensures (named tested).across.given.1))
-    (of_side _ tested.is-border.ensures c.if1.false)
+    half_side _ _ (was_valid (is_half_edge _) _ _ (value_of tested.read_opposite-across.ensures tested.in-Value.is))
+    (of_side _ tested.is_border.ensures c.if-is_border.false)
 
-returns_3 : tie.Need-returns-3
+returns_3 : tie.Need-returns-then-turn-start
 unfolding onward
 returns_3 c =
     let side = c.before.before in
     let tested = side.before in
-    value_then _ (read tested).read-opposite.ensures (named tested).across.given.1
-    (side_then (code tested) _ _ tested.is-border.ensures side.if1.false (sym (stops c.before.next-code.ensures c.if2.true)))
+    value_then _ tested.read_opposite-across.ensures tested.in-Value.is
+    (side_then (code tested) _ _ tested.is_border.ensures side.if-is_border.false (sym (stops c.next_code-turn.ensures c.if-turn-start.true)))
 
-returns_4 : tie.Need-returns-4
+returns_4 : tie.Need-returns
 unfolding onward
 returns_4 c =
     let side = c.before.before in
     let tested = side.before in
-    value_then _ (read tested).read-opposite.ensures (named tested).across.given.1
-    (side_then (code tested) _ _ tested.is-border.ensures side.if1.false (sym (goes_on c.before.next-code.ensures c.if2.false)))
+    value_then _ tested.read_opposite-across.ensures tested.in-Value.is
+    (side_then (code tested) _ _ tested.is_border.ensures side.if-is_border.false (sym (goes_on c.next_code-turn.ensures c.if-turn-start.false)))
 
 pub ring_next_spec : {M : Type 1} → statement M
 ring_next_spec =

@@ -12,89 +12,76 @@ use mathlib.Core.Path.{refl, ap}
 use Rattle.reads.proofs.start_side.Statement.{statement}
 use Rattle.reads.proofs.start_side.Tie as tie
 
--- the entry of V2e isn't 0; it was named, after it was read
-abbrev used : tie.After-is-border → tie.Else1
-used c = c.before
+abbrev code : tie.After-is_border → ℕ
+code c = c.in-Value.first
 
-abbrev named : tie.After-is-border → tie.After-entry
-named c = (used c).before.before
-
-abbrev read : tie.After-is-border → tie.After-read-vertex-entry
-read c = (named c).before.before
-
-abbrev code : tie.After-is-border → ℕ
-code c = (named c).entry.given.0.0
-
-read_vertex_entry_requires : tie.Need-read-vertex-entry-requires
+read_vertex_entry_requires : tie.Need-read_vertex_entry-entry-requires
 read_vertex_entry_requires c κs = search rules
 
-enum_known_entry : tie.Need-enum-known-entry
+enum_known_entry : tie.Need-enum_known-entry
 enum_known_entry c = search rules
 
-enum_told : tie.Need-enum-told
+enum_told : tie.Need-enum_told-1
 enum_told c = search rules
 
-returns : tie.Need-returns
+returns : tie.Need-returns-in_default
 unfolding start_side
-returns c = broken_then _ c.before.before.read-vertex-entry.ensures c.enum_told.given.1
+returns c = broken_then _ c.read_vertex_entry-entry.ensures c.in_default.is
 
-returns_2 : tie.Need-returns-2
+returns_2 : tie.Need-returns-then-first-eq0
 unfolding start_side
 returns_2 c =
-    let entry = c.before.before in
-    value_then _ entry.before.before.read-vertex-entry.ensures entry.entry.given.1
-    (unused_then _ _ _ _ c.if1.true refl)
+    value_then _ c.read_vertex_entry-entry.ensures c.in-Value.is
+    (unused_then _ _ _ _ c.if-first-eq0.true refl)
 
-is_border_requires : tie.Need-is-border-requires
+is_border_requires : tie.Need-is_border-requires
 is_border_requires c κs = search rules
 
-returns_3 : tie.Need-returns-3
+returns_3 : tie.Need-returns-then-not-is_border
 unfolding start_side
 returns_3 c =
     let tested = c.before in
-    value_then _ (read tested).read-vertex-entry.ensures (named tested).entry.given.1
-    (used_then (code tested) _ _ _ (used tested).if1.false
-    (side_then (code tested) _ _ tested.is-border.ensures (not-true _ c.if2.true) refl))
+    value_then _ tested.read_vertex_entry-entry.ensures tested.in-Value.is
+    (used_then (code tested) _ _ _ tested.if-first-eq0.false
+    (side_then (code tested) _ _ tested.is_border.ensures (not-true _ c.if-not-is_border.true-raw) refl))
 
-read_border_side_requires : tie.Need-read-border-side-requires
+read_border_side_requires : tie.Need-read_border_side-side-requires
 read_border_side_requires c κs =
     let tested = c.before in
-    entry_border _ _ _ (value_of (read tested).read-vertex-entry.ensures (named tested).entry.given.1) (used tested).if1.false
-    (of_border _ tested.is-border.ensures (not-false _ c.if2.false))
+    entry_border _ _ _ (value_of tested.read_vertex_entry-entry.ensures tested.in-Value.is) tested.if-first-eq0.false
+    (of_border _ tested.is_border.ensures (not-false _ c.if-not-is_border.false-raw))
 
-enum_known_side : tie.Need-enum-known-side
+enum_known_side : tie.Need-enum_known-side
 enum_known_side c = search rules
 
-enum_told_2 : tie.Need-enum-told-2
+enum_told_2 : tie.Need-enum_told-in_default-side
 enum_told_2 c = search rules
 
-returns_4 : tie.Need-returns-4
+returns_4 : tie.Need-returns-in_default-side
 unfolding start_side
 returns_4 c =
+    let sided = c.before in
+    let border = sided.before in
+    let tested = border.before in
+    value_then _ tested.read_vertex_entry-entry.ensures tested.in-Value.is
+    (used_then (code tested) _ _ _ tested.if-first-eq0.false
+    (border_then (code tested) _ _ tested.is_border.ensures (not-false _ border.if-not-is_border.false-raw)
+    (broken_then _ sided.read_border_side-side.ensures c.in_default-side.is)))
+
+next_code_requires : tie.Need-next_code-begin-requires
+next_code_requires c κs =
+    border_side _ _ _ (value_of c.read_border_side-side.ensures c.in-Value-side.is)
+
+returns_5 : tie.Need-returns
+unfolding start_side
+returns_5 c =
     let sided = c.before.before in
     let border = sided.before in
     let tested = border.before in
-    value_then _ (read tested).read-vertex-entry.ensures (named tested).entry.given.1
-    (used_then (code tested) _ _ _ (used tested).if1.false
-    (border_then (code tested) _ _ tested.is-border.ensures (not-false _ border.if2.false)
-    (broken_then _ sided.read-border-side.ensures c.enum-told2.given.1)))
-
-next_code_requires : tie.Need-next-code-requires
-next_code_requires c κs =
-    let side = c.before in
-    border_side _ _ _ (value_of side.before.before.read-border-side.ensures side.side.given.1)
-
-returns_5 : tie.Need-returns-5
-unfolding start_side
-returns_5 c =
-    let side = c.before.before in
-    let sided = side.before.before in
-    let border = sided.before in
-    let tested = border.before in
-    value_then _ (read tested).read-vertex-entry.ensures (named tested).entry.given.1
-    (used_then (code tested) _ _ _ (used tested).if1.false
-    (border_then (code tested) _ _ tested.is-border.ensures (not-false _ border.if2.false)
-    (value_then _ sided.read-border-side.ensures side.side.given.1 (ap some c.next-code.ensures))))
+    value_then _ tested.read_vertex_entry-entry.ensures tested.in-Value.is
+    (used_then (code tested) _ _ _ tested.if-first-eq0.false
+    (border_then (code tested) _ _ tested.is_border.ensures (not-false _ border.if-not-is_border.false-raw)
+    (value_then _ sided.read_border_side-side.ensures c.in-Value-side.is (ap some c.next_code-begin.ensures))))
 
 pub start_side_spec : {M : Type 1} → statement M
 start_side_spec =

@@ -16,9 +16,6 @@ use Rattle.walk.specs.Traces.{written_at, shut_side, shut_place, open_place}
 use Rattle.walk.proofs.is_open.Statement.{statement}
 use Rattle.walk.proofs.is_open.Tie as tie
 
-abbrev begun : tie.After-is-side → tie.Start
-begun c = c.before.before.before
-
 abbrev asked : tie.Start → ℕ
 asked s = s.args.s
 
@@ -26,80 +23,77 @@ abbrev E2e : tie.Start → List ℕ
 E2e s = e2e_in s.args.n s.args.m s.args.work.now
 
 -- the test is one of E2e
-tested : (c : tie.After-is-side) → c.is-side.result ≡ is_side (E2e (begun c)) (asked (begun c))
-tested c = rw lent at c.is-side.ensures
+tested : (c : tie.After-is_side) → c.is_side.result ≡ is_side (E2e c.before.before.before) (asked c.before.before.before)
+tested c = rw lent at c.is_side.ensures
 
-a_side : (c : tie.Else1) → is_side (E2e (begun c.before)) (asked (begun c.before)) ≡ true
-a_side c = sym (tested c.before) ∙ not-false _ c.if1.false
+a_side : (c : tie.Else-not-is_side) → is_side (E2e c.before.before.before.before) (asked c.before.before.before.before) ≡ true
+a_side c = sym (tested c.before) ∙ not-false _ c.if-not-is_side.false-raw
 
 abbrev places : tie.Start → List ℕ
 places s = written s.args.n s.args.m s.args.work.now
 
-abbrev placed : tie.After-slot-of → tie.Start
-placed c = begun c.before.before
-
-place : (c : tie.After-slot-of) → c.slot_of.result < 4 * (placed c).args.m
+place : (c : tie.After-slot_of) → c.slot_of.result < 4 * c.args.m
 place c =
-    let s = placed c in
-    rw c.slot_of.ensures (slot_in s.args.n s.args.m s.args.work.now s.pre s.args.s (rw (a_side c.before) tt))
+    let s = c.before.before.before.before.before in
+    rw c.slot_of.ensures (slot_in s.args.n s.args.m s.args.work.now s.requires s.args.s (rw (a_side c.before) tt))
 
-abbrev entry : tie.After-slot-of → ℕ
-entry c = at (placed c).args.work.now ((placed c).args.n + 8 * (placed c).args.m + c.slot_of.result)
+abbrev entry : tie.After-slot_of → ℕ
+entry c = at c.args.work.now (c.args.n + 8 * c.args.m + c.slot_of.result)
 
-read : (c : tie.After-slot-of) → entry c ≡ at (places (placed c)) (slot (asked (placed c)))
-read c = let s = placed c in written_at s.args.n s.args.m s.args.work.now s.args.s c.slot_of.ensures
+read : (c : tie.After-slot_of) → entry c ≡ at (places c.before.before.before.before.before) (slot (asked c.before.before.before.before.before))
+read c = let s = c.before.before.before.before.before in written_at s.args.n s.args.m s.args.work.now s.args.s c.slot_of.ensures
 
-mul_e : tie.Need-overflow-mul-e
+mul_e : tie.Need-overflow_mul-e
 mul_e c = search rules
 
-add_e : tie.Need-overflow-add-e
+add_e : tie.Need-overflow_add-e
 add_e c = search rules
 
-mul_is_side : tie.Need-overflow-mul-is-side
+mul_is_side : tie.Need-offset_bounds-work-n
 mul_is_side c = search rules
 
-sub_is_side : tie.Need-overflow-sub-is-side
+sub_is_side : tie.Need-slice_bounds-is_side-count
 sub_is_side c = search rules
 
-part_is_side_start : tie.Need-slice-bounds-is-side-start
+part_is_side_start : tie.Need-slice_bounds-is_side-start
 part_is_side_start c = search rules
 
-part_is_side_end : tie.Need-slice-bounds-is-side-end
+part_is_side_end : tie.Need-slice_bounds-is_side-end
 part_is_side_end c = search rules
 
-is_side_requires : tie.Need-is-side-requires
+is_side_requires : tie.Need-is_side-requires
 is_side_requires c κs = search rules
 
-returns : tie.Need-returns
-returns c = shut_side _ (places (begun c.before)) _ (sym (tested c.before) ∙ not-true _ c.if1.true)
+returns : tie.Need-returns-then-not-is_side
+returns c = shut_side _ (places c.before.before.before.before) _ (sym (tested c.before) ∙ not-true _ c.if-not-is_side.true-raw)
 
-mul_if2 : tie.Need-overflow-mul-if2
+mul_if2 : tie.Need-overflow_mul-m
 mul_if2 c = search rules
 
-add_if2 : tie.Need-overflow-add-if2
+add_if2 : tie.Need-overflow_add-n
 add_if2 c = search rules
 
-slot_of_requires : tie.Need-slot-of-requires
-slot_of_requires c κs = side_from (E2e (begun c.before)) _ (rw (a_side c) tt)
+slot_of_requires : tie.Need-slot_of-requires
+slot_of_requires c κs = side_from (E2e c.before.before.before.before) _ (rw (a_side c) tt)
 
-add_if2_2 : tie.Need-overflow-add-if2-2
+add_if2_2 : tie.Need-overflow_add-n-2
 add_if2_2 c = omega (arith, place c)
 
-mul_if2_2 : tie.Need-overflow-mul-if2-2
+mul_if2_2 : tie.Need-offset_bounds-work-n-2
 mul_if2_2 c = omega (arith, place c)
 
-shared_slice_read_if2 : tie.Need-shared-slice-read-if2
+shared_slice_read_if2 : tie.Need-bounds-work-n
 shared_slice_read_if2 c = omega (arith, place c.before)
 
-returns_2 : tie.Need-returns-2
+returns_2 : tie.Need-returns-then-work-n-ne0
 returns_2 c =
     let opened = c.before.before in
-    shut_place _ (places (placed opened)) _ (read opened) c.if2.true
+    shut_place _ (places opened.before.before.before.before.before) _ (read opened) c.if-work-n-ne0.true
 
-returns_3 : tie.Need-returns-3
+returns_3 : tie.Need-returns
 returns_3 c =
     let opened = c.before.before in
-    open_place _ (places (placed opened)) _ (read opened) (a_side opened.before) c.if2.false
+    open_place _ (places opened.before.before.before.before.before) _ (read opened) (a_side opened.before) c.if-work-n-ne0.false
 
 pub is_open_spec : {M : Type 1} → statement M
 is_open_spec =

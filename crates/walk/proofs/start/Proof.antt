@@ -11,102 +11,91 @@ use Rattle.walk.specs.Sides.{lent, start_side_lem, start_outside, Bordered, star
 use Rattle.walk.proofs.start.Statement.{statement}
 use Rattle.walk.proofs.start.Tie as tie
 
--- past the test that v's entry is a border, with its number taken
-abbrev tested : tie.After-wide → tie.Else1
-tested c = c.before.before
+abbrev entry : tie.After-wide-b → ℕ
+entry c = at c.args.work.now (c.args.v - 1)
 
-abbrev begun : tie.After-wide → tie.Start
-begun c = (tested c).before.before.before.before
-
-abbrev entry : tie.After-wide → ℕ
-entry c = at (begun c).args.work.now ((begun c).args.v - 1)
-
-bordered : (c : tie.After-wide) → Bordered (begun c).args.n (begun c).args.m (begun c).args.work.now (entry c) c.wide.result
+bordered : (c : tie.After-wide-b) → Bordered c.args.n c.args.m c.args.work.now (entry c) c.wide-b.result
 bordered c =
     record {
-      sizes = (begun c).requires.0;
-      linked = (begun c).requires.1;
-      border = of_border (entry c) (tested c).before.is-border.ensures (not-false _ (tested c).if1.false);
-      split = c.wide.ensures ∙ c.before.element-of.ensures;
+      sizes = c.requires.0;
+      linked = c.requires.1;
+      border = of_border (entry c) c.is_border.ensures (not-false _ c.if-not-is_border.false-raw);
+      split = c.wide-b.ensures ∙ c.element_of.ensures;
     }
 
--- past the tests of its number b
-abbrev numbered : tie.After-shared-slice-known3 → tie.After-wide
-numbered c = c.before.before.before
-
-sub_c : tie.Need-overflow-sub-c
+sub_c : tie.Need-overflow_sub-c
 sub_c c = search rules
 
-mul_c : tie.Need-overflow-mul-c
+mul_c : tie.Need-offset_bounds-work-v
 mul_c c = search rules
 
-shared_slice_read_c : tie.Need-shared-slice-read-c
+shared_slice_read_c : tie.Need-bounds-work-v
 shared_slice_read_c c = search rules
 
-is_border_requires : tie.Need-is-border-requires
+is_border_requires : tie.Need-is_border-requires
 is_border_requires c κs = search rules
 
-returns : tie.Need-returns
-returns c = start_side_lem _ _ c.before.is-border.ensures (not-true _ c.if1.true)
+returns : tie.Need-returns-then-not-is_border
+returns c = start_side_lem _ _ c.is_border.ensures (not-true _ c.if-not-is_border.true-raw)
 
-element_of_requires : tie.Need-element-of-requires
+element_of_requires : tie.Need-element_of-requires
 element_of_requires c κs = search rules
 
-wide_requires : tie.Need-wide-requires
+wide_requires : tie.Need-wide-b-requires
 wide_requires c κs = search rules
 
-returns_2 : tie.Need-returns-2
+returns_2 : tie.Need-returns-then-b-eq0
 returns_2 c = start_outside (bordered c.before) (λ a b. omega arith)
 
-mul_if3 : tie.Need-overflow-mul-if3
+mul_if3 : tie.Need-overflow_mul-m
 mul_if3 c = search rules
 
-returns_3 : tie.Need-returns-3
+returns_3 : tie.Need-returns-then-m-b
 returns_3 c = start_outside (bordered c.before.before) (λ a b. omega arith)
 
-mul_e : tie.Need-overflow-mul-e
+mul_e : tie.Need-overflow_mul-e
 mul_e c = search rules
 
-add_e : tie.Need-overflow-add-e
+add_e : tie.Need-overflow_add-e
 add_e c = search rules
 
-add_s : tie.Need-overflow-add-s
+add_s : tie.Need-overflow_add-s
 add_s c = search rules
 
-sub_s : tie.Need-overflow-sub-s
+sub_s : tie.Need-overflow_sub-s
 sub_s c = search rules
 
-mul_s : tie.Need-overflow-mul-s
+mul_s : tie.Need-offset_bounds-work-e
 mul_s c = search rules
 
-shared_slice_read_s : tie.Need-shared-slice-read-s
+shared_slice_read_s : tie.Need-bounds-work-e
 shared_slice_read_s c = search rules
 
-returns_4 : tie.Need-returns-4
-returns_4 c = start_unlinked (bordered (numbered c.before)) (omega arith) (omega arith) c.if4.true
+returns_4 : tie.Need-returns-then-s-eq0
+returns_4 c = start_unlinked (bordered c.before.before.before.before) (omega arith) (omega arith) c.if-s-eq0.true
 
-mul_next_code : tie.Need-overflow-mul-next-code
+mul_next_code : tie.Need-offset_bounds-work-n
 mul_next_code c = search rules
 
-sub_next_code : tie.Need-overflow-sub-next-code
+sub_next_code : tie.Need-slice_bounds-next_code-count
 sub_next_code c = search rules
 
-part_next_code_start : tie.Need-slice-bounds-next-code-start
+part_next_code_start : tie.Need-slice_bounds-next_code-start
 part_next_code_start c = search rules
 
-part_next_code_end : tie.Need-slice-bounds-next-code-end
+part_next_code_end : tie.Need-slice_bounds-next_code-end
 part_next_code_end c = search rules
 
-next_code_requires : tie.Need-next-code-requires
+next_code_requires : tie.Need-next_code-requires
 next_code_requires c κs =
     let found = c.before in
-    rw lent (linked_side (bordered (numbered found.before)) (omega arith) (omega arith) found.if4.false)
+    rw lent (linked_side (bordered found.before.before.before.before) (omega arith) (omega arith) found.if-s-eq0.false)
 
-returns_5 : tie.Need-returns-5
+returns_5 : tie.Need-returns
 returns_5 c =
     let found = c.before.before in
-    start_linked (bordered (numbered found.before)) (omega arith) (omega arith) found.if4.false
-    (rw lent at c.next-code.ensures)
+    start_linked (bordered found.before.before.before.before) (omega arith) (omega arith) found.if-s-eq0.false
+    (rw lent at c.next_code.ensures)
 
 pub start_spec : {M : Type 1} → statement M
 start_spec =

@@ -12,33 +12,33 @@ use Rattle.walk.proofs.turn.Statement.{statement}
 use Rattle.walk.proofs.turn.Tie as tie
 
 -- the place of s is in E2e
-place : (c : tie.After-slot-of) → c.slot_of.result < length c.before.before.args.e2e.now
-place c = rw c.slot_of.ensures (slot_below c.before.before.args.e2e.now _ c.before.before.requires)
+place : (c : tie.After-slot_of) → c.slot_of.result < length c.args.e2e.now
+place c = rw c.slot_of.ensures (slot_below c.args.e2e.now _ c.requires)
 
-slot_of_requires : tie.Need-slot-of-requires
-slot_of_requires c κs = side_from _ _ c.before.requires
+slot_of_requires : tie.Need-slot_of-requires
+slot_of_requires c κs = side_from _ _ c.requires
 
-mul_t : tie.Need-overflow-mul-t
+mul_t : tie.Need-offset_bounds-e2e-slot_of
 mul_t c = omega (arith, place c)
 
-shared_slice_read_t : tie.Need-shared-slice-read-t
+shared_slice_read_t : tie.Need-bounds-e2e-slot_of
 shared_slice_read_t c = place c.before
 
-is_side_requires : tie.Need-is-side-requires
+is_side_requires : tie.Need-is_side-requires
 is_side_requires c κs = search rules
 
-returns : tie.Need-returns
+returns : tie.Need-returns-then-not-is_side
 returns c =
     let tested = c.before in
-    turn_none _ _ tested.before.before.slot_of.ensures tested.is-side.ensures (not-true _ c.if1.true)
+    turn_none _ _ tested.slot_of.ensures tested.is_side.ensures (not-true _ c.if-not-is_side.true-raw)
 
-next_by_row_requires : tie.Need-next-by-row-requires
-next_by_row_requires c κs = rw (sym c.before.is-side.ensures ∙ not-false _ c.if1.false) tt
+next_by_row_requires : tie.Need-next_by_row-requires
+next_by_row_requires c κs = rw (sym c.is_side.ensures ∙ not-false _ c.if-not-is_side.false-raw) tt
 
-returns_2 : tie.Need-returns-2
+returns_2 : tie.Need-returns
 returns_2 c =
     let tested = c.before.before in
-    turn_next _ _ tested.before.before.slot_of.ensures tested.is-side.ensures (not-false _ c.before.if1.false) c.next-by-row.ensures
+    turn_next _ _ tested.slot_of.ensures tested.is_side.ensures (not-false _ c.if-not-is_side.false-raw) c.next_by_row.ensures
 
 pub turn_spec : {M : Type 1} → statement M
 turn_spec =

@@ -9,51 +9,45 @@ use Rattle.walk.specs.Walks.{Cleared, cleared, walks_start, walked_from}
 use Rattle.walk.proofs.walk.Statement.{statement}
 use Rattle.walk.proofs.walk.Tie as tie
 
-abbrev begun : tie.After-clear → tie.Start
-begun c = c.before.before.before
-
 -- the work buffer with its last part cleared
 abbrev buffer : (n m : ℕ) → List ℕ → List ℕ → List ℕ
 buffer n m w ys = tables n m w ++ (ys ++ drop (length w - (n + 8 * m)) (written n m w))
 
-emptied : (c : tie.After-clear) → Cleared (begun c).args.n (begun c).args.m (begun c).args.work.now
-    (buffer (begun c).args.n (begun c).args.m (begun c).args.work.now c.clear.new.0)
-emptied c = cleared (begun c).requires.0 (begun c).requires.1 c.clear.ensures
+emptied : (c : tie.After-clear) → Cleared c.args.n c.args.m c.args.work.now
+    (buffer c.args.n c.args.m c.args.work.now c.clear.new.out)
+emptied c = cleared c.requires.0 c.requires.1 c.clear.ensures
 
-abbrev lent : tie.After-walk-empty-arg → tie.After-clear
-lent c = c.before.before.before
-
-mul_a : tie.Need-overflow-mul-a
+mul_a : tie.Need-overflow_mul-a
 mul_a c = search rules
 
-add_a : tie.Need-overflow-add-a
+add_a : tie.Need-overflow_add-a
 add_a c = search rules
 
-mul_clear : tie.Need-overflow-mul-clear
+mul_clear : tie.Need-offset_bounds-work-a
 mul_clear c = search rules
 
-sub_clear : tie.Need-overflow-sub-clear
+sub_clear : tie.Need-slice_bounds-clear-count
 sub_clear c = search rules
 
-part_clear_start : tie.Need-slice-bounds-clear-start
+part_clear_start : tie.Need-slice_bounds-clear-start
 part_clear_start c = search rules
 
-part_clear_end : tie.Need-slice-bounds-clear-end
+part_clear_end : tie.Need-slice_bounds-clear-end
 part_clear_end c = search rules
 
 clear_requires : tie.Need-clear-requires
 clear_requires c κs = search rules
 
-walk_empty_requires : tie.Need-walk-empty-requires
-walk_empty_requires c κs = walks_start (emptied (lent c))
+walk_empty_requires : tie.Need-walk_empty-requires
+walk_empty_requires c κs = walks_start (emptied c.before.before.before)
 
-same_length : tie.Need-same-length
+same_length : tie.Need-shape_of-work
 same_length c = search rules
 
 returns : tie.Need-returns
 returns c =
     let walked = c.before.before in
-    walked_from (emptied (lent walked.before)) walked.walk-empty.ensures
+    walked_from (emptied walked.before.before.before.before) walked.walk_empty.ensures
 
 pub walk_spec : {M : Type 1} → statement M
 walk_spec =

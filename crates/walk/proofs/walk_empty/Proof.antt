@@ -8,50 +8,46 @@ use Rattle.walk.specs.Walks.{Walks, walks_on}
 use Rattle.walk.proofs.walk_empty.Statement.{statement}
 use Rattle.walk.proofs.walk_empty.Tie as tie
 
-abbrev invariant_loop : tie.invariant-loop
+abbrev invariant_loop : tie.invariant-loop-v
 invariant_loop n m work₀ v₀ work v = Walks n m v work₀ work
 
-abbrev decreases_loop : tie.decreases-loop
+abbrev decreases_loop : tie.decreases-loop-v
 decreases_loop n m work₀ v₀ work v = n - v
 
--- the loop's state when the vertex is traced
-abbrev started : tie.After-start invariant_loop decreases_loop → tie.At-loop invariant_loop decreases_loop
-started c = c.before.before.before.before.before
-
-loop_holds : tie.Need-loop-init invariant_loop decreases_loop
-loop_holds c = let h = c.before.requires in record { sizes = h.0; linked = h.1; walked = h.2; in_range = omega arith }
+loop_holds : tie.Need-loop-v-init invariant_loop decreases_loop
+loop_holds c = let h = c.requires in record { sizes = h.0; linked = h.1; walked = h.2; in_range = omega arith }
 
 wide_requires : tie.Need-wide-requires invariant_loop decreases_loop
 wide_requires c κs = search rules
 
-add_v : tie.Need-overflow-add-v invariant_loop decreases_loop
+add_v : tie.Need-overflow_add-v invariant_loop decreases_loop
 add_v c = search rules
 
-wide_requires_2 : tie.Need-wide-requires-2 invariant_loop decreases_loop
+wide_requires_2 : tie.Need-wide-requires-in-loop-v invariant_loop decreases_loop
 wide_requires_2 c κs = search rules
 
-start_requires : tie.Need-start-requires invariant_loop decreases_loop
+start_requires : tie.Need-start-s-requires invariant_loop decreases_loop
 start_requires c κs = search rules
 
 trace_requires : tie.Need-trace-requires invariant_loop decreases_loop
 trace_requires c κs = search rules
 
-loop_less : tie.Need-loop-smaller invariant_loop decreases_loop
+loop_less : tie.Need-loop-v-smaller invariant_loop decreases_loop
 loop_less c = search rules
 
-loop_again : tie.Need-loop-preserved invariant_loop decreases_loop
+loop_again : tie.Need-loop-v-preserved invariant_loop decreases_loop
 loop_again c =
     let traced = c.before.before in
     let s = traced.before.before in
-    walks_on (started s).loop.invariant (omega arith) (rw s.before.wide2.ensures at s.start.ensures) traced.trace.ensures
+    walks_on s.loop-v.invariant (omega arith) (rw s.wide-in-loop-v.ensures at s.start-s.ensures) traced.trace.ensures
 
-same_length : tie.Need-same-length invariant_loop decreases_loop
+same_length : tie.Need-shape_of-work invariant_loop decreases_loop
 same_length c = search rules
 
 returns : tie.Need-returns invariant_loop decreases_loop
 returns c =
     let s = c.before.before in
-    let e : s.loop.v ≡ s.before.before.args.n = omega arith in rw e at s.loop.invariant.walked
+    let e : s.loop-v.v ≡ s.args.n = omega arith in rw e at s.loop-v.invariant.walked
 
 pub walk_empty_spec : {M : Type 1} → statement M
 walk_empty_spec =
