@@ -38,61 +38,57 @@ module _ (W E : List ℕ) where
   agree l f =
       sym (true_of (same (narrowed 3 W) E) ((means_same (narrowed 3 W) E).shows (sym (is_tab (3 * elements W) three E l (λ k h. f k (omega arith))))))
 
-abbrev invariant_loop : tie.invariant-loop
+abbrev invariant_loop : tie.invariant-loop-p
 invariant_loop table e2e p₀ p = (p ≤ length e2e) × ((k : ℕ) → k < p → at e2e k ≡ at table (k + k / 3))
 
-abbrev decreases_loop : tie.decreases-loop
+abbrev decreases_loop : tie.decreases-loop-p
 decreases_loop table e2e p₀ p = length e2e - p
 
--- the turn of the loop in which both entries were read
-abbrev turn : tie.After-shared-slice-known2 invariant_loop decreases_loop → tie.At-loop invariant_loop decreases_loop
-turn c = c.before.before.before
-
-mul_if1 : tie.Need-overflow-mul-if1 invariant_loop decreases_loop
+mul_if1 : tie.Need-overflow_mul-table invariant_loop decreases_loop
 mul_if1 c = search rules
 
-returns : tie.Need-returns invariant_loop decreases_loop
+returns : tie.Need-returns-then-e2e-table invariant_loop decreases_loop
 returns c =
-    let a = c.before.args in differ a.table.now a.e2e.now (λ e. c.if1.true (long a.table.now a.e2e.now e))
+    let a = c.args in differ a.table.now a.e2e.now (λ e. c.if-e2e-table.true (long a.table.now a.e2e.now e))
 
-loop_holds : tie.Need-loop-init invariant_loop decreases_loop
+loop_holds : tie.Need-loop-p-init invariant_loop decreases_loop
 loop_holds c = (omega arith, λ k h. absurd (omega arith))
 
-mul_if2 : tie.Need-overflow-mul-if2 invariant_loop decreases_loop
+mul_if2 : tie.Need-offset_bounds-e2e-p invariant_loop decreases_loop
 mul_if2 c = search rules
 
-shared_slice_read_if2 : tie.Need-shared-slice-read-if2 invariant_loop decreases_loop
+shared_slice_read_if2 : tie.Need-bounds-e2e-p invariant_loop decreases_loop
 shared_slice_read_if2 c = search rules
 
-add_if2 : tie.Need-overflow-add-if2 invariant_loop decreases_loop
+add_if2 : tie.Need-overflow_add-p invariant_loop decreases_loop
 add_if2 c = search rules
 
-mul_if2_2 : tie.Need-overflow-mul-if2-2 invariant_loop decreases_loop
+mul_if2_2 : tie.Need-offset_bounds-table-p invariant_loop decreases_loop
 mul_if2_2 c = search rules
 
-shared_slice_read_if2_2 : tie.Need-shared-slice-read-if2-2 invariant_loop decreases_loop
+shared_slice_read_if2_2 : tie.Need-bounds-table-p invariant_loop decreases_loop
 shared_slice_read_if2_2 c = omega arith
 
-returns_2 : tie.Need-returns-2 invariant_loop decreases_loop
+returns_2 : tie.Need-returns-then-e2e-p invariant_loop decreases_loop
 returns_2 c =
-    let at_turn = turn c.before in
-    let a = at_turn.before.before.args in
-    differ a.table.now a.e2e.now (λ e. c.if2.true (entry a.table.now a.e2e.now e at_turn.loop.p (omega arith)))
+    let at_turn = c.before.before.before.before in
+    let a = at_turn.args in
+    differ a.table.now a.e2e.now (λ e. c.if-e2e-p.true (entry a.table.now a.e2e.now e at_turn.loop-p.p (omega arith)))
 
-add_p : tie.Need-overflow-add-p invariant_loop decreases_loop
+add_p : tie.Need-overflow_add-p-in-loop-p invariant_loop decreases_loop
 add_p c = search rules
 
-loop_less : tie.Need-loop-smaller invariant_loop decreases_loop
+loop_less : tie.Need-loop-p-smaller invariant_loop decreases_loop
 loop_less c = omega arith
 
-loop_again : tie.Need-loop-preserved invariant_loop decreases_loop
-loop_again c = (omega arith, below_more _ _ (turn c.before).loop.inv.1 c.if2.false)
+loop_again : tie.Need-loop-p-preserved invariant_loop decreases_loop
+loop_again c = (omega arith, below_more _ _ c.loop-p.invariant.1 c.if-e2e-p.false)
 
-returns_3 : tie.Need-returns-3 invariant_loop decreases_loop
+returns_3 : tie.Need-returns invariant_loop decreases_loop
 returns_3 c =
     let tested = c.before.before in
-    let a = tested.before.args in
-    agree a.table.now a.e2e.now tested.if1.false (λ k h. c.before.loop.invariant.1 k (omega arith))
+    let a = tested.args in
+    agree a.table.now a.e2e.now tested.if-e2e-table.false (λ k h. c.loop-p.invariant.1 k (omega arith))
 
 pub is_narrow_spec : {M : Type 1} → statement M
 is_narrow_spec =

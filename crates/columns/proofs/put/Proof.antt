@@ -11,42 +11,39 @@ use Rattle.columns.proofs.Narrowing.{not_three, as_it_is, long_by}
 use Rattle.columns.proofs.put.Statement.{statement}
 use Rattle.columns.proofs.put.Tie as tie
 
-abbrev begun : tie.After-slice-known → tie.Start
-begun c = c.before.before
-
 -- four columns are as long as the table
-as_long : (c : tie.Else1) → let a = (begun c.before).args in length a.table.now ≡ length a.out.now
+as_long : (c : tie.Else-columns-eq3) → let a = c.args in length a.table.now ≡ length a.out.now
 as_long c =
-    let s = begun c.before in
-    let (fours, long) = s.pre.1 in
-    omega (arith, long_by _ long (not_three s.pre.0 c.if1.false))
+    let s = c.before.before.before in
+    let (fours, long) = s.requires.1 in
+    omega (arith, long_by _ long (not_three s.requires.0 c.if-columns-eq3.false))
 
 narrow_requires : tie.Need-narrow-requires
 narrow_requires c κs =
-    let s = begun c.before.before in
-    let (fours, long) = s.pre.1 in (fours, long_by _ long c.before.if1.true)
+    let s = c.before.before.before.before in
+    let (fours, long) = s.requires.1 in (fours, long_by _ long c.if-columns-eq3.true)
 
-same_length : tie.Need-same-length
+same_length : tie.Need-shape_of-out-then-columns-eq3
 same_length c = search rules
 
-returns : tie.Need-returns
+returns : tie.Need-returns-then-columns-eq3
 returns c =
     let narrow = c.before.before in
     let tested = narrow.before.before in
-    narrow.narrow.ensures ∙ ap (λ (x : ℕ). narrowed x (begun tested.before).args.table.now) (sym tested.if1.true)
+    narrow.narrow.ensures ∙ ap (λ (x : ℕ). narrowed x tested.args.table.now) (sym tested.if-columns-eq3.true)
 
 copy_requires : tie.Need-copy-requires
 copy_requires c κs = omega (arith, as_long c.before)
 
-same_length_2 : tie.Need-same-length-2
+same_length_2 : tie.Need-shape_of-out
 same_length_2 c = search rules
 
-returns_2 : tie.Need-returns-2
+returns_2 : tie.Need-returns
 returns_2 c =
     let copied = c.before.before in
     let tested = copied.before.before in
-    let a = (begun tested.before).args in
-    copied.copy.ensures ∙ onto_full a.table.now a.out.now (as_long tested) ∙ sym (as_it_is a.table.now tested.if1.false)
+    let a = tested.args in
+    copied.copy.ensures ∙ onto_full a.table.now a.out.now (as_long tested) ∙ sym (as_it_is a.table.now tested.if-columns-eq3.false)
 
 pub put_spec : {M : Type 1} → statement M
 put_spec =

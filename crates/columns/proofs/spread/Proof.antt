@@ -14,43 +14,40 @@ use Rattle.buffers.specs.Whole.{onto_full}
 use Rattle.columns.proofs.spread.Statement.{statement}
 use Rattle.columns.proofs.spread.Tie as tie
 
-abbrev begun : tie.After-slice-known → tie.Start
-begun c = c.before.before
-
 -- what isn't as long as four columns has three
-three : (c : tie.Else1) → let a = (begun c.before).args in length a.e2e.now ≡ 3 * a.m
+three : (c : tie.Else-e2e-out) → let a = c.args in length a.e2e.now ≡ 3 * a.m
 three c =
-    let s = begun c.before in
-    elim s.pre.0 [ inl e ↦ e | inr e ↦ absurd (c.if1.false (e ∙ sym s.pre.1)) ]
+    let s = c.before.before.before in
+    elim s.requires.0 [ inl e ↦ e | inr e ↦ absurd (c.if-e2e-out.false (e ∙ sym s.requires.1)) ]
 
 copy_requires : tie.Need-copy-requires
 copy_requires c κs = search rules
 
-same_length : tie.Need-same-length
+same_length : tie.Need-shape_of-out-then-e2e-out
 same_length c = search rules
 
-returns : tie.Need-returns
+returns : tie.Need-returns-then-e2e-out
 returns c =
     let copied = c.before.before in
     let tested = copied.before.before in
-    let s = begun tested.before in
+    let s = tested.before.before.before in
     copied.copy.ensures
-    ∙ onto_full s.args.e2e.now s.args.out.now tested.if1.true
-    ∙ sym (widened_four s.args.m s.args.e2e.now (tested.if1.true ∙ s.pre.1))
+    ∙ onto_full s.args.e2e.now s.args.out.now tested.if-e2e-out.true
+    ∙ sym (widened_four s.args.m s.args.e2e.now (tested.if-e2e-out.true ∙ s.requires.1))
 
 widen_requires : tie.Need-widen-requires
-widen_requires c κs = let s = begun c.before.before in omega (arith, three c.before, s.pre.1)
+widen_requires c κs = let s = c.before.before.before.before in omega (arith, three c.before, s.requires.1)
 
-same_length_2 : tie.Need-same-length-2
+same_length_2 : tie.Need-shape_of-out
 same_length_2 c = search rules
 
-returns_2 : tie.Need-returns-2
+returns_2 : tie.Need-returns
 returns_2 c =
     let widened = c.before.before in
     let tested = widened.before.before in
-    let s = begun tested.before in
+    let s = tested.before.before.before in
     widened.widen.ensures
-    ∙ ap (λ (k : ℕ). tab k (λ p. entry_of 3 s.args.e2e.now (side_at p))) s.pre.1
+    ∙ ap (λ (k : ℕ). tab k (λ p. entry_of 3 s.args.e2e.now (side_at p))) s.requires.1
     ∙ sym (widened_three s.args.m s.args.e2e.now (three tested))
 
 pub spread_spec : {M : Type 1} → statement M

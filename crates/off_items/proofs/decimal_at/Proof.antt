@@ -11,71 +11,55 @@ use Rattle.off_items.specs.declared.Kind.TheVariants.{Decimal}
 use Rattle.off_items.proofs.decimal_at.Statement.{statement}
 use Rattle.off_items.proofs.decimal_at.Tie as tie
 
-abbrev begun : tie.After-past-sign → tie.Start
-begun c = c.before.before
-
--- sign, digits and fraction were read
-abbrev signed : tie.After-is-end → tie.After-past-sign
-signed c = c.before.before.before.before
-
-abbrev counted : tie.After-is-end → tie.After-digits-end
-counted c = c.before.before.before
-
 place_fits : (c : tie.Start) → let a = c.args in a.s ≤ length a.text.now
 place_fits c = c.requires
 
-past_sign_requires : tie.Need-past-sign-requires
+past_sign_requires : tie.Need-past_sign-a-requires
 past_sign_requires c κs = search rules
 
-digits_end_requires : tie.Need-digits-end-requires
-digits_end_requires c κs = sign_inside _ (place_fits (begun c)) c.past-sign.ensures
+digits_end_requires : tie.Need-digits_end-e-requires
+digits_end_requires c κs = sign_inside _ (place_fits c.before.before) c.past_sign-a.ensures
 
 missed_requires : tie.Need-missed-requires
 missed_requires c κs = search rules
 
-returns : tie.Need-returns
+returns : tie.Need-returns-then-e-a
 unfolding is_of
 returns c =
-    let d = c.before.before in
-    let x = d.before in
     read_bad Decimal _ _
-    (decimal_none _ (place_fits (begun x)) x.past-sign.ensures d.digits-end.ensures c.before.if1.true)
+    (decimal_none _ (place_fits c.before.before.before.before.before) c.past_sign-a.ensures c.digits_end-e.ensures c.if-e-a.true)
     c.missed.ensures
 
-past_fraction_requires : tie.Need-past-fraction-requires
+past_fraction_requires : tie.Need-past_fraction-end-requires
 past_fraction_requires c κs = search rules
 
-is_end_requires : tie.Need-is-end-requires
+is_end_requires : tie.Need-is_end-requires
 is_end_requires c κs = search rules
 
-missed_requires_2 : tie.Need-missed-requires-2
+missed_requires_2 : tie.Need-missed-requires-then-not-is_end
 missed_requires_2 c κs = search rules
 
-returns_2 : tie.Need-returns-2
+returns_2 : tie.Need-returns-then-not-is_end
 unfolding is_of
 returns_2 c =
-    let told = c.before.before in
-    let x = signed told in
     read_bad Decimal _ _
-    (decimal_open _ (place_fits (begun x)) x.past-sign.ensures (counted told).digits-end.ensures told.before.past-fraction.ensures
-    (sym told.is-end.ensures ∙ not-true _ c.before.if2.true))
-    c.missed2.ensures
+    (decimal_open _ (place_fits c.before.before.before.before.before.before.before.before) c.past_sign-a.ensures c.digits_end-e.ensures c.past_fraction-end.ensures
+    (sym c.is_end.ensures ∙ not-true _ c.if-not-is_end.true-raw))
+    c.missed-then-not-is_end.ensures
 
 found_requires : tie.Need-found-requires
 found_requires c κs = search rules
 
-returns_3 : tie.Need-returns-3
+returns_3 : tie.Need-returns
 unfolding is_of value_of
 returns_3 c =
-    let told = c.before.before in
-    let x = signed told in
-    let fits = place_fits (begun x) in
-    let sign = x.past-sign.ensures in
-    let digits = (counted told).digits-end.ensures in
-    let fraction = told.before.past-fraction.ensures in
-    let ended = sym told.is-end.ensures ∙ not-false _ c.before.if2.false in
-    read_good Decimal (begun x).args.text.now (begun x).args.s
-    (decimal_is _ fits sign digits fraction ended told.before.before.if1.false)
+    let fits = place_fits c.before.before.before.before.before.before.before.before in
+    let sign = c.past_sign-a.ensures in
+    let digits = c.digits_end-e.ensures in
+    let fraction = c.past_fraction-end.ensures in
+    let ended = sym c.is_end.ensures ∙ not-false _ c.if-not-is_end.false-raw in
+    read_good Decimal c.args.text.now c.args.s
+    (decimal_is _ fits sign digits fraction ended c.if-e-a.false)
     refl
     (decimal_end _ fits sign digits fraction ended)
     c.found.ensures

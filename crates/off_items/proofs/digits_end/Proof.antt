@@ -14,40 +14,36 @@ use Rattle.off_items.proofs.digits_end.Tie as tie
 abbrev other : ℕ → Bool
 other b = not (digit b)
 
-abbrev invariant_loop : tie.invariant-loop
+abbrev invariant_loop : tie.invariant-loop-at
 invariant_loop text p at₀ at = Passed other text p at
 
-abbrev decreases_loop : tie.decreases-loop
+abbrev decreases_loop : tie.decreases-loop-at
 decreases_loop text p at₀ at = length text - at
 
-abbrev looped : tie.After-is-digit invariant_loop decreases_loop → tie.At-loop invariant_loop decreases_loop
-looped c = c.before.before.before
+loop_holds : tie.Need-loop-at-init invariant_loop decreases_loop
+loop_holds c = passed_none other _ c.requires
 
-loop_holds : tie.Need-loop-init invariant_loop decreases_loop
-loop_holds c = passed_none other _ c.before.requires
-
-shared_slice_read_is_digit : tie.Need-shared-slice-read-is-digit invariant_loop decreases_loop
+shared_slice_read_is_digit : tie.Need-bounds-text-at invariant_loop decreases_loop
 shared_slice_read_is_digit c = search rules
 
-is_digit_requires : tie.Need-is-digit-requires invariant_loop decreases_loop
+is_digit_requires : tie.Need-is_digit-requires invariant_loop decreases_loop
 is_digit_requires c κs = search rules
 
-returns : tie.Need-returns invariant_loop decreases_loop
-returns c = let told = c.before in found_at other _ (looped told).loop.invariant (ap not (sym told.is_digit.ensures) ∙ c.if1.true)
+returns : tie.Need-returns-then-not-is_digit invariant_loop decreases_loop
+returns c = found_at other _ c.loop-at.invariant (ap not (sym c.is_digit.ensures) ∙ c.if-not-is_digit.true-raw)
 
-add_at : tie.Need-overflow-add-at invariant_loop decreases_loop
+add_at : tie.Need-overflow_add-at invariant_loop decreases_loop
 add_at c = search rules
 
-loop_less : tie.Need-loop-smaller invariant_loop decreases_loop
+loop_less : tie.Need-loop-at-smaller invariant_loop decreases_loop
 loop_less c = search rules
 
-loop_again : tie.Need-loop-preserved invariant_loop decreases_loop
+loop_again : tie.Need-loop-at-preserved invariant_loop decreases_loop
 loop_again c =
-    let told = c.before in
-    passed_more other _ (looped told).loop.invariant (omega arith) (ap not (sym told.is_digit.ensures) ∙ c.if1.false)
+    passed_more other _ c.loop-at.invariant (omega arith) (ap not (sym c.is_digit.ensures) ∙ c.if-not-is_digit.false-raw)
 
-returns_2 : tie.Need-returns-2 invariant_loop decreases_loop
-returns_2 c = found_end other _ c.before.loop.invariant (omega arith)
+returns_2 : tie.Need-returns invariant_loop decreases_loop
+returns_2 c = found_end other _ c.loop-at.invariant (omega arith)
 
 pub digits_end_spec : {M : Type 1} → statement M
 digits_end_spec =

@@ -12,21 +12,18 @@ use Rattle.off_items.specs.Kinds.{not_off, is_off_lem}
 use Rattle.off_items.proofs.is_off.Statement.{statement}
 use Rattle.off_items.proofs.is_off.Tie as tie
 
-abbrev begun : tie.After-byte → tie.Start
-begun c = c.before.before
-
 abbrev text : tie.After-byte → List ℕ
-text c = (begun c).args.text.now
+text c = c.args.text.now
 
 -- the first byte is O, the second F, and so the third
-first : (c : tie.Else1) → let a = (begun c.before).args in at a.text.now a.s ≡ 79
-first c = sym c.before.byte.ensures ∙ c.if1.false
+first : (c : tie.Else-byte-ne79) → let a = c.args in at a.text.now a.s ≡ 79
+first c = sym c.byte.ensures ∙ c.if-byte-ne79.false
 
-second : (c : tie.Else2) → let a = (begun c.before.before.before).args in at a.text.now (a.s + 1) ≡ 70
-second c = sym c.before.byte2.ensures ∙ c.if2.false
+second : (c : tie.Else-byte-ne70) → let a = c.args in at a.text.now (a.s + 1) ≡ 70
+second c = sym c.byte-2.ensures ∙ c.if-byte-ne70.false
 
-third : (c : tie.Else3) → let a = (begun c.before.before.before.before.before).args in at a.text.now (a.s + 2) ≡ 70
-third c = sym c.before.byte3.ensures ∙ c.if3.false
+third : (c : tie.Else-byte-ne70-2) → let a = c.args in at a.text.now (a.s + 2) ≡ 70
+third c = sym c.byte-3.ensures ∙ c.if-byte-ne70-2.false
 
 inside : (t : List ℕ) (p b : ℕ) → at t p ≡ b → 0 < b → p < length t
 inside t p b e l = byte_inside t p (λ z. omega arith)
@@ -34,52 +31,43 @@ inside t p b e l = byte_inside t p (λ z. omega arith)
 byte_requires : tie.Need-byte-requires
 byte_requires c κs = search rules
 
-returns : tie.Need-returns
+returns : tie.Need-returns-then-byte-ne79
 returns c =
-    let told = c.before in
-    not_off (text told) (begun told).requires 0 79 (omega arith) refl (omega arith) (λ z. c.if1.true (told.byte.ensures ∙ z))
+    not_off (text c.before) c.requires 0 79 (omega arith) refl (omega arith) (λ z. c.if-byte-ne79.true (c.byte.ensures ∙ z))
 
-add_byte : tie.Need-overflow-add-byte
-add_byte c = let a = (begun c.before).args in let h = inside a.text.now a.s 79 (first c) (omega arith) in omega arith
+add_byte : tie.Need-overflow_add-s
+add_byte c = let a = c.args in let h = inside a.text.now a.s 79 (first c) (omega arith) in omega arith
 
 byte_requires_2 : tie.Need-byte-requires-2
 byte_requires_2 c κs = search rules
 
-returns_2 : tie.Need-returns-2
+returns_2 : tie.Need-returns-then-byte-ne70
 returns_2 c =
-    let told = c.before in
-    let o = told.before.before in
-    not_off (text o) (begun o).requires 1 70 (omega arith) refl refl (λ z. c.if2.true (told.byte2.ensures ∙ z))
+    not_off (text c.before.before.before) c.requires 1 70 (omega arith) refl refl (λ z. c.if-byte-ne70.true (c.byte-2.ensures ∙ z))
 
-add_byte_2 : tie.Need-overflow-add-byte-2
+add_byte_2 : tie.Need-overflow_add-s-2
 add_byte_2 c =
-    let a = (begun c.before.before.before).args in
+    let a = c.args in
     let h = inside a.text.now (a.s + 1) 70 (second c) (omega arith) in omega arith
 
 byte_requires_3 : tie.Need-byte-requires-3
 byte_requires_3 c κs = search rules
 
-returns_3 : tie.Need-returns-3
+returns_3 : tie.Need-returns-then-byte-ne70-2
 returns_3 c =
-    let told = c.before in
-    let o = told.before.before.before.before in
-    not_off (text o) (begun o).requires 2 70 (omega arith) refl refl (λ z. c.if3.true (told.byte3.ensures ∙ z))
+    not_off (text c.before.before.before.before.before) c.requires 2 70 (omega arith) refl refl (λ z. c.if-byte-ne70-2.true (c.byte-3.ensures ∙ z))
 
-add_is_end : tie.Need-overflow-add-is-end
+add_is_end : tie.Need-overflow_add-s-3
 add_is_end c =
-    let a = (begun c.before.before.before.before.before).args in
+    let a = c.args in
     let h = inside a.text.now (a.s + 2) 70 (third c) (omega arith) in omega arith
 
-is_end_requires : tie.Need-is-end-requires
+is_end_requires : tie.Need-is_end-requires
 is_end_requires c κs = search rules
 
-returns_4 : tie.Need-returns-4
+returns_4 : tie.Need-returns
 returns_4 c =
-    let f = c.before in
-    let second_told = f.before.before in
-    let first_told = second_told.before.before in
-    let o = first_told.before in
-    c.is-end.ensures ∙ is_off_lem (text o) (begun o).requires (first first_told) (second second_told) (third f)
+    c.is_end.ensures ∙ is_off_lem (text c.before.before.before.before.before.before) c.requires (first c.before.before.before.before.before) (second c.before.before.before) (third c.before)
 
 pub is_off_spec : {M : Type 1} → statement M
 is_off_spec =

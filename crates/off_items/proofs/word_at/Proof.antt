@@ -13,38 +13,32 @@ use Rattle.off_items.specs.declared.Kind.TheVariants.{Word}
 use Rattle.off_items.proofs.word_at.Statement.{statement}
 use Rattle.off_items.proofs.word_at.Tie as tie
 
-abbrev begun : tie.After-is-off → tie.Start
-begun c = c.before.before
+is_word : (c : tie.Else-not-is_off) → let a = c.args in is_off (word_at a.text.now a.s) ≡ true
+is_word c = sym c.is_off.ensures ∙ not-false _ c.if-not-is_off.false-raw
 
-is_word : (c : tie.Else1) → let a = (begun c.before).args in is_off (word_at a.text.now a.s) ≡ true
-is_word c = sym c.before.is-off.ensures ∙ not-false _ c.if1.false
-
-is_off_requires : tie.Need-is-off-requires
+is_off_requires : tie.Need-is_off-requires
 is_off_requires c κs = search rules
 
 missed_requires : tie.Need-missed-requires
 missed_requires c κs = search rules
 
-returns : tie.Need-returns
+returns : tie.Need-returns-then-not-is_off
 unfolding is_of
 returns c =
-    let told = c.before.before in
-    read_bad Word _ _ (sym told.is-off.ensures ∙ not-true _ c.before.if1.true) c.missed.ensures
+    read_bad Word _ _ (sym c.is_off.ensures ∙ not-true _ c.if-not-is_off.true-raw) c.missed.ensures
 
-add_found : tie.Need-overflow-add-found
+add_found : tie.Need-overflow_add-s
 add_found c =
-    let s = begun c.before in
-    omega (arith, off_long s.args.text.now s.pre (is_word c), word_inside s.args.text.now s.pre)
+    omega (arith, off_long c.args.text.now c.requires (is_word c), word_inside c.args.text.now c.requires)
 
 found_requires : tie.Need-found-requires
 found_requires c κs = search rules
 
-returns_2 : tie.Need-returns-2
+returns_2 : tie.Need-returns
 unfolding is_of value_of
 returns_2 c =
-    let s = begun c.before.before in
     let w = is_word c.before in
-    read_good Word s.args.text.now s.args.s w refl (off_end s.args.text.now s.pre w) c.found.ensures
+    read_good Word c.args.text.now c.args.s w refl (off_end c.args.text.now c.requires w) c.found.ensures
 
 pub word_at_spec : {M : Type 1} → statement M
 word_at_spec =

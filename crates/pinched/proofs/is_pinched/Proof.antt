@@ -7,44 +7,41 @@ use Rattle.pinched.specs.Common.{pinched_is}
 use Rattle.pinched.proofs.is_pinched.Statement.{statement}
 use Rattle.pinched.proofs.is_pinched.Tie as tie
 
-abbrev begun : tie.After-clear-first → tie.Start
-begun c = c.before.before.before.before.before
-
 wide_requires : tie.Need-wide-requires
 wide_requires c κs = search rules
 
-clear_first_requires : tie.Need-clear-first-requires
+clear_first_requires : tie.Need-clear_first-requires
 clear_first_requires c κs = search rules
 
-mark_neighbours_requires : tie.Need-mark-neighbours-requires
+mark_neighbours_requires : tie.Need-mark_neighbours-requires
 mark_neighbours_requires c κs =
     let cleared = c.before.before.before in
-    let s = begun cleared in
-    record { n = s.args.n; fit = s.pre.0; room = omega (arith, s.pre.1, cleared.clear_first.ensures.0.long) }
+    let s = cleared.before.before.before.before.before in
+    record { n = s.args.n; fit = s.requires.0; room = omega (arith, s.requires.1, cleared.clear_first.ensures.0.long) }
 
-meets_marked_requires : tie.Need-meets-marked-requires
+meets_marked_requires : tie.Need-meets_marked-requires
 meets_marked_requires c κs =
     let marked = c.before.before.before in
     let cleared = marked.before.before.before.before in
-    let s = begun cleared in
+    let s = cleared.before.before.before.before in
     record {
       n = s.args.n;
-      fit = s.pre.0;
-      room = omega (arith, s.pre.1, cleared.clear_first.ensures.0.long, marked.mark-neighbours.ensures.long);
+      fit = s.requires.0;
+      room = omega (arith, s.requires.1, cleared.clear_first.ensures.0.long, marked.mark_neighbours.ensures.long);
     }
 
-same_length : tie.Need-same-length
+same_length : tie.Need-shape_of-work
 same_length c = search rules
 
 returns : tie.Need-returns
 returns c =
     let marked = c.before.before.before.before in
     let cleared = marked.before.before.before.before in
-    let s = begun cleared in
+    let s = cleared.before.before.before.before in
     let args = s.args in
-    let blank = rw cleared.before.before.wide.ensures at cleared.clear_first.ensures.1 in (
-      pinched_is args.n args.list.now s.pre.0 args.a args.b args.c args.d blank marked.mark-neighbours.ensures c.meets-marked.ensures,
-      marked.mark-neighbours.ensures.long ∙ cleared.clear_first.ensures.0.long,
+    let blank = rw cleared.wide.ensures at cleared.clear_first.ensures.1 in (
+      pinched_is args.n args.list.now s.requires.0 args.a args.b args.c args.d blank marked.mark_neighbours.ensures c.meets_marked.ensures,
+      marked.mark_neighbours.ensures.long ∙ cleared.clear_first.ensures.0.long,
     )
 
 pub is_pinched_spec : {M : Type 1} → statement M

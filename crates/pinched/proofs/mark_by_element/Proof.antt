@@ -11,82 +11,79 @@ use Rattle.pinched.specs.Corners.{Read, other_fits, marked_next, read}
 use Rattle.pinched.proofs.mark_by_element.Statement.{statement}
 use Rattle.pinched.proofs.mark_by_element.Tie as tie
 
-abbrev invariant_loop : tie.invariant-loop
+abbrev invariant_loop : tie.invariant-loop-i
 invariant_loop list f a marks₀ row k i₀ marks i = Marked (Joined list (8 * f) (8 * f + i) a) marks₀ marks × (1 ≤ i) × (i ≤ k)
 
-abbrev decreases_loop : tie.decreases-loop
+abbrev decreases_loop : tie.decreases-loop-i
 decreases_loop list f a marks₀ row k i₀ marks i = k - i
 
-abbrev begun : tie.After-side-count invariant_loop decreases_loop → tie.Start invariant_loop decreases_loop
-begun c = c.before.before.before.before
-
 -- what the row says of its sides
-told : (c : tie.After-side-count invariant_loop decreases_loop) →
-    let a = (begun c).args in Read a.list.now a.f c.before.row_at.result c.side-count.result
-told c = let a = (begun c).args in read a.list.now a.f (begun c).requires.1 c.before.row_at.ensures c.side-count.ensures
+told : (c : tie.After-side_count-k invariant_loop decreases_loop) →
+    let a = c.args in Read a.list.now a.f c.row_at-row.result c.side_count-k.result
+told c = let a = c.args in read a.list.now a.f c.requires.1 c.row_at-row.ensures c.side_count-k.ensures
 
 -- side i, before the last
-on : (c : tie.In-loop invariant_loop decreases_loop) →
+on : (c : tie.In-loop-i invariant_loop decreases_loop) →
     let start = c.before.before in
-    let a = (begun start).args in
-    let i = c.before.loop.i in
-    let r = start.before.row_at.result in Runs a.list.now (8 * a.f + i) (corner_of r i) (corner_of r (i + 1))
-on c = (told c.before.before).runs_on c.before.loop.i c.before.loop.invariant.1 c.loop-test.true
+    let a = start.args in
+    let i = c.loop-i.i in
+    let r = start.row_at-row.result in Runs a.list.now (8 * a.f + i) (corner_of r i) (corner_of r (i + 1))
+on c = (told c.before.before).runs_on c.loop-i.i c.loop-i.invariant.1 c.loop-i-test.true
 
-row_at_requires : tie.Need-row-at-requires invariant_loop decreases_loop
-row_at_requires c κs = let el = c.before.before.requires.1 in omega (arith, el.0, el.1)
+row_at_requires : tie.Need-row_at-row-requires invariant_loop decreases_loop
+row_at_requires c κs = let el = c.requires.1 in omega (arith, el.0, el.1)
 
-side_count_requires : tie.Need-side-count-requires invariant_loop decreases_loop
+side_count_requires : tie.Need-side_count-k-requires invariant_loop decreases_loop
 side_count_requires c κs = search rules
 
-loop_holds : tie.Need-loop-init invariant_loop decreases_loop
+loop_holds : tie.Need-loop-i-init invariant_loop decreases_loop
 loop_holds c =
-    let args = (begun c).args in
+    let args = c.args in
     (marked_none (Joined args.list.now (8 * args.f) (8 * args.f + 1) args.a) _ (λ v j. before_first args.f j), omega arith, omega (arith, (told c).from))
 
-add_other_corner : tie.Need-overflow-add-other-corner invariant_loop decreases_loop
-add_other_corner c = let h = c.loop-test.true in omega (arith, (told c.before.before).to)
+add_other_corner : tie.Need-overflow_add-i invariant_loop decreases_loop
+add_other_corner c = let h = c.loop-i-test.true in omega (arith, (told c.before.before).to)
 
-other_corner_requires : tie.Need-other-corner-requires invariant_loop decreases_loop
+other_corner_requires : tie.Need-other_corner-requires invariant_loop decreases_loop
 other_corner_requires c κs = search rules
 
 mark_requires : tie.Need-mark-requires invariant_loop decreases_loop
 mark_requires c κs =
     let found = c.before in
     let turn = found.before in
-    let able = (begun turn.before.before).pre.0 in
-    omega (arith, other_fits able.fit (on turn) found.other-corner.ensures, able.room, turn.before.loop.invariant.0.long)
+    let able = turn.requires.0 in
+    omega (arith, other_fits able.fit (on turn) found.other_corner.ensures, able.room, turn.loop-i.invariant.0.long)
 
-add_i : tie.Need-overflow-add-i invariant_loop decreases_loop
+add_i : tie.Need-overflow_add-i-in-loop-i invariant_loop decreases_loop
 add_i c =
     let turn = c.before.before.before.before.before in
-    let h = turn.loop-test.true in omega (arith, (told turn.before.before).to)
+    let h = turn.loop-i-test.true in omega (arith, (told turn.before.before).to)
 
-loop_less : tie.Need-loop-smaller invariant_loop decreases_loop
-loop_less c = let h = c.before.before.before.before.before.loop-test.true in omega arith
+loop_less : tie.Need-loop-i-smaller invariant_loop decreases_loop
+loop_less c = let h = c.loop-i-test.true in omega arith
 
-loop_again : tie.Need-loop-preserved invariant_loop decreases_loop
+loop_again : tie.Need-loop-i-preserved invariant_loop decreases_loop
 loop_again c =
     let put = c.before.before in
     let found = put.before.before in
     let turn = found.before in
-    let l = turn.before.loop in
-    let fit = (begun turn.before.before).pre.0.fit in
-    let h = turn.loop-test.true in
-    (marked_next fit (on turn) found.other-corner.ensures l.invariant.0 put.mark.ensures (omega arith) (omega arith), omega arith, omega arith)
+    let l = turn.loop-i in
+    let fit = turn.requires.0.fit in
+    let h = turn.loop-i-test.true in
+    (marked_next fit (on turn) found.other_corner.ensures l.invariant.0 put.mark.ensures (omega arith) (omega arith), omega arith, omega arith)
 
-other_corner_requires_2 : tie.Need-other-corner-requires-2 invariant_loop decreases_loop
+other_corner_requires_2 : tie.Need-other_corner-requires-2 invariant_loop decreases_loop
 other_corner_requires_2 c κs = search rules
 
 mark_requires_2 : tie.Need-mark-requires-2 invariant_loop decreases_loop
 mark_requires_2 c κs =
     let found = c.before in
     let l = found.before.before in
-    let able = (begun l.before).pre.0 in
-    omega (arith, other_fits able.fit (told l.before).runs_back found.other-corner2.ensures, able.room, l.loop.invariant.0.long)
+    let able = l.requires.0 in
+    omega (arith, other_fits able.fit (told l.before).runs_back found.other_corner-2.ensures, able.room, l.loop-i.invariant.0.long)
 
-same_length : tie.Need-same-length invariant_loop decreases_loop
-same_length c = let put = c.before.before in put.mark2.ensures.long ∙ put.before.before.before.before.loop.invariant.0.long
+same_length : tie.Need-shape_of-marks invariant_loop decreases_loop
+same_length c = let put = c.before.before in put.mark-2.ensures.long ∙ put.loop-i.invariant.0.long
 
 returns : tie.Need-returns invariant_loop decreases_loop
 returns c =
@@ -94,12 +91,12 @@ returns c =
     let found = put.before.before in
     let l = found.before.before in
     let start = l.before in
-    let args = (begun start).args in
-    let h = found.before.loop-test.false in
-    let k = start.side-count.result in
-    let e : l.loop.i ≡ k = omega (arith, l.loop.invariant.2) in
-    let before = rw e at l.loop.invariant.0 in
-    let last = marked_next (begun start).requires.0.fit (told start).runs_back found.other-corner2.ensures before put.mark2.ensures (omega arith) refl in
+    let args = start.args in
+    let h = found.loop-i-test.false in
+    let k = start.side_count-k.result in
+    let e : l.loop-i.i ≡ k = omega (arith, l.loop-i.invariant.2) in
+    let before = rw e at l.loop-i.invariant.0 in
+    let last = marked_next start.requires.0.fit (told start).runs_back found.other_corner-2.ensures before put.mark-2.ensures (omega arith) refl in
     marked_by last (λ v j. joined_to j (omega arith) (omega (arith, (told start).to))) (λ v j. in_element args.f k (told start).counted j)
 
 pub mark_by_element_spec : {M : Type 1} → statement M

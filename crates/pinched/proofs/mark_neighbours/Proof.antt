@@ -7,50 +7,47 @@ use Rattle.pinched.specs.Marks.{Marked, Joined, marked_none, marked_by, marked_r
 use Rattle.pinched.proofs.mark_neighbours.Statement.{statement}
 use Rattle.pinched.proofs.mark_neighbours.Tie as tie
 
-abbrev invariant_loop : tie.invariant-loop
+abbrev invariant_loop : tie.invariant-loop-f
 invariant_loop list a marks₀ m f₀ marks f = Marked (Joined list 0 (8 * f + 8) a) marks₀ marks × (f ≤ m)
 
-abbrev decreases_loop : tie.decreases-loop
+abbrev decreases_loop : tie.decreases-loop-f
 decreases_loop list a marks₀ m f₀ marks f = m - f
 
-abbrev begun : tie.At-loop invariant_loop decreases_loop → tie.Start invariant_loop decreases_loop
-begun c = c.before.before.before
+cast_m : tie.Need-overflow_cast-m invariant_loop decreases_loop
+cast_m c = omega (arith, c.requires.fit.size)
 
-cast_m : tie.Need-overflow-cast-m invariant_loop decreases_loop
-cast_m c = omega (arith, c.before.before.requires.fit.size)
-
-loop_holds : tie.Need-loop-init invariant_loop decreases_loop
+loop_holds : tie.Need-loop-f-init invariant_loop decreases_loop
 loop_holds c =
-    let args = c.before.before.args in (marked_none (Joined args.list.now 0 8 args.a) _ (λ v j. before_all j), omega arith)
+    let args = c.args in (marked_none (Joined args.list.now 0 8 args.a) _ (λ v j. before_all j), omega arith)
 
-add_f : tie.Need-overflow-add-f invariant_loop decreases_loop
+add_f : tie.Need-overflow_add-f invariant_loop decreases_loop
 add_f c = search rules
 
-mark_by_element_requires : tie.Need-mark-by-element-requires invariant_loop decreases_loop
+mark_by_element_requires : tie.Need-mark_by_element-requires invariant_loop decreases_loop
 mark_by_element_requires c κs =
     let turn = c.before in
-    let h = turn.loop-test.true in
-    let able = (begun turn.before).pre in
-    (record { n = able.n; fit = able.fit; room = omega (arith, able.room, turn.before.loop.invariant.0.long) }, (omega arith, omega arith))
+    let h = turn.loop-f-test.true in
+    let able = turn.requires in
+    (record { n = able.n; fit = able.fit; room = omega (arith, able.room, turn.loop-f.invariant.0.long) }, (omega arith, omega arith))
 
-loop_less : tie.Need-loop-smaller invariant_loop decreases_loop
-loop_less c = let h = c.before.before.before.before.loop-test.true in omega arith
+loop_less : tie.Need-loop-f-smaller invariant_loop decreases_loop
+loop_less c = let h = c.loop-f-test.true in omega arith
 
-loop_again : tie.Need-loop-preserved invariant_loop decreases_loop
+loop_again : tie.Need-loop-f-preserved invariant_loop decreases_loop
 loop_again c =
     let put = c.before.before in
     let turn = put.before.before in
-    let h = turn.loop-test.true in
-    (marked_range turn.before.loop.invariant.0 put.mark-by-element.ensures (omega arith) (omega arith) (omega arith), omega arith)
+    let h = turn.loop-f-test.true in
+    (marked_range turn.loop-f.invariant.0 put.mark_by_element.ensures (omega arith) (omega arith) (omega arith), omega arith)
 
-same_length : tie.Need-same-length invariant_loop decreases_loop
-same_length c = c.before.loop.invariant.0.long
+same_length : tie.Need-shape_of-marks invariant_loop decreases_loop
+same_length c = c.loop-f.invariant.0.long
 
 returns : tie.Need-returns invariant_loop decreases_loop
 returns c =
     let l = c.before in
-    let h = c.loop-test.false in
-    marked_by l.loop.invariant.0 (λ v j. neighbours_of j) (λ v j. all_joined l.loop.f (omega arith) j)
+    let h = c.loop-f-test.false in
+    marked_by l.loop-f.invariant.0 (λ v j. neighbours_of j) (λ v j. all_joined l.loop-f.f (omega arith) j)
 
 pub mark_neighbours_spec : {M : Type 1} → statement M
 mark_neighbours_spec =

@@ -13,97 +13,94 @@ use Rattle.pinched.specs.Common.{Counts, Met, met_in, met_next, unmet_next, mean
 use Rattle.pinched.proofs.meets_by_element.Statement.{statement}
 use Rattle.pinched.proofs.meets_by_element.Tie as tie
 
-abbrev invariant_loop : tie.invariant-loop
+abbrev invariant_loop : tie.invariant-loop-i
 invariant_loop list f b c d marks row k i₀ i = (Met list (8 * f) (8 * f + i) b (Counts marks c d) → ⊥) × (1 ≤ i) × (i ≤ k)
 
-abbrev decreases_loop : tie.decreases-loop
+abbrev decreases_loop : tie.decreases-loop-i
 decreases_loop list f b c d marks row k i₀ i = k - i
 
-abbrev begun : tie.After-side-count invariant_loop decreases_loop → tie.Start invariant_loop decreases_loop
-begun c = c.before.before.before.before
-
 -- what the row says of its sides
-told : (c : tie.After-side-count invariant_loop decreases_loop) →
-    let a = (begun c).args in Read a.list.now a.f c.before.row_at.result c.side-count.result
-told c = let a = (begun c).args in read a.list.now a.f (begun c).requires.1 c.before.row_at.ensures c.side-count.ensures
+told : (c : tie.After-side_count-k invariant_loop decreases_loop) →
+    let a = c.args in Read a.list.now a.f c.row_at-row.result c.side_count-k.result
+told c = let a = c.args in read a.list.now a.f c.requires.1 c.row_at-row.ensures c.side_count-k.ensures
 
 -- side i, before the last
-on : (c : tie.In-loop invariant_loop decreases_loop) →
+on : (c : tie.In-loop-i invariant_loop decreases_loop) →
     let start = c.before.before in
-    let a = (begun start).args in
-    let i = c.before.loop.i in
-    let r = start.before.row_at.result in Runs a.list.now (8 * a.f + i) (corner_of r i) (corner_of r (i + 1))
-on c = (told c.before.before).runs_on c.before.loop.i c.before.loop.invariant.1 c.loop-test.true
+    let a = start.args in
+    let i = c.loop-i.i in
+    let r = start.row_at-row.result in Runs a.list.now (8 * a.f + i) (corner_of r i) (corner_of r (i + 1))
+on c = (told c.before.before).runs_on c.loop-i.i c.loop-i.invariant.1 c.loop-i-test.true
 
-row_at_requires : tie.Need-row-at-requires invariant_loop decreases_loop
-row_at_requires c κs = let el = c.before.before.requires.1 in omega (arith, el.0, el.1)
+row_at_requires : tie.Need-row_at-row-requires invariant_loop decreases_loop
+row_at_requires c κs = let el = c.requires.1 in omega (arith, el.0, el.1)
 
-side_count_requires : tie.Need-side-count-requires invariant_loop decreases_loop
+side_count_requires : tie.Need-side_count-k-requires invariant_loop decreases_loop
 side_count_requires c κs = search rules
 
-loop_holds : tie.Need-loop-init invariant_loop decreases_loop
-loop_holds c = ((λ (v, j, k). before_first (begun c).args.f j), omega arith, omega (arith, (told c).from))
+loop_holds : tie.Need-loop-i-init invariant_loop decreases_loop
+loop_holds c = ((λ (v, j, k). before_first c.args.f j), omega arith, omega (arith, (told c).from))
 
-add_other_corner : tie.Need-overflow-add-other-corner invariant_loop decreases_loop
-add_other_corner c = let h = c.loop-test.true in omega (arith, (told c.before.before).to)
+add_other_corner : tie.Need-overflow_add-i invariant_loop decreases_loop
+add_other_corner c = let h = c.loop-i-test.true in omega (arith, (told c.before.before).to)
 
-other_corner_requires : tie.Need-other-corner-requires invariant_loop decreases_loop
+other_corner_requires : tie.Need-other_corner-requires invariant_loop decreases_loop
 other_corner_requires c κs = search rules
 
 counts_requires : tie.Need-counts-requires invariant_loop decreases_loop
 counts_requires c κs =
     let turn = c.before in
-    let able = (begun turn.before.before).pre.0 in
-    omega (arith, other_fits able.fit (on turn) c.other-corner.ensures, able.room)
+    let able = turn.requires.0 in
+    omega (arith, other_fits able.fit (on turn) c.other_corner.ensures, able.room)
 
-returns : tie.Need-returns invariant_loop decreases_loop
+returns : tie.Need-returns-then-counts invariant_loop decreases_loop
 returns c =
     let asked = c.before in
     let found = asked.before in
     let turn = found.before in
     let start = turn.before.before in
-    let h = turn.loop-test.true in
-    let met = met_next (begun start).requires.0.fit (on turn) found.other-corner.ensures (passed asked.counts.ensures c.if1.true) in
+    let h = turn.loop-i-test.true in
+    let met = met_next start.requires.0.fit (on turn) found.other_corner.ensures (passed asked.counts.ensures c.if-counts.true) in
     means_true (met_in met (omega arith) (omega (arith, (told start).to)))
 
-add_i : tie.Need-overflow-add-i invariant_loop decreases_loop
+add_i : tie.Need-overflow_add-i-in-loop-i invariant_loop decreases_loop
 add_i c =
     let turn = c.before.before.before in
-    let h = turn.loop-test.true in omega (arith, (told turn.before.before).to)
+    let h = turn.loop-i-test.true in omega (arith, (told turn.before.before).to)
 
-loop_less : tie.Need-loop-smaller invariant_loop decreases_loop
-loop_less c = let h = c.before.before.before.loop-test.true in omega arith
+loop_less : tie.Need-loop-i-smaller invariant_loop decreases_loop
+loop_less c = let h = c.loop-i-test.true in omega arith
 
-loop_again : tie.Need-loop-preserved invariant_loop decreases_loop
+loop_again : tie.Need-loop-i-preserved invariant_loop decreases_loop
 loop_again c =
     let asked = c.before in
     let found = asked.before in
     let turn = found.before in
-    let l = turn.before.loop in
-    let fit = (begun turn.before.before).pre.0.fit in
-    let h = turn.loop-test.true in
-    (unmet_next fit (on turn) found.other-corner.ensures l.invariant.0 (failed asked.counts.ensures c.if1.false) (omega arith), omega arith, omega arith)
+    let l = turn.loop-i in
+    let fit = turn.requires.0.fit in
+    let h = turn.loop-i-test.true in
+    (unmet_next fit (on turn) found.other_corner.ensures l.invariant.0 (failed asked.counts.ensures c.if-counts.false) (omega arith), omega arith, omega arith)
 
-other_corner_requires_2 : tie.Need-other-corner-requires-2 invariant_loop decreases_loop
+other_corner_requires_2 : tie.Need-other_corner-requires-2 invariant_loop decreases_loop
 other_corner_requires_2 c κs = search rules
 
 counts_requires_2 : tie.Need-counts-requires-2 invariant_loop decreases_loop
 counts_requires_2 c κs =
     let start = c.before.before.before in
-    let able = (begun start).requires.0 in
-    omega (arith, other_fits able.fit (told start).runs_back c.other-corner2.ensures, able.room)
+    let able = start.requires.0 in
+    omega (arith, other_fits able.fit (told start).runs_back c.other_corner-2.ensures, able.room)
 
-returns_2 : tie.Need-returns-2 invariant_loop decreases_loop
+returns_2 : tie.Need-returns invariant_loop decreases_loop
 returns_2 c =
     let found = c.before in
     let l = found.before.before in
     let start = l.before in
-    let f = (begun start).args.f in
-    let k = start.side-count.result in
-    let h = found.before.loop-test.false in
-    let e : l.loop.i ≡ k = omega (arith, l.loop.invariant.2) in
-    let unmet = rw e at l.loop.invariant.0 in
-    let last = means_last (begun start).requires.0.fit (told start).runs_back found.other-corner2.ensures (omega arith) unmet c.counts2.ensures in
+    let f = start.args.f in
+    let k = start.side_count-k.result in
+    let h = found.loop-i-test.false in
+    let e : l.loop-i.i ≡ k = omega (arith, l.loop-i.invariant.2) in
+    let unmet = rw e at l.loop-i.invariant.0 in
+    let last = means_last start.requires.0.fit (told start).runs_back found.other_corner-2.ensures (omega arith) unmet c.counts-2.ensures in
     means_by last (λ x. met_in x (omega arith) (omega (arith, (told start).to))) (λ (v, j, x). (v, in_element f k (told start).counted j, x))
 
 pub meets_by_element_spec : {M : Type 1} → statement M

@@ -9,48 +9,45 @@ use Rattle.pinched.specs.Common.{Counts, Met, unmet_both}
 use Rattle.pinched.proofs.meets_marked.Statement.{statement}
 use Rattle.pinched.proofs.meets_marked.Tie as tie
 
-abbrev invariant_loop : tie.invariant-loop
+abbrev invariant_loop : tie.invariant-loop-f
 invariant_loop list b c d marks m f₀ f = (Met list 0 (8 * f + 8) b (Counts marks c d) → ⊥) × (f ≤ m)
 
-abbrev decreases_loop : tie.decreases-loop
+abbrev decreases_loop : tie.decreases-loop-f
 decreases_loop list b c d marks m f₀ f = m - f
 
-abbrev begun : tie.At-loop invariant_loop decreases_loop → tie.Start invariant_loop decreases_loop
-begun c = c.before.before.before
+cast_m : tie.Need-overflow_cast-m invariant_loop decreases_loop
+cast_m c = omega (arith, c.requires.fit.size)
 
-cast_m : tie.Need-overflow-cast-m invariant_loop decreases_loop
-cast_m c = omega (arith, c.before.before.requires.fit.size)
-
-loop_holds : tie.Need-loop-init invariant_loop decreases_loop
+loop_holds : tie.Need-loop-f-init invariant_loop decreases_loop
 loop_holds c = ((λ (v, j, k). before_all j), omega arith)
 
-add_f : tie.Need-overflow-add-f invariant_loop decreases_loop
+add_f : tie.Need-overflow_add-f invariant_loop decreases_loop
 add_f c = search rules
 
-meets_by_element_requires : tie.Need-meets-by-element-requires invariant_loop decreases_loop
+meets_by_element_requires : tie.Need-meets_by_element-requires invariant_loop decreases_loop
 meets_by_element_requires c κs =
-    let h = c.loop-test.true in ((begun c.before).pre, (omega arith, omega arith))
+    let h = c.loop-f-test.true in (c.requires, (omega arith, omega arith))
 
-returns : tie.Need-returns invariant_loop decreases_loop
+returns : tie.Need-returns-then-meets_by_element invariant_loop decreases_loop
 returns c =
-    let (v, j, k) = passed c.before.meets-by-element.ensures c.if1.true in
+    let (v, j, k) = passed c.meets_by_element.ensures c.if-meets_by_element.true in
     means_true (v, (j.side, j.runs), k)
 
-loop_less : tie.Need-loop-smaller invariant_loop decreases_loop
-loop_less c = let h = c.before.before.loop-test.true in omega arith
+loop_less : tie.Need-loop-f-smaller invariant_loop decreases_loop
+loop_less c = let h = c.loop-f-test.true in omega arith
 
-loop_again : tie.Need-loop-preserved invariant_loop decreases_loop
+loop_again : tie.Need-loop-f-preserved invariant_loop decreases_loop
 loop_again c =
     let asked = c.before in
     let turn = asked.before in
-    let h = turn.loop-test.true in
-    (unmet_both turn.before.loop.invariant.0 (failed asked.meets-by-element.ensures c.if1.false) (omega arith) (omega arith), omega arith)
+    let h = turn.loop-f-test.true in
+    (unmet_both turn.loop-f.invariant.0 (failed asked.meets_by_element.ensures c.if-meets_by_element.false) (omega arith) (omega arith), omega arith)
 
-returns_2 : tie.Need-returns-2 invariant_loop decreases_loop
+returns_2 : tie.Need-returns invariant_loop decreases_loop
 returns_2 c =
     let l = c.before in
-    let h = c.loop-test.false in
-    means_false (λ (v, j, k). l.loop.invariant.0 (v, all_joined l.loop.f (omega arith) j, k))
+    let h = c.loop-f-test.false in
+    means_false (λ (v, j, k). l.loop-f.invariant.0 (v, all_joined l.loop-f.f (omega arith) j, k))
 
 pub meets_marked_spec : {M : Type 1} → statement M
 meets_marked_spec =

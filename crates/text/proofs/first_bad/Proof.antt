@@ -12,65 +12,61 @@ use native.Mathlib.Omega.{arith}
 use Rattle.text.proofs.first_bad.Statement.{statement}
 use Rattle.text.proofs.first_bad.Tie as tie
 
-abbrev text : tie.Else1 → List ℕ
-text c = c.before.before.before.args.text.now
+abbrev text : tie.Else-not-is_good_head → List ℕ
+text c = c.args.text.now
 
-good : (c : tie.Else1) → good_head (text c) ≡ true
-good c = sym c.before.is-good-head.ensures ∙ not-false _ c.if1.false
+good : (c : tie.Else-not-is_good_head) → good_head (text c) ≡ true
+good c = sym c.is_good_head.ensures ∙ not-false _ c.if-not-is_good_head.false-raw
 
-small : (c : tie.After-the-m) → c.the-m.result ≤ 200
-small c = omega (arith, c.the-m.ensures, head_bounds _ (good c.before))
+small : (c : tie.After-the_m) → c.the_m.result ≤ 200
+small c = omega (arith, c.the_m.ensures, head_bounds _ (good c.before))
 
-count : (c : tie.After-the-m) → 4 * c.the-m.result + 2 ≡ fields (text c.before)
-count c = omega (arith, c.the-m.ensures)
+count : (c : tie.After-the_m) → 4 * c.the_m.result + 2 ≡ fields (text c.before)
+count c = omega (arith, c.the_m.ensures)
 
--- past the test of line 1, with its fields counted
-abbrev headed : tie.After-go-over → tie.Else1
-headed c = c.before.before
+first : (c : tie.After-go_over-r) → c.go_over-r.result.fields ≡ first_bad_field (text c.before.before) (fields (text c.before.before))
+first c = c.go_over-r.ensures.0.0 ∙ ap (first_bad_field _) (count c.before)
 
-first : (c : tie.After-go-over) → c.go-over.result.fields ≡ first_bad_field (text (headed c)) (fields (text (headed c)))
-first c = c.go-over.ensures.0.0 ∙ ap (first_bad_field _) (count c.before)
-
-is_good_head_requires : tie.Need-is-good-head-requires
+is_good_head_requires : tie.Need-is_good_head-requires
 is_good_head_requires c κs = search rules
 
-returns : tie.Need-returns
-returns c = sym (bad_head _ (sym c.before.is-good-head.ensures ∙ not-true _ c.if1.true))
+returns : tie.Need-returns-then-not-is_good_head
+returns c = sym (bad_head _ (sym c.is_good_head.ensures ∙ not-true _ c.if-not-is_good_head.true-raw))
 
-the_m_requires : tie.Need-the-m-requires
+the_m_requires : tie.Need-the_m-requires
 the_m_requires c κs = search rules
 
-mul_count : tie.Need-overflow-mul-count
+mul_count : tie.Need-overflow_mul-count
 mul_count c = omega (arith, small c)
 
-add_count : tie.Need-overflow-add-count
+add_count : tie.Need-overflow_add-count
 add_count c = omega (arith, small c)
 
-go_over_requires : tie.Need-go-over-requires
+go_over_requires : tie.Need-go_over-r-requires
 go_over_requires c κs = omega (arith, small c)
 
-line_of_requires : tie.Need-line-of-requires
+line_of_requires : tie.Need-line_of-requires
 line_of_requires c κs = search rules
 
-returns_2 : tie.Need-returns-2
+returns_2 : tie.Need-returns-then-r-count
 returns_2 c =
     let g = c.before.before.before in
-    c.Line-of.ensures ∙ bad_field _ _ (good (headed g)) (first g) (λ e. c.before.if2.true (e ∙ sym (count g.before)))
+    c.line_of.ensures ∙ bad_field _ _ (good g.before.before) (first g) (λ e. c.if-r-count.true (e ∙ sym (count g.before)))
 
-line_of_requires_2 : tie.Need-line-of-requires-2
+line_of_requires_2 : tie.Need-line_of-requires-then-r-text
 line_of_requires_2 c κs = search rules
 
-returns_3 : tie.Need-returns-3
+returns_3 : tie.Need-returns-then-r-text
 returns_3 c =
     let s = c.before.before.before in
     let g = s.before.before in
-    c.line-of2.ensures ∙ bad_end _ _ (good (headed g)) (first g) (s.if2.false ∙ count g.before) (λ e. omega (arith, e, g.go-over.ensures.0.1))
+    c.line_of-then-r-text.ensures ∙ bad_end _ _ (good g.before.before) (first g) (s.if-r-count.false ∙ count g.before) (λ e. omega (arith, e, g.go_over-r.ensures.0.1))
 
-returns_4 : tie.Need-returns-4
+returns_4 : tie.Need-returns
 returns_4 c =
     let s = c.before.before in
     let g = s.before.before in
-    none_bad _ _ (good (headed g)) (first g) (s.if2.false ∙ count g.before) (omega (arith, g.go-over.ensures.0.1))
+    none_bad _ _ (good g.before.before) (first g) (s.if-r-count.false ∙ count g.before) (omega (arith, g.go_over-r.ensures.0.1))
 
 pub first_bad_spec : {M : Type 1} → statement M
 first_bad_spec =

@@ -15,59 +15,56 @@ use Rattle.text.proofs.go_over.Tie as tie
 abbrev bad : List ℕ → ℕ → Bool
 bad t i = not (good_field t i)
 
-abbrev invariant_loop : tie.invariant-loop
+abbrev invariant_loop : tie.invariant-loop-i
 invariant_loop text count i₀ at₀ i at = (i ≤ count) × (at ≤ 9 * i) × (at ≡ place text i) × None (bad text) i
 
-abbrev decreases_loop : tie.decreases-loop
+abbrev decreases_loop : tie.decreases-loop-i
 decreases_loop text count i₀ at₀ i at = count - i
 
-abbrev text : tie.At-loop invariant_loop decreases_loop → List ℕ
-text c = c.before.before.args.text.now
+abbrev text : tie.At-loop-i invariant_loop decreases_loop → List ℕ
+text c = c.args.text.now
 
-abbrev looped : tie.After-is-field invariant_loop decreases_loop → tie.At-loop invariant_loop decreases_loop
-looped c = c.before.before.before
+good : (c : tie.After-is_field invariant_loop decreases_loop) → c.is_field.result ≡ good_field (text c.before.before.before) c.loop-i.i
+good c = let h = c.before.before.before in good_at _ h.loop-i.i h.loop-i.invariant.2 c.mark.ensures c.is_field.ensures
 
-good : (c : tie.After-is-field invariant_loop decreases_loop) → c.is_field.result ≡ good_field (text (looped c)) (looped c).loop.i
-good c = let h = looped c in good_at _ h.loop.i h.loop.inv.2 c.before.mark.ensures c.is_field.ensures
-
-loop_holds : tie.Need-loop-init invariant_loop decreases_loop
+loop_holds : tie.Need-loop-i-init invariant_loop decreases_loop
 unfolding place
 loop_holds c = (search rules, search rules, refl, none_yet (bad _))
 
 mark_requires : tie.Need-mark-requires invariant_loop decreases_loop
 mark_requires c κs = search rules
 
-is_field_requires : tie.Need-is-field-requires invariant_loop decreases_loop
+is_field_requires : tie.Need-is_field-requires invariant_loop decreases_loop
 is_field_requires c κs = search rules
 
-returns : tie.Need-returns invariant_loop decreases_loop
+returns : tie.Need-returns-then-not-is_field invariant_loop decreases_loop
 unfolding first_bad_field
 returns c =
-    let h = looped c.before in
-    ((found_here (bad (text h)) h.loop.inv.3 _ (omega arith) (ap not (sym (good c.before)) ∙ c.if1.true), h.loop.inv.2), search rules)
+    let h = c.before.before.before.before in
+    ((found_here (bad (text h)) h.loop-i.invariant.3 _ (omega arith) (ap not (sym (good c.before)) ∙ c.if-not-is_field.true-raw), h.loop-i.invariant.2), search rules)
 
-next_requires : tie.Need-next-requires invariant_loop decreases_loop
+next_requires : tie.Need-next-at-requires invariant_loop decreases_loop
 next_requires c κs = search rules
 
-add_i : tie.Need-overflow-add-i invariant_loop decreases_loop
+add_i : tie.Need-overflow_add-i invariant_loop decreases_loop
 add_i c = search rules
 
-loop_less : tie.Need-loop-smaller invariant_loop decreases_loop
+loop_less : tie.Need-loop-i-smaller invariant_loop decreases_loop
 loop_less c = search rules
 
-loop_again : tie.Need-loop-preserved invariant_loop decreases_loop
+loop_again : tie.Need-loop-i-preserved invariant_loop decreases_loop
 loop_again c =
     let f = c.before.before in
-    let h = looped f in (
+    let h = f.before.before.before in (
       search rules,
       search rules,
-      place_next _ h.loop.i h.loop.inv.2 c.next.ensures.0,
-      none_more (bad (text h)) h.loop.inv.3 (ap not (sym (good f)) ∙ c.before.if1.false),
+      place_next _ h.loop-i.i h.loop-i.invariant.2 c.next-at.ensures.0,
+      none_more (bad (text h)) h.loop-i.invariant.3 (ap not (sym (good f)) ∙ c.if-not-is_field.false-raw),
     )
 
-returns_2 : tie.Need-returns-2 invariant_loop decreases_loop
+returns_2 : tie.Need-returns invariant_loop decreases_loop
 unfolding first_bad_field
-returns_2 c = ((found_none (bad (text c.before)) c.before.loop.invariant.3 _ (omega arith), c.before.loop.invariant.2), search rules)
+returns_2 c = ((found_none (bad (text c.before)) c.loop-i.invariant.3 _ (omega arith), c.loop-i.invariant.2), search rules)
 
 pub go_over_spec : {M : Type 1} → statement M
 go_over_spec =

@@ -14,55 +14,55 @@ use native.Mathlib.Omega.{arith}
 use Rattle.text.proofs.parse.Statement.{statement}
 use Rattle.text.proofs.parse.Tie as tie
 
-abbrev text : tie.Else1 → List ℕ
-text c = c.before.before.before.before.args.text.now
+abbrev text : tie.Else-bad-ne0 → List ℕ
+text c = c.args.text.now
 
-form : (c : tie.Else1) → first_bad (text c) ≡ 0
-form c = sym c.before.first-bad.ensures ∙ c.if1.false
+form : (c : tie.Else-bad-ne0) → first_bad (text c) ≡ 0
+form c = sym c.first_bad-bad.ensures ∙ c.if-bad-ne0.false
 
 -- the list after `read_list` is the rule's
 rows : (t L W : List ℕ) (n : ℕ) {m : ℕ} → m ≡ the_m t → W ≡ tab (4 * m) (the_number t) ++ drop (4 * m) L → W ≡ list_after (Mesh n m) t L
 unfolding list_after the_list
 rows t L W n e h = rw e (rw e at h)
 
-first_bad_requires : tie.Need-first-bad-requires
+first_bad_requires : tie.Need-first_bad-bad-requires
 first_bad_requires c κs = search rules
 
-returns : tie.Need-returns
+returns : tie.Need-returns-then-bad-ne0
 unfolding list_after
-returns c = let e = c.before.first-bad.ensures in
-    (ap Bad e ∙ sym (parsed_bad _ _ (λ z. c.if1.true (e ∙ z))), refl)
+returns c = let e = c.first_bad-bad.ensures in
+    (ap Bad e ∙ sym (parsed_bad _ _ (λ z. c.if-bad-ne0.true (e ∙ z))), refl)
 
-the_m_requires : tie.Need-the-m-requires
+the_m_requires : tie.Need-the_m-m-requires
 the_m_requires c κs = search rules
 
-cast_count : tie.Need-overflow-cast-count
+cast_count : tie.Need-overflow_cast-count
 cast_count c = search rules
 
-mul_count : tie.Need-overflow-mul-count
+mul_count : tie.Need-overflow_mul-count
 mul_count c = search rules
 
-returns_2 : tie.Need-returns-2
+returns_2 : tie.Need-returns-then-list-count
 unfolding list_after
-returns_2 c = let m = c.before.the-m.ensures in
+returns_2 c = let m = c.the_m-m.ensures in
     (sym (parsed_short _ _ (form c.before.before) (omega arith)), refl)
 
-read_list_requires : tie.Need-read-list-requires
+read_list_requires : tie.Need-read_list-requires
 read_list_requires c κs = let a = c.before.before in
-    omega (arith, a.the-m.ensures, head_bounds _ (form_head _ (form a.before)))
+    omega (arith, a.the_m-m.ensures, head_bounds _ (form_head _ (form a.before)))
 
-the_n_requires : tie.Need-the-n-requires
+the_n_requires : tie.Need-the_n-requires
 the_n_requires c κs = search rules
 
-same_length : tie.Need-same-length
+same_length : tie.Need-shape_of-list
 same_length c = search rules
 
-returns_3 : tie.Need-returns-3
+returns_3 : tie.Need-returns
 returns_3 c =
     let filled = c.before.before.before in
     let a = filled.before.before.before in
-    let m = a.the-m.ensures in
-    ((cc m) ∙ sym (parsed_mesh _ _ (form a.before) (omega arith)), rows _ _ _ _ m filled.read-list.ensures)
+    let m = a.the_m-m.ensures in
+    ((cc m) ∙ sym (parsed_mesh _ _ (form a.before) (omega arith)), rows _ _ _ _ m filled.read_list.ensures)
 
 pub parse_spec : {M : Type 1} → statement M
 parse_spec =

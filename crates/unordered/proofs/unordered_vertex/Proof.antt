@@ -9,34 +9,31 @@ use borrow.Author.Rules.{rules}
 use Rattle.unordered.proofs.unordered_vertex.Statement.{statement}
 use Rattle.unordered.proofs.unordered_vertex.Tie as tie
 
-abbrev invariant_loop : tie.invariant-loop
+abbrev invariant_loop : tie.invariant-loop-a
 invariant_loop n o list work best₀ a₀ best a = LeastBelow list (drop o work) a best × (a ≤ length list) × (a ≡ 4 * (a / 4))
 
-abbrev decreases_loop : tie.decreases-loop
+abbrev decreases_loop : tie.decreases-loop-a
 decreases_loop n o list work best₀ a₀ best a = length list - a
 
-abbrev begun : tie.At-loop invariant_loop decreases_loop → tie.Start invariant_loop decreases_loop
-begun c = c.before.before.before
+loop_holds : tie.Need-loop-a-init invariant_loop decreases_loop
+loop_holds c = let s = c.args in (least_start s.list.now (drop s.o s.work.now), omega arith, omega arith)
 
-loop_holds : tie.Need-loop-init invariant_loop decreases_loop
-loop_holds c = let s = c.before.before.args in (least_start s.list.now (drop s.o s.work.now), omega arith, omega arith)
+missed_in_row_requires : tie.Need-missed_in_row-best-requires invariant_loop decreases_loop
+missed_in_row_requires c κs = let s = c.before.before.before.before in (s.requires.0, omega (arith, s.requires.0.fours), c.loop-a.invariant.0)
 
-missed_in_row_requires : tie.Need-missed-in-row-requires invariant_loop decreases_loop
-missed_in_row_requires c κs = let s = begun c.before in (s.pre.0, omega (arith, s.pre.0.fours), c.before.loop.invariant.0)
-
-add_a : tie.Need-overflow-add-a invariant_loop decreases_loop
+add_a : tie.Need-overflow_add-a invariant_loop decreases_loop
 add_a c = search rules
 
-loop_less : tie.Need-loop-smaller invariant_loop decreases_loop
+loop_less : tie.Need-loop-a-smaller invariant_loop decreases_loop
 loop_less c = search rules
 
-loop_again : tie.Need-loop-preserved invariant_loop decreases_loop
+loop_again : tie.Need-loop-a-preserved invariant_loop decreases_loop
 loop_again c =
-    let fours = (begun c.before.before).pre.0.fours in
-    (c.missed-in-row.ensures, omega arith, omega arith)
+    let fours = c.requires.0.fours in
+    (c.missed_in_row-best.ensures, omega arith, omega arith)
 
 returns : tie.Need-returns invariant_loop decreases_loop
-returns c = let s = begun c.before in least_missed s.pre.1 (drop s.args.o s.args.work.now) (omega arith) c.before.loop.invariant.0
+returns c = let s = c.before.before.before.before in least_missed s.requires.1 (drop s.args.o s.args.work.now) (omega arith) c.loop-a.invariant.0
 
 pub unordered_vertex_spec : {M : Type 1} → statement M
 unordered_vertex_spec =

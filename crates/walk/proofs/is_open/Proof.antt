@@ -34,14 +34,13 @@ places s = written s.args.n s.args.m s.args.work.now
 
 place : (c : tie.After-slot_of) → c.slot_of.result < 4 * c.args.m
 place c =
-    let s = c.before.before.before.before.before in
-    rw c.slot_of.ensures (slot_in s.args.n s.args.m s.args.work.now s.requires s.args.s (rw (a_side c.before) tt))
+    rw c.slot_of.ensures (slot_in c.args.n c.args.m c.args.work.now c.requires c.args.s (rw (a_side c.before) tt))
 
 abbrev entry : tie.After-slot_of → ℕ
 entry c = at c.args.work.now (c.args.n + 8 * c.args.m + c.slot_of.result)
 
 read : (c : tie.After-slot_of) → entry c ≡ at (places c.before.before.before.before.before) (slot (asked c.before.before.before.before.before))
-read c = let s = c.before.before.before.before.before in written_at s.args.n s.args.m s.args.work.now s.args.s c.slot_of.ensures
+read c = written_at c.args.n c.args.m c.args.work.now c.args.s c.slot_of.ensures
 
 mul_e : tie.Need-overflow_mul-e
 mul_e c = search rules
@@ -87,13 +86,11 @@ shared_slice_read_if2 c = omega (arith, place c.before)
 
 returns_2 : tie.Need-returns-then-work-n-ne0
 returns_2 c =
-    let opened = c.before.before in
-    shut_place _ (places opened.before.before.before.before.before) _ (read opened) c.if-work-n-ne0.true
+    shut_place _ (places c.before.before.before.before.before.before.before) _ (read c.before.before) c.if-work-n-ne0.true
 
 returns_3 : tie.Need-returns
 returns_3 c =
-    let opened = c.before.before in
-    open_place _ (places opened.before.before.before.before.before) _ (read opened) (a_side opened.before) c.if-work-n-ne0.false
+    open_place _ (places c.before.before.before.before.before.before.before) _ (read c.before.before) (a_side c.before.before.before) c.if-work-n-ne0.false
 
 pub is_open_spec : {M : Type 1} → statement M
 is_open_spec =

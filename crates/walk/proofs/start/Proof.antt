@@ -88,13 +88,11 @@ part_next_code_end c = search rules
 
 next_code_requires : tie.Need-next_code-requires
 next_code_requires c κs =
-    let found = c.before in
-    rw lent (linked_side (bordered found.before.before.before.before) (omega arith) (omega arith) found.if-s-eq0.false)
+    rw lent (linked_side (bordered c.before.before.before.before.before) (omega arith) (omega arith) c.if-s-eq0.false)
 
 returns_5 : tie.Need-returns
 returns_5 c =
-    let found = c.before.before in
-    start_linked (bordered found.before.before.before.before) (omega arith) (omega arith) found.if-s-eq0.false
+    start_linked (bordered c.before.before.before.before.before.before) (omega arith) (omega arith) c.if-s-eq0.false
     (rw lent at c.next_code.ensures)
 
 pub start_spec : {M : Type 1} → statement M

@@ -53,9 +53,8 @@ add_p c = search rules
 
 slot_of_requires : tie.Need-slot_of-requires invariant_loop decreases_loop
 slot_of_requires c κs =
-    let l = c.before.before.before in
-    let a = l.args in
-    open_from _ (written a.n a.m l.loop-p.work) _ c.is_open.ensures c.loop-p-test.true
+    let a = c.args in
+    open_from _ (written a.n a.m c.loop-p.work) _ c.is_open.ensures c.loop-p-test.true
 
 add_p_2 : tie.Need-overflow_add-p-in-loop-p invariant_loop decreases_loop
 add_p_2 c = omega (arith, c.slot_of.ensures, place_in (opened c))
@@ -79,7 +78,7 @@ part_turn_end : tie.Need-slice_bounds-turn-end invariant_loop decreases_loop
 part_turn_end c = simp length-set (search rules)
 
 turn_requires : tie.Need-turn-step-requires invariant_loop decreases_loop
-turn_requires c κs = next_side_lem (opened c.before.before)
+turn_requires c κs = next_side_lem (opened c.before)
 
 enum_known_step : tie.Need-enum_known-step invariant_loop decreases_loop
 enum_known_step c = search rules
@@ -92,24 +91,21 @@ same_length c = simp length-set c.loop-p.invariant.long
 
 returns : tie.Need-returns-in_default invariant_loop decreases_loop
 returns c =
-    let turned = c.before in
-    tracing_over (opened turned.before.before) (sym (ap side_of c.in_default.is) ∙ turned.turn-step.ensures)
+    tracing_over (opened c.before.before.before) (sym (ap side_of c.in_default.is) ∙ c.turn-step.ensures)
 
 loop_less : tie.Need-loop-p-smaller invariant_loop decreases_loop
 loop_less c = fewer (opened c.before.before.before)
 
 loop_again : tie.Need-loop-p-preserved invariant_loop decreases_loop
 loop_again c =
-    let turned = c.before in
-    tracing_on (opened turned.before.before) (sym (ap side_of c.in-On.is) ∙ turned.turn-step.ensures)
+    tracing_on (opened c.before.before.before) (sym (ap side_of c.in-On.is) ∙ c.turn-step.ensures)
 
 same_length_2 : tie.Need-shape_of-work invariant_loop decreases_loop
 same_length_2 c = search rules
 
 returns_2 : tie.Need-returns invariant_loop decreases_loop
 returns_2 c =
-    let tested = c.before in
-    tracing_end tested.loop-p.invariant tested.is_open.ensures c.loop-p-test.false
+    tracing_end c.loop-p.invariant c.is_open.ensures c.loop-p-test.false
 
 pub trace_spec : {M : Type 1} → statement M
 trace_spec =

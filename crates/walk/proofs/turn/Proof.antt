@@ -29,16 +29,14 @@ is_side_requires c κs = search rules
 
 returns : tie.Need-returns-then-not-is_side
 returns c =
-    let tested = c.before in
-    turn_none _ _ tested.slot_of.ensures tested.is_side.ensures (not-true _ c.if-not-is_side.true-raw)
+    turn_none _ _ c.slot_of.ensures c.is_side.ensures (not-true _ c.if-not-is_side.true-raw)
 
 next_by_row_requires : tie.Need-next_by_row-requires
 next_by_row_requires c κs = rw (sym c.is_side.ensures ∙ not-false _ c.if-not-is_side.false-raw) tt
 
 returns_2 : tie.Need-returns
 returns_2 c =
-    let tested = c.before.before in
-    turn_next _ _ tested.slot_of.ensures tested.is_side.ensures (not-false _ c.if-not-is_side.false-raw) c.next_by_row.ensures
+    turn_next _ _ c.slot_of.ensures c.is_side.ensures (not-false _ c.if-not-is_side.false-raw) c.next_by_row.ensures
 
 pub turn_spec : {M : Type 1} → statement M
 turn_spec =

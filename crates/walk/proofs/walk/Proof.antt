@@ -46,8 +46,7 @@ same_length c = search rules
 
 returns : tie.Need-returns
 returns c =
-    let walked = c.before.before in
-    walked_from (emptied walked.before.before.before.before) walked.walk_empty.ensures
+    walked_from (emptied c.before.before.before.before.before.before) c.walk_empty.ensures
 
 pub walk_spec : {M : Type 1} → statement M
 walk_spec =

@@ -37,17 +37,14 @@ loop_less c = search rules
 
 loop_again : tie.Need-loop-v-preserved invariant_loop decreases_loop
 loop_again c =
-    let traced = c.before.before in
-    let s = traced.before.before in
-    walks_on s.loop-v.invariant (omega arith) (rw s.wide-in-loop-v.ensures at s.start-s.ensures) traced.trace.ensures
+    walks_on c.loop-v.invariant (omega arith) (rw c.wide-in-loop-v.ensures at c.start-s.ensures) c.trace.ensures
 
 same_length : tie.Need-shape_of-work invariant_loop decreases_loop
 same_length c = search rules
 
 returns : tie.Need-returns invariant_loop decreases_loop
 returns c =
-    let s = c.before.before in
-    let e : s.loop-v.v ≡ s.args.n = omega arith in rw e at s.loop-v.invariant.walked
+    let e : c.loop-v.v ≡ c.args.n = omega arith in rw e at c.loop-v.invariant.walked
 
 pub walk_empty_spec : {M : Type 1} → statement M
 walk_empty_spec =
