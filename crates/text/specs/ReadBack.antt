@@ -210,7 +210,8 @@ module _ (n m : ℕ) (L : List ℕ) where
   by_lines zero = sym (append-nil (field_text n 44 ++ field_text m 10))
   by_lines (suc r) =
       let e : 4 * suc r + 2 ≡ 4 * r + 6 = omega arith in
-      rw (e, four r (4 * r) refl, by_lines r) (simp append_assoc)
+      rw (e, four r (4 * r) refl, by_lines r)
+      (append_assoc (field_text n 44 ++ field_text m 10) (joined (λ k. row_text L (4 * k)) r) (row_text L (4 * r)))
 
   small : ((i : ℕ) → i < 4 * m → at L i < 10 ^ 7) → n ≤ 200 → m ≤ 200 → (i : ℕ) → i < 4 * m + 2 → numbers i < 10 ^ 7
   unfolding numbers

@@ -40,12 +40,12 @@ lengths_fit_requires c κs =
 returns_2 : tie.Need-returns-then-not-lengths_fit
 unfolding asked
 returns_2 c =
-    let tested = c.before in lengths_found _ (sized tested.before) (failed (lengths tested) c.if-not-lengths_fit.true-raw)
+    lengths_found _ (sized c.before.before) (failed (lengths c.before) c.if-not-lengths_fit.true-raw)
 
 returns_3 : tie.Need-returns
 unfolding asked
 returns_3 c =
-    let tested = c.before in none_found _ (sized tested.before) (passed (lengths tested) c.if-not-lengths_fit.false-raw)
+    none_found _ (sized c.before.before) (passed (lengths c.before) c.if-not-lengths_fit.false-raw)
 
 pub length_refusal_spec : {M : Type 1} → statement M
 length_refusal_spec = tie.close (tie.spec sizes_fit_requires returns lengths_fit_requires returns_2 returns_3)

@@ -34,31 +34,22 @@ returns-then-columns-gt4 c =
 
 pub returns-then-v2e-wide : goal.returns-then-v2e-wide
 returns-then-v2e-wide c =
-    let two = c.before.before in
-    let a = two.args in
+    let a = c.args in
     let h : a.v2e ≡ a.n → ⊥ = λ e. c.if-v2e-wide.true (e ∙ sym c.wide.ensures) in
-    simp (le-leb 3 a.columns (three two), le-leb a.columns 4 (four two), ne_eqb a.v2e a.n h)
+    simp (le-leb 3 a.columns (three c.before.before), le-leb a.columns 4 (four c.before.before), ne_eqb a.v2e a.n h)
 
 pub overflow_mul-wide : goal.overflow_mul-wide
 overflow_mul-wide c =
-    let two = c.before.before.before in
-    let s = two.before.before in
-    omega (arith, few_entries s.args.columns s.args.m (by_bounds s.args.columns (three two) (four two)) c.wide-2.ensures s.requires)
+    omega (arith, few_entries c.args.columns c.args.m (by_bounds c.args.columns (three c.before.before.before) (four c.before.before.before)) c.wide-2.ensures c.requires)
 
 pub returns-then-e2e-wide : goal.returns-then-e2e-wide
 returns-then-e2e-wide c =
-    let index = c.before in
-    let three_of = index.before in
-    let two = three_of.before.before in
-    let a = two.args in
-    let h : a.e2e ≡ a.columns * a.m → ⊥ = λ e. c.if-e2e-wide.true (e ∙ ap (λ (x : ℕ). x * a.m) (sym index.wide-2.ensures)) in
-    simp (le-leb 3 a.columns (three two), le-leb a.columns 4 (four two), eq-eqb a.v2e a.n (vertices three_of), ne_eqb a.e2e (a.columns * a.m) h)
+    let a = c.args in
+    let h : a.e2e ≡ a.columns * a.m → ⊥ = λ e. c.if-e2e-wide.true (e ∙ ap (λ (x : ℕ). x * a.m) (sym c.wide-2.ensures)) in
+    simp (le-leb 3 a.columns (three c.before.before.before.before), le-leb a.columns 4 (four c.before.before.before.before), eq-eqb a.v2e a.n (vertices c.before.before), ne_eqb a.e2e (a.columns * a.m) h)
 
 pub returns : goal.returns
 returns c =
-    let index = c.before in
-    let three_of = index.before in
-    let two = three_of.before.before in
-    let a = two.args in
-    let h : a.e2e ≡ a.columns * a.m = c.if-e2e-wide.false ∙ ap (λ (x : ℕ). x * a.m) index.wide-2.ensures in
-    simp (le-leb 3 a.columns (three two), le-leb a.columns 4 (four two), eq-eqb a.v2e a.n (vertices three_of), eq-eqb a.e2e (a.columns * a.m) h)
+    let a = c.args in
+    let h : a.e2e ≡ a.columns * a.m = c.if-e2e-wide.false ∙ ap (λ (x : ℕ). x * a.m) c.wide-2.ensures in
+    simp (le-leb 3 a.columns (three c.before.before.before.before), le-leb a.columns 4 (four c.before.before.before.before), eq-eqb a.v2e a.n (vertices c.before.before), eq-eqb a.e2e (a.columns * a.m) h)

@@ -16,104 +16,83 @@ use Rattle.holes.proofs.Leaving.{refuses_12, refuses_13, answers}
 use Rattle.holes.proofs.holes_fit.Statement.{statement}
 use Rattle.holes.proofs.holes_fit.Tie as tie
 
--- all border half-edges were marked
-abbrev begun : tie.After-number-holes → tie.Start
-begun c = c.before.before.before.before.before.before.before.before.before
-
--- the room was asked for, and there is room
-abbrev counted : tie.After-is-room → tie.After-counted
-counted c = c.before.before
-
-abbrev marked : tie.After-is-room → tie.After-number-holes
-marked c = (counted c).before.before.before.before
-
-abbrev asked : tie.After-write → tie.After-is-room
-asked c = c.before.before.before.before.before.before
-
 abbrev mesh_of : tie.Start → Mesh
 mesh_of s = mesh s.args.n s.args.columns s.args.list.now s.args.v2e.now s.args.e2e.now s.args.b2e.now
 
 -- h holes, and the test for room
-found : (c : tie.After-is-room) → let m = marked c in
-    Marked (mesh_of (begun m)) (length (begun m).args.b2e.now) (counted c).counted.given.0.0 m.number-holes.last.1.1.1.1.1.1.0
-found c = (marked c).number-holes.ensures.0.counted _ (value_of refl (counted c).counted.given.1)
+found : (c : tie.After-is_room) → Marked (mesh_of c.before.before.before.before.before.before.before.before.before.before.before.before.before) (length c.args.b2e.now) c.in-Value.h c.number_holes-counted.new.work
+found c = c.number_holes-counted.ensures.0.counted _ (value_of refl c.in-Value.is)
 
-number_holes_requires : tie.Need-number-holes-requires
+number_holes_requires : tie.Need-number_holes-counted-requires
 number_holes_requires c κs = search rules
 
-enum_known_counted : tie.Need-enum-known-counted
+enum_known_counted : tie.Need-enum_known-counted
 enum_known_counted c = search rules
 
-enum_told : tie.Need-enum-told
+enum_told : tie.Need-enum_told-1
 enum_told c = search rules
 
 refuse_requires : tie.Need-refuse-requires
 refuse_requires c κs = search rules
 
-same_length : tie.Need-same-length
+same_length : tie.Need-shape_of-work-in_default
 same_length c = search rules
 
-returns : tie.Need-returns
+returns : tie.Need-returns-in_default
 returns c =
-    let m = c.before.before.before.before.before in
-    let (b, i, e) = m.number-holes.ensures.0.broken (broken_of refl c.before.enum_told.given.1) in
-    (refuses_12 (mesh_of (begun m)) _ _ b i e c.refuse.ensures, m.number-holes.ensures.1)
+    let (b, i, e) = c.number_holes-counted.ensures.0.broken (broken_of refl c.in_default.is) in
+    (refuses_12 (mesh_of c.before.before.before.before.before.before.before.before.before.before.before.before.before) _ _ b i e c.refuse.ensures, c.number_holes-counted.ensures.1)
 
-is_room_requires : tie.Need-is-room-requires
+is_room_requires : tie.Need-is_room-requires
 is_room_requires c κs = search rules
 
-cast_refuse_at : tie.Need-overflow-cast-refuse-at
+cast_refuse_at : tie.Need-overflow_cast-k
 cast_refuse_at c = search rules
 
-refuse_at_requires : tie.Need-refuse-at-requires
+refuse_at_requires : tie.Need-refuse_at-requires
 refuse_at_requires c κs = search rules
 
-same_length_2 : tie.Need-same-length-2
+same_length_2 : tie.Need-shape_of-work-then-not-is_room
 same_length_2 c = search rules
 
-returns_2 : tie.Need-returns-2
+returns_2 : tie.Need-returns-then-not-is_room
 returns_2 c =
-    let test = c.before.before in
-    let no = sym test.is-room.ensures ∙ not-true _ c.before.if1.true in
-    (refuses_13 (mesh_of (begun (marked test))) _ _ _ _ (found test) no c.refuse-at.ensures, (marked test).number-holes.ensures.1)
+    let no = sym c.is_room.ensures ∙ not-true _ c.if-not-is_room.true-raw in
+    (refuses_13 (mesh_of c.before.before.before.before.before.before.before.before.before.before.before.before.before.before.before) _ _ _ _ (found c.before.before) no c.refuse_at.ensures, c.number_holes-counted.ensures.1)
 
 wide_requires : tie.Need-wide-requires
 wide_requires c κs = search rules
 
 -- both outputs have room
-enough : (c : tie.Else1) → let s = begun (marked c.before) in room (mesh_of s) s.args.hole.now s.args.lengths.now ≡ true
-enough c = sym c.before.is-room.ensures ∙ not-false _ c.if1.false
+enough : (c : tie.Else-not-is_room) → room (mesh_of c.before.before.before.before.before.before.before.before.before.before.before.before.before.before) c.args.hole.now c.args.lengths.now ≡ true
+enough c = sym c.is_room.ensures ∙ not-false _ c.if-not-is_room.false-raw
 
 write_requires : tie.Need-write-requires
 write_requires c κs =
-    let test = c.before.before.before.before.before in
-    let s = begun (marked test) in
-    let (a, b) = (means_room (mesh_of s) s.args.hole.now s.args.lengths.now).says (rw (enough c.before.before.before.before) tt) in
-    let h = holes_short (mesh_of s) _ _ _ (found test) in
-    let w = c.before.before.before.wide.ensures in
-    (omega (arith, (found test).room), a, omega arith)
+    let (a, b) = (means_room (mesh_of c.before.before.before.before.before.before.before.before.before.before.before.before.before.before.before.before.before) c.args.hole.now c.args.lengths.now).says (rw (enough c.before.before.before) tt) in
+    let h = holes_short (mesh_of c.before.before.before.before.before.before.before.before.before.before.before.before.before.before.before.before.before) _ _ _ (found c.before.before.before.before) in
+    let w = c.wide.ensures in
+    (omega (arith, (found c.before.before.before.before).room), a, omega arith)
 
 give_requires : tie.Need-give-requires
 give_requires c κs = search rules
 
-same_length_3 : tie.Need-same-length-3
+same_length_3 : tie.Need-shape_of-hole
 same_length_3 c = search rules
 
-same_length_4 : tie.Need-same-length-4
+same_length_4 : tie.Need-shape_of-lengths
 same_length_4 c = search rules
 
-same_length_5 : tie.Need-same-length-5
+same_length_5 : tie.Need-shape_of-work
 same_length_5 c = search rules
 
-returns_3 : tie.Need-returns-3
+returns_3 : tie.Need-returns
 returns_3 c =
-    let wrote = c.before.before.before.before.before in
-    let test = asked wrote in
-    let (hole, lengths) = wrote.write.ensures in
-    let w = wrote.before.before.before.before.wide.ensures in
-    let some_room = enough wrote.before.before.before.before.before in (
-      answers (mesh_of (begun (marked test))) _ _ _ _ (found test) some_room c.give.ensures hole (rw w at lengths),
-      (marked test).number-holes.ensures.1,
+    let (hole, lengths) = c.write.ensures in
+    let w = c.wide.ensures in
+    let some_room = enough c.before.before.before.before.before.before.before.before.before in (
+      answers (mesh_of c.before.before.before.before.before.before.before.before.before.before.before.before.before.before.before.before.before.before.before.before.before.before.before) _ _ _ _ (found c.before.before.before.before.before.before.before.before.before.before) some_room c.give.ensures hole (rw w at lengths),
+      c.number_holes-counted.ensures.1,
     )
 
 pub holes_fit_spec : {M : Type 1} → statement M

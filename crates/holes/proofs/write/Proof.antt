@@ -9,56 +9,49 @@ use Rattle.rules.specs.Refusals.{onto}
 use Rattle.holes.proofs.write.Statement.{statement}
 use Rattle.holes.proofs.write.Tie as tie
 
-abbrev begun : tie.After-copy → tie.Start
-begun c = c.before.before.before.before.before.before
-
-abbrev first : tie.After-copy2 → tie.After-copy
-first c = c.before.before.before.before.before
-
-add_end : tie.Need-overflow-add-end
+add_end : tie.Need-overflow_add-end
 add_end c = search rules
 
-sub_copy : tie.Need-overflow-sub-copy
+sub_copy : tie.Need-slice_bounds-copy-count
 sub_copy c = search rules
 
-part_copy_start : tie.Need-slice-bounds-copy-start
+part_copy_start : tie.Need-slice_bounds-copy-start
 part_copy_start c = search rules
 
-part_copy_end : tie.Need-slice-bounds-copy-end
+part_copy_end : tie.Need-slice_bounds-copy-end
 part_copy_end c = search rules
 
 copy_requires : tie.Need-copy-requires
 copy_requires c κs = search rules
 
-mul_copy : tie.Need-overflow-mul-copy
+mul_copy : tie.Need-offset_bounds-work-k
 mul_copy c = search rules
 
-sub_copy_2 : tie.Need-overflow-sub-copy-2
+sub_copy_2 : tie.Need-slice_bounds-copy-count-2
 sub_copy_2 c = search rules
 
-part_copy_start_2 : tie.Need-slice-bounds-copy-start-2
+part_copy_start_2 : tie.Need-slice_bounds-copy-start-2
 part_copy_start_2 c = search rules
 
-part_copy_end_2 : tie.Need-slice-bounds-copy-end-2
+part_copy_end_2 : tie.Need-slice_bounds-copy-end-2
 part_copy_end_2 c = search rules
 
 copy_requires_2 : tie.Need-copy-requires-2
 copy_requires_2 c κs = search rules
 
-same_length : tie.Need-same-length
+same_length : tie.Need-shape_of-hole
 same_length c = search rules
 
-same_length_2 : tie.Need-same-length-2
+same_length_2 : tie.Need-shape_of-lengths
 same_length_2 c = search rules
 
 returns : tie.Need-returns
 returns c =
-    let second = c.before.before in
-    let a = (begun (first second)).args in
+    let a = c.args in
     let whole : a.k - 0 ≡ a.k = omega arith in
     let rest : a.k + a.h - a.k ≡ a.h = omega arith in (
-      (first second).copy.ensures ∙ ap (λ (i : ℕ). onto (part 0 i a.work.now) a.hole.now) whole,
-      second.copy2.ensures ∙ ap (λ (i : ℕ). onto (part a.k i a.work.now) a.lengths.now) rest,
+      c.copy.ensures ∙ ap (λ (i : ℕ). onto (part 0 i a.work.now) a.hole.now) whole,
+      c.copy-2.ensures ∙ ap (λ (i : ℕ). onto (part a.k i a.work.now) a.lengths.now) rest,
     )
 
 pub write_spec : {M : Type 1} → statement M

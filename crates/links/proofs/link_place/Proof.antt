@@ -10,82 +10,70 @@ use borrow.Author.Rules.{rules}
 use Rattle.links.proofs.link_place.Statement.{statement}
 use Rattle.links.proofs.link_place.Tie as tie
 
--- past the test that the entry is a border, with its number taken
-abbrev tested : tie.After-wide → tie.After-is-border
-tested c = c.before.before.before
+abbrev entry : tie.After-is_border → ℕ
+entry c = at c.args.work.now (c.args.n + c.args.p)
 
-abbrev begun : tie.After-is-border → tie.Start
-begun c = c.before.before.before
-
-abbrev entry : tie.After-is-border → ℕ
-entry c = at (begun c).args.work.now ((begun c).args.n + (begun c).args.p)
-
-add_c : tie.Need-overflow-add-c
+add_c : tie.Need-overflow_add-c
 add_c c = search rules
 
-mul_c : tie.Need-overflow-mul-c
+mul_c : tie.Need-offset_bounds-work-n
 mul_c c = search rules
 
-slice_read_c : tie.Need-slice-read-c
+slice_read_c : tie.Need-bounds-work-n
 slice_read_c c = search rules
 
-is_border_requires : tie.Need-is-border-requires
+is_border_requires : tie.Need-is_border-requires
 is_border_requires c κs = search rules
 
-returns : tie.Need-returns
+returns : tie.Need-returns-then-not-is_border
 returns c =
-    let s = begun c.before in
-    link_skip s.pre.0 s.pre.1 (λ b x y e. of_side (entry c.before) c.before.is-border.ensures (not-true _ c.if1.true) (omega arith))
+    link_skip c.requires.0 c.requires.1 (λ b x y e. of_side (entry c.before) c.is_border.ensures (not-true _ c.if-not-is_border.true-raw) (omega arith))
 
-element_of_requires : tie.Need-element-of-requires
+element_of_requires : tie.Need-element_of-requires
 element_of_requires c κs = search rules
 
-wide_requires : tie.Need-wide-requires
+wide_requires : tie.Need-wide-b-requires
 wide_requires c κs = search rules
 
-returns_2 : tie.Need-returns-2
+returns_2 : tie.Need-returns-then-b-eq0
 returns_2 c =
-    let s = begun (tested c.before) in
-    link_skip s.pre.0 s.pre.1 (λ b x y e. omega (arith, c.before.before.element-of.ensures))
+    link_skip c.requires.0 c.requires.1 (λ b x y e. omega (arith, c.element_of.ensures))
 
-mul_if3 : tie.Need-overflow-mul-if3
+mul_if3 : tie.Need-overflow_mul-m
 mul_if3 c = search rules
 
-returns_3 : tie.Need-returns-3
+returns_3 : tie.Need-returns-then-m-b
 returns_3 c =
-    let s = begun (tested c.before.before) in
-    link_skip s.pre.0 s.pre.1 (λ b x y e. omega arith)
+    link_skip c.requires.0 c.requires.1 (λ b x y e. omega arith)
 
-mul_i : tie.Need-overflow-mul-i
+mul_i : tie.Need-overflow_mul-i
 mul_i c = search rules
 
-add_i : tie.Need-overflow-add-i
+add_i : tie.Need-overflow_add-i
 add_i c = search rules
 
-add_i_2 : tie.Need-overflow-add-i-2
+add_i_2 : tie.Need-overflow_add-i-2
 add_i_2 c = search rules
 
-sub_i : tie.Need-overflow-sub-i
+sub_i : tie.Need-overflow_sub-i
 sub_i c = search rules
 
-code_at_requires : tie.Need-code-at-requires
+code_at_requires : tie.Need-code_at-requires
 code_at_requires c κs = search rules
 
-mul_work : tie.Need-overflow-mul-work
+mul_work : tie.Need-offset_bounds-work-i
 mul_work c = search rules
 
-slice_write_work : tie.Need-slice-write-work
+slice_write_work : tie.Need-bounds-work-i
 slice_write_work c = search rules
 
-same_length : tie.Need-same-length
+same_length : tie.Need-shape_of-work
 same_length c = search rules
 
-returns_4 : tie.Need-returns-4
+returns_4 : tie.Need-returns
 returns_4 c =
-    let numbered = c.before.before.before in
-    let s = begun (tested numbered) in
-    let border = of_border (entry (tested numbered)) (tested numbered).is-border.ensures (not-false _ numbered.before.before.if1.false) in
-    link_put s.pre.0 s.pre.1 numbered.wide.result _ (omega arith) (omega arith) (omega arith) (omega arith) c.code_at.ensures
+    let border = of_border (entry c.before.before.before.before.before.before) c.is_border.ensures (not-false _ c.if-not-is_border.false-raw) in
+    link_put c.requires.0 c.requires.1 c.wide-b.result _ (omega arith) (omega arith) (omega arith) (omega arith) c.code_at.ensures
 
 pub link_place_spec : {M : Type 1} → statement M
 link_place_spec =

@@ -10,38 +10,32 @@ use Rattle.ordered.proofs.turn.Statement.{statement}
 use Rattle.ordered.proofs.turn.Tie as tie
 
 -- the place of s is in E2e
-place : (c : tie.After-slot-of) → c.slot_of.result < length c.before.before.args.e2e.now
-place c = rw c.slot_of.ensures (slot_below c.before.before.args.e2e.now _ c.before.before.requires.side)
+place : (c : tie.After-slot_of) → c.slot_of.result < length c.args.e2e.now
+place c = rw c.slot_of.ensures (slot_below c.args.e2e.now _ c.requires.side)
 
-slot_of_requires : tie.Need-slot-of-requires
-slot_of_requires c κs = side_from _ _ c.before.requires.side
+slot_of_requires : tie.Need-slot_of-requires
+slot_of_requires c κs = side_from _ _ c.requires.side
 
-mul_t : tie.Need-overflow-mul-t
+mul_t : tie.Need-offset_bounds-e2e-slot_of
 mul_t c = omega (arith, place c)
 
-shared_slice_read_t : tie.Need-shared-slice-read-t
+shared_slice_read_t : tie.Need-bounds-e2e-slot_of
 shared_slice_read_t c = place c.before
 
-is_border_requires : tie.Need-is-border-requires
+is_border_requires : tie.Need-is_border-requires
 is_border_requires c κs = search rules
 
-returns : tie.Need-returns
+returns : tie.Need-returns-then-is_border
 returns c =
-    let tested = c.before in
-    let placed = tested.before.before in
-    turn_over placed.before.before.requires placed.slot_of.ensures tested.is-border.ensures c.if1.true
+    turn_over c.requires c.slot_of.ensures c.is_border.ensures c.if-is_border.true
 
-next_by_row_requires : tie.Need-next-by-row-requires
+next_by_row_requires : tie.Need-next_by_row-requires
 next_by_row_requires c κs =
-    let tested = c.before in
-    let placed = tested.before.before in
-    on_side placed.before.before.requires placed.slot_of.ensures tested.is-border.ensures c.if1.false
+    on_side c.requires c.slot_of.ensures c.is_border.ensures c.if-is_border.false
 
-returns_2 : tie.Need-returns-2
+returns_2 : tie.Need-returns
 returns_2 c =
-    let tested = c.before.before in
-    let placed = tested.before.before in
-    turn_on placed.before.before.requires placed.slot_of.ensures tested.is-border.ensures c.before.if1.false c.next-by-row.ensures
+    turn_on c.requires c.slot_of.ensures c.is_border.ensures c.if-is_border.false c.next_by_row.ensures
 
 pub turn_spec : {M : Type 1} → statement M
 turn_spec =

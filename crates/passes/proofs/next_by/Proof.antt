@@ -5,35 +5,32 @@ use borrow.Author.Rules.{rules}
 use Rattle.passes.proofs.next_by.Statement.{statement}
 use Rattle.passes.proofs.next_by.Tie as tie
 
-abbrev begun : tie.After-shared-slice-known4 → tie.Start
-begun c = c.before.before.before.before
-
-enum_told : tie.Need-enum-told
+enum_told : tie.Need-enum_told-1
 enum_told c = search rules
 
-ring_next_requires : tie.Need-ring-next-requires
-ring_next_requires c κs = let (fit, stands) = (begun c.before.before).requires in (fit, stands_as _ _ c.enum_told.given.1 stands)
+ring_next_requires : tie.Need-ring_next-requires
+ring_next_requires c κs = let (fit, stands) = c.requires in (fit, stands_as _ _ c.in-Elements.is stands)
 
-enum_told_2 : tie.Need-enum-told-2
+enum_told_2 : tie.Need-enum_told-in-Ends
 enum_told_2 c = search rules
 
-ring_next_requires_2 : tie.Need-ring-next-requires-2
-ring_next_requires_2 c κs = let (fit, stands) = (begun c.before.before).requires in (fit, stands_as _ _ c.enum-told2.given.1 stands)
+ring_next_requires_2 : tie.Need-ring_next-requires-in-Ends
+ring_next_requires_2 c κs = let (fit, stands) = c.requires in (fit, stands_as _ _ c.in-Ends.is stands)
 
-enum_told_3 : tie.Need-enum-told-3
+enum_told_3 : tie.Need-enum_told-in-Borders
 enum_told_3 c = search rules
 
-loop_next_requires : tie.Need-loop-next-requires
-loop_next_requires c κs = let (fit, stands) = (begun c.before.before).requires in (fit, stands_as _ _ c.enum-told3.given.1 stands)
+loop_next_requires : tie.Need-loop_next-requires
+loop_next_requires c κs = let (fit, stands) = c.requires in (fit, stands_as _ _ c.in-Borders.is stands)
 
-returns : tie.Need-returns
-returns c = rw c.before.enum_told.given.1 c.ring-next.ensures
+returns : tie.Need-returns-in-Elements
+returns c = rw c.in-Elements.is c.ring_next.ensures
 
-returns_2 : tie.Need-returns-2
-returns_2 c = rw c.before.enum-told2.given.1 c.ring-next2.ensures
+returns_2 : tie.Need-returns-in-Ends
+returns_2 c = rw c.in-Ends.is c.ring_next-in-Ends.ensures
 
-returns_3 : tie.Need-returns-3
-returns_3 c = rw c.before.enum-told3.given.1 c.loop-next.ensures
+returns_3 : tie.Need-returns-in-Borders
+returns_3 c = rw c.in-Borders.is c.loop_next.ensures
 
 pub next_by_spec : {M : Type 1} → statement M
 next_by_spec =

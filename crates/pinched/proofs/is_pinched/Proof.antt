@@ -15,19 +15,14 @@ clear_first_requires c κs = search rules
 
 mark_neighbours_requires : tie.Need-mark_neighbours-requires
 mark_neighbours_requires c κs =
-    let cleared = c.before.before.before in
-    let s = cleared.before.before.before.before.before in
-    record { n = s.args.n; fit = s.requires.0; room = omega (arith, s.requires.1, cleared.clear_first.ensures.0.long) }
+    record { n = c.args.n; fit = c.requires.0; room = omega (arith, c.requires.1, c.clear_first.ensures.0.long) }
 
 meets_marked_requires : tie.Need-meets_marked-requires
 meets_marked_requires c κs =
-    let marked = c.before.before.before in
-    let cleared = marked.before.before.before.before in
-    let s = cleared.before.before.before.before in
     record {
-      n = s.args.n;
-      fit = s.requires.0;
-      room = omega (arith, s.requires.1, cleared.clear_first.ensures.0.long, marked.mark_neighbours.ensures.long);
+      n = c.args.n;
+      fit = c.requires.0;
+      room = omega (arith, c.requires.1, c.clear_first.ensures.0.long, c.mark_neighbours.ensures.long);
     }
 
 same_length : tie.Need-shape_of-work
@@ -35,13 +30,10 @@ same_length c = search rules
 
 returns : tie.Need-returns
 returns c =
-    let marked = c.before.before.before.before in
-    let cleared = marked.before.before.before.before in
-    let s = cleared.before.before.before.before in
-    let args = s.args in
-    let blank = rw cleared.wide.ensures at cleared.clear_first.ensures.1 in (
-      pinched_is args.n args.list.now s.requires.0 args.a args.b args.c args.d blank marked.mark_neighbours.ensures c.meets_marked.ensures,
-      marked.mark_neighbours.ensures.long ∙ cleared.clear_first.ensures.0.long,
+    let args = c.args in
+    let blank = rw c.wide.ensures at c.clear_first.ensures.1 in (
+      pinched_is args.n args.list.now c.requires.0 args.a args.b args.c args.d blank c.mark_neighbours.ensures c.meets_marked.ensures,
+      c.mark_neighbours.ensures.long ∙ c.clear_first.ensures.0.long,
     )
 
 pub is_pinched_spec : {M : Type 1} → statement M

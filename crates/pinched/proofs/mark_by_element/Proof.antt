@@ -24,10 +24,9 @@ told c = let a = c.args in read a.list.now a.f c.requires.1 c.row_at-row.ensures
 
 -- side i, before the last
 on : (c : tie.In-loop-i invariant_loop decreases_loop) →
-    let start = c.before.before in
-    let a = start.args in
+    let a = c.args in
     let i = c.loop-i.i in
-    let r = start.row_at-row.result in Runs a.list.now (8 * a.f + i) (corner_of r i) (corner_of r (i + 1))
+    let r = c.row_at-row.result in Runs a.list.now (8 * a.f + i) (corner_of r i) (corner_of r (i + 1))
 on c = (told c.before.before).runs_on c.loop-i.i c.loop-i.invariant.1 c.loop-i-test.true
 
 row_at_requires : tie.Need-row_at-row-requires invariant_loop decreases_loop
@@ -49,55 +48,43 @@ other_corner_requires c κs = search rules
 
 mark_requires : tie.Need-mark-requires invariant_loop decreases_loop
 mark_requires c κs =
-    let found = c.before in
-    let turn = found.before in
-    let able = turn.requires.0 in
-    omega (arith, other_fits able.fit (on turn) found.other_corner.ensures, able.room, turn.loop-i.invariant.0.long)
+    let able = c.requires.0 in
+    omega (arith, other_fits able.fit (on c.before.before) c.other_corner.ensures, able.room, c.loop-i.invariant.0.long)
 
 add_i : tie.Need-overflow_add-i-in-loop-i invariant_loop decreases_loop
 add_i c =
-    let turn = c.before.before.before.before.before in
-    let h = turn.loop-i-test.true in omega (arith, (told turn.before.before).to)
+    let h = c.loop-i-test.true in omega (arith, (told c.before.before.before.before.before.before.before).to)
 
 loop_less : tie.Need-loop-i-smaller invariant_loop decreases_loop
 loop_less c = let h = c.loop-i-test.true in omega arith
 
 loop_again : tie.Need-loop-i-preserved invariant_loop decreases_loop
 loop_again c =
-    let put = c.before.before in
-    let found = put.before.before in
-    let turn = found.before in
-    let l = turn.loop-i in
-    let fit = turn.requires.0.fit in
-    let h = turn.loop-i-test.true in
-    (marked_next fit (on turn) found.other_corner.ensures l.invariant.0 put.mark.ensures (omega arith) (omega arith), omega arith, omega arith)
+    let l = c.loop-i in
+    let fit = c.requires.0.fit in
+    let h = c.loop-i-test.true in
+    (marked_next fit (on c.before.before.before.before.before) c.other_corner.ensures l.invariant.0 c.mark.ensures (omega arith) (omega arith), omega arith, omega arith)
 
 other_corner_requires_2 : tie.Need-other_corner-requires-2 invariant_loop decreases_loop
 other_corner_requires_2 c κs = search rules
 
 mark_requires_2 : tie.Need-mark-requires-2 invariant_loop decreases_loop
 mark_requires_2 c κs =
-    let found = c.before in
-    let l = found.before.before in
-    let able = l.requires.0 in
-    omega (arith, other_fits able.fit (told l.before).runs_back found.other_corner-2.ensures, able.room, l.loop-i.invariant.0.long)
+    let able = c.requires.0 in
+    omega (arith, other_fits able.fit (told c.before.before.before.before).runs_back c.other_corner-2.ensures, able.room, c.loop-i.invariant.0.long)
 
 same_length : tie.Need-shape_of-marks invariant_loop decreases_loop
-same_length c = let put = c.before.before in put.mark-2.ensures.long ∙ put.loop-i.invariant.0.long
+same_length c = c.mark-2.ensures.long ∙ c.loop-i.invariant.0.long
 
 returns : tie.Need-returns invariant_loop decreases_loop
 returns c =
-    let put = c.before.before in
-    let found = put.before.before in
-    let l = found.before.before in
-    let start = l.before in
-    let args = start.args in
-    let h = found.loop-i-test.false in
-    let k = start.side_count-k.result in
-    let e : l.loop-i.i ≡ k = omega (arith, l.loop-i.invariant.2) in
-    let before = rw e at l.loop-i.invariant.0 in
-    let last = marked_next start.requires.0.fit (told start).runs_back found.other_corner-2.ensures before put.mark-2.ensures (omega arith) refl in
-    marked_by last (λ v j. joined_to j (omega arith) (omega (arith, (told start).to))) (λ v j. in_element args.f k (told start).counted j)
+    let args = c.args in
+    let h = c.loop-i-test.false in
+    let k = c.side_count-k.result in
+    let e : c.loop-i.i ≡ k = omega (arith, c.loop-i.invariant.2) in
+    let before = rw e at c.loop-i.invariant.0 in
+    let last = marked_next c.requires.0.fit (told c.before.before.before.before.before.before.before).runs_back c.other_corner-2.ensures before c.mark-2.ensures (omega arith) refl in
+    marked_by last (λ v j. joined_to j (omega arith) (omega (arith, (told c.before.before.before.before.before.before.before).to))) (λ v j. in_element args.f k (told c.before.before.before.before.before.before.before).counted j)
 
 pub mark_by_element_spec : {M : Type 1} → statement M
 mark_by_element_spec =

@@ -25,29 +25,25 @@ add_f c = search rules
 
 mark_by_element_requires : tie.Need-mark_by_element-requires invariant_loop decreases_loop
 mark_by_element_requires c κs =
-    let turn = c.before in
-    let h = turn.loop-f-test.true in
-    let able = turn.requires in
-    (record { n = able.n; fit = able.fit; room = omega (arith, able.room, turn.loop-f.invariant.0.long) }, (omega arith, omega arith))
+    let h = c.loop-f-test.true in
+    let able = c.requires in
+    (record { n = able.n; fit = able.fit; room = omega (arith, able.room, c.loop-f.invariant.0.long) }, (omega arith, omega arith))
 
 loop_less : tie.Need-loop-f-smaller invariant_loop decreases_loop
 loop_less c = let h = c.loop-f-test.true in omega arith
 
 loop_again : tie.Need-loop-f-preserved invariant_loop decreases_loop
 loop_again c =
-    let put = c.before.before in
-    let turn = put.before.before in
-    let h = turn.loop-f-test.true in
-    (marked_range turn.loop-f.invariant.0 put.mark_by_element.ensures (omega arith) (omega arith) (omega arith), omega arith)
+    let h = c.loop-f-test.true in
+    (marked_range c.loop-f.invariant.0 c.mark_by_element.ensures (omega arith) (omega arith) (omega arith), omega arith)
 
 same_length : tie.Need-shape_of-marks invariant_loop decreases_loop
 same_length c = c.loop-f.invariant.0.long
 
 returns : tie.Need-returns invariant_loop decreases_loop
 returns c =
-    let l = c.before in
     let h = c.loop-f-test.false in
-    marked_by l.loop-f.invariant.0 (λ v j. neighbours_of j) (λ v j. all_joined l.loop-f.f (omega arith) j)
+    marked_by c.loop-f.invariant.0 (λ v j. neighbours_of j) (λ v j. all_joined c.loop-f.f (omega arith) j)
 
 pub mark_neighbours_spec : {M : Type 1} → statement M
 mark_neighbours_spec =

@@ -26,10 +26,9 @@ told c = let a = c.args in read a.list.now a.f c.requires.1 c.row_at-row.ensures
 
 -- side i, before the last
 on : (c : tie.In-loop-i invariant_loop decreases_loop) →
-    let start = c.before.before in
-    let a = start.args in
+    let a = c.args in
     let i = c.loop-i.i in
-    let r = start.row_at-row.result in Runs a.list.now (8 * a.f + i) (corner_of r i) (corner_of r (i + 1))
+    let r = c.row_at-row.result in Runs a.list.now (8 * a.f + i) (corner_of r i) (corner_of r (i + 1))
 on c = (told c.before.before).runs_on c.loop-i.i c.loop-i.invariant.1 c.loop-i-test.true
 
 row_at_requires : tie.Need-row_at-row-requires invariant_loop decreases_loop
@@ -49,59 +48,46 @@ other_corner_requires c κs = search rules
 
 counts_requires : tie.Need-counts-requires invariant_loop decreases_loop
 counts_requires c κs =
-    let turn = c.before in
-    let able = turn.requires.0 in
-    omega (arith, other_fits able.fit (on turn) c.other_corner.ensures, able.room)
+    let able = c.requires.0 in
+    omega (arith, other_fits able.fit (on c.before) c.other_corner.ensures, able.room)
 
 returns : tie.Need-returns-then-counts invariant_loop decreases_loop
 returns c =
-    let asked = c.before in
-    let found = asked.before in
-    let turn = found.before in
-    let start = turn.before.before in
-    let h = turn.loop-i-test.true in
-    let met = met_next start.requires.0.fit (on turn) found.other_corner.ensures (passed asked.counts.ensures c.if-counts.true) in
-    means_true (met_in met (omega arith) (omega (arith, (told start).to)))
+    let h = c.loop-i-test.true in
+    let met = met_next c.requires.0.fit (on c.before.before.before) c.other_corner.ensures (passed c.counts.ensures c.if-counts.true) in
+    means_true (met_in met (omega arith) (omega (arith, (told c.before.before.before.before.before).to)))
 
 add_i : tie.Need-overflow_add-i-in-loop-i invariant_loop decreases_loop
 add_i c =
-    let turn = c.before.before.before in
-    let h = turn.loop-i-test.true in omega (arith, (told turn.before.before).to)
+    let h = c.loop-i-test.true in omega (arith, (told c.before.before.before.before.before).to)
 
 loop_less : tie.Need-loop-i-smaller invariant_loop decreases_loop
 loop_less c = let h = c.loop-i-test.true in omega arith
 
 loop_again : tie.Need-loop-i-preserved invariant_loop decreases_loop
 loop_again c =
-    let asked = c.before in
-    let found = asked.before in
-    let turn = found.before in
-    let l = turn.loop-i in
-    let fit = turn.requires.0.fit in
-    let h = turn.loop-i-test.true in
-    (unmet_next fit (on turn) found.other_corner.ensures l.invariant.0 (failed asked.counts.ensures c.if-counts.false) (omega arith), omega arith, omega arith)
+    let l = c.loop-i in
+    let fit = c.requires.0.fit in
+    let h = c.loop-i-test.true in
+    (unmet_next fit (on c.before.before.before) c.other_corner.ensures l.invariant.0 (failed c.counts.ensures c.if-counts.false) (omega arith), omega arith, omega arith)
 
 other_corner_requires_2 : tie.Need-other_corner-requires-2 invariant_loop decreases_loop
 other_corner_requires_2 c κs = search rules
 
 counts_requires_2 : tie.Need-counts-requires-2 invariant_loop decreases_loop
 counts_requires_2 c κs =
-    let start = c.before.before.before in
-    let able = start.requires.0 in
-    omega (arith, other_fits able.fit (told start).runs_back c.other_corner-2.ensures, able.room)
+    let able = c.requires.0 in
+    omega (arith, other_fits able.fit (told c.before.before.before).runs_back c.other_corner-2.ensures, able.room)
 
 returns_2 : tie.Need-returns invariant_loop decreases_loop
 returns_2 c =
-    let found = c.before in
-    let l = found.before.before in
-    let start = l.before in
-    let f = start.args.f in
-    let k = start.side_count-k.result in
-    let h = found.loop-i-test.false in
-    let e : l.loop-i.i ≡ k = omega (arith, l.loop-i.invariant.2) in
-    let unmet = rw e at l.loop-i.invariant.0 in
-    let last = means_last start.requires.0.fit (told start).runs_back found.other_corner-2.ensures (omega arith) unmet c.counts-2.ensures in
-    means_by last (λ x. met_in x (omega arith) (omega (arith, (told start).to))) (λ (v, j, x). (v, in_element f k (told start).counted j, x))
+    let f = c.args.f in
+    let k = c.side_count-k.result in
+    let h = c.loop-i-test.false in
+    let e : c.loop-i.i ≡ k = omega (arith, c.loop-i.invariant.2) in
+    let unmet = rw e at c.loop-i.invariant.0 in
+    let last = means_last c.requires.0.fit (told c.before.before.before.before).runs_back c.other_corner-2.ensures (omega arith) unmet c.counts-2.ensures in
+    means_by last (λ x. met_in x (omega arith) (omega (arith, (told c.before.before.before.before).to))) (λ (v, j, x). (v, in_element f k (told c.before.before.before.before).counted j, x))
 
 pub meets_by_element_spec : {M : Type 1} → statement M
 meets_by_element_spec =

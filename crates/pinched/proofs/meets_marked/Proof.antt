@@ -38,16 +38,13 @@ loop_less c = let h = c.loop-f-test.true in omega arith
 
 loop_again : tie.Need-loop-f-preserved invariant_loop decreases_loop
 loop_again c =
-    let asked = c.before in
-    let turn = asked.before in
-    let h = turn.loop-f-test.true in
-    (unmet_both turn.loop-f.invariant.0 (failed asked.meets_by_element.ensures c.if-meets_by_element.false) (omega arith) (omega arith), omega arith)
+    let h = c.loop-f-test.true in
+    (unmet_both c.loop-f.invariant.0 (failed c.meets_by_element.ensures c.if-meets_by_element.false) (omega arith) (omega arith), omega arith)
 
 returns_2 : tie.Need-returns invariant_loop decreases_loop
 returns_2 c =
-    let l = c.before in
     let h = c.loop-f-test.false in
-    means_false (λ (v, j, k). l.loop-f.invariant.0 (v, all_joined l.loop-f.f (omega arith) j, k))
+    means_false (λ (v, j, k). c.loop-f.invariant.0 (v, all_joined c.loop-f.f (omega arith) j, k))
 
 pub meets_marked_spec : {M : Type 1} → statement M
 meets_marked_spec =

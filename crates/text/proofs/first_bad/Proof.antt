@@ -50,23 +50,18 @@ line_of_requires c κs = search rules
 
 returns_2 : tie.Need-returns-then-r-count
 returns_2 c =
-    let g = c.before.before.before in
-    c.line_of.ensures ∙ bad_field _ _ (good g.before.before) (first g) (λ e. c.if-r-count.true (e ∙ sym (count g.before)))
+    c.line_of.ensures ∙ bad_field _ _ (good c.before.before.before.before.before) (first c.before.before.before) (λ e. c.if-r-count.true (e ∙ sym (count c.before.before.before.before)))
 
 line_of_requires_2 : tie.Need-line_of-requires-then-r-text
 line_of_requires_2 c κs = search rules
 
 returns_3 : tie.Need-returns-then-r-text
 returns_3 c =
-    let s = c.before.before.before in
-    let g = s.before.before in
-    c.line_of-then-r-text.ensures ∙ bad_end _ _ (good g.before.before) (first g) (s.if-r-count.false ∙ count g.before) (λ e. omega (arith, e, g.go_over-r.ensures.0.1))
+    c.line_of-then-r-text.ensures ∙ bad_end _ _ (good c.before.before.before.before.before.before.before) (first c.before.before.before.before.before) (c.if-r-count.false ∙ count c.before.before.before.before.before.before) (λ e. omega (arith, e, c.go_over-r.ensures.0.1))
 
 returns_4 : tie.Need-returns
 returns_4 c =
-    let s = c.before.before in
-    let g = s.before.before in
-    none_bad _ _ (good g.before.before) (first g) (s.if-r-count.false ∙ count g.before) (omega (arith, g.go_over-r.ensures.0.1))
+    none_bad _ _ (good c.before.before.before.before.before.before) (first c.before.before.before.before) (c.if-r-count.false ∙ count c.before.before.before.before.before) (omega (arith, c.go_over-r.ensures.0.1))
 
 pub first_bad_spec : {M : Type 1} → statement M
 first_bad_spec =

@@ -25,7 +25,7 @@ abbrev text : tie.At-loop-i invariant_loop decreases_loop → List ℕ
 text c = c.args.text.now
 
 good : (c : tie.After-is_field invariant_loop decreases_loop) → c.is_field.result ≡ good_field (text c.before.before.before) c.loop-i.i
-good c = let h = c.before.before.before in good_at _ h.loop-i.i h.loop-i.invariant.2 c.mark.ensures c.is_field.ensures
+good c = good_at _ c.loop-i.i c.loop-i.invariant.2 c.mark.ensures c.is_field.ensures
 
 loop_holds : tie.Need-loop-i-init invariant_loop decreases_loop
 unfolding place
@@ -40,8 +40,7 @@ is_field_requires c κs = search rules
 returns : tie.Need-returns-then-not-is_field invariant_loop decreases_loop
 unfolding first_bad_field
 returns c =
-    let h = c.before.before.before.before in
-    ((found_here (bad (text h)) h.loop-i.invariant.3 _ (omega arith) (ap not (sym (good c.before)) ∙ c.if-not-is_field.true-raw), h.loop-i.invariant.2), search rules)
+    ((found_here (bad (text c.before.before.before.before)) c.loop-i.invariant.3 _ (omega arith) (ap not (sym (good c.before)) ∙ c.if-not-is_field.true-raw), c.loop-i.invariant.2), search rules)
 
 next_requires : tie.Need-next-at-requires invariant_loop decreases_loop
 next_requires c κs = search rules
@@ -53,14 +52,12 @@ loop_less : tie.Need-loop-i-smaller invariant_loop decreases_loop
 loop_less c = search rules
 
 loop_again : tie.Need-loop-i-preserved invariant_loop decreases_loop
-loop_again c =
-    let f = c.before.before in
-    let h = f.before.before.before in (
-      search rules,
-      search rules,
-      place_next _ h.loop-i.i h.loop-i.invariant.2 c.next-at.ensures.0,
-      none_more (bad (text h)) h.loop-i.invariant.3 (ap not (sym (good f)) ∙ c.if-not-is_field.false-raw),
-    )
+loop_again c = (
+  search rules,
+  search rules,
+  place_next _ c.loop-i.i c.loop-i.invariant.2 c.next-at.ensures.0,
+  none_more (bad (text c.before.before.before.before.before)) c.loop-i.invariant.3 (ap not (sym (good c.before.before)) ∙ c.if-not-is_field.false-raw),
+)
 
 returns_2 : tie.Need-returns invariant_loop decreases_loop
 unfolding first_bad_field

@@ -11,5 +11,4 @@ returns-then-k-gt7 c = simp (← c.run-k.ensures.value, le-leb _ _ c.if-k-lt1.fa
 
 pub returns : goal.returns
 returns c =
-    let run = c.run-k in
-    simp (← run.ensures.0, le-leb _ _ c.if-k-lt1.false, le-leb _ _ c.if-k-gt7.false, ← c.byte.ensures)
+    simp (← c.run-k.ensures.value, le-leb _ _ c.if-k-lt1.false, le-leb _ _ c.if-k-gt7.false, ← c.byte.ensures)

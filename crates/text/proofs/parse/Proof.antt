@@ -48,8 +48,7 @@ returns_2 c = let m = c.the_m-m.ensures in
     (sym (parsed_short _ _ (form c.before.before) (omega arith)), refl)
 
 read_list_requires : tie.Need-read_list-requires
-read_list_requires c κs = let a = c.before.before in
-    omega (arith, a.the_m-m.ensures, head_bounds _ (form_head _ (form a.before)))
+read_list_requires c κs = omega (arith, c.the_m-m.ensures, head_bounds _ (form_head _ (form c.before.before.before)))
 
 the_n_requires : tie.Need-the_n-requires
 the_n_requires c κs = search rules
@@ -59,10 +58,8 @@ same_length c = search rules
 
 returns_3 : tie.Need-returns
 returns_3 c =
-    let filled = c.before.before.before in
-    let a = filled.before.before.before in
-    let m = a.the_m-m.ensures in
-    ((cc m) ∙ sym (parsed_mesh _ _ (form a.before) (omega arith)), rows _ _ _ _ m filled.read_list.ensures)
+    let m = c.the_m-m.ensures in
+    ((cc m) ∙ sym (parsed_mesh _ _ (form c.before.before.before.before.before.before.before) (omega arith)), rows _ _ _ _ m c.read_list.ensures)
 
 pub parse_spec : {M : Type 1} → statement M
 parse_spec =

@@ -50,15 +50,14 @@ loop_less c = search rules
 
 loop_again : tie.Need-loop-i-preserved invariant_loop decreases_loop
 loop_again c =
-    let h = c.before.before.before in
-    let t = h.args.text.now in
-    let i = h.loop-i.i in
+    let t = c.args.text.now in
+    let i = c.loop-i.i in
     let e : i + 2 + 1 ≡ i + 1 + 2 = omega arith in (
       search rules,
       search rules,
-      place_next t (i + 2) h.loop-i.invariant.2 c.next-at-in-loop-i.ensures.0 ∙ ap (place t) e,
-      simp length-set h.loop-i.invariant.3,
-      tab_set (the_number t) _ i (omega arith) h.loop-i.invariant.4 (c.number.ensures ∙ ap (number t) h.loop-i.invariant.2),
+      place_next t (i + 2) c.loop-i.invariant.2 c.next-at-in-loop-i.ensures.0 ∙ ap (place t) e,
+      simp length-set c.loop-i.invariant.3,
+      tab_set (the_number t) _ i (omega arith) c.loop-i.invariant.4 (c.number.ensures ∙ ap (number t) c.loop-i.invariant.2),
     )
 
 same_length : tie.Need-shape_of-list invariant_loop decreases_loop

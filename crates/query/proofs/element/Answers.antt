@@ -1,0 +1,18 @@
+-- `query::element` meets its contract.
+-- Assumes nothing.
+use Prim.Native.Nat.{ℕ}
+use Rattle.admission.proofs.Admitted.{turned_away, admitted}
+use Rattle.rules.specs.Queries.{element_answer}
+use Rattle.rules.specs.Refusals.{gives}
+use mathlib.Core.Path.{ap, ◌∙◌}
+use Rattle.query.proofs.element.Goals as goal
+
+pub returns-then-refusal-gt0 : goal.returns-then-refusal-gt0
+unfolding element_answer
+returns-then-refusal-gt0 c = turned_away _ c.side_refusal-refusal.ensures _ c.if-refusal-gt0.true c.refuse.ensures
+
+pub returns : goal.returns
+unfolding element_answer
+returns c =
+    admitted _ c.side_refusal-refusal.ensures _ c.if-refusal-gt0.false
+    (c.give.ensures ∙ ap (λ (i : ℕ). gives i 0) c.element_of.ensures)
