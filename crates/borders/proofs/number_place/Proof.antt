@@ -16,63 +16,53 @@ counts s =
     let f = few m s inside in
     let r = room m s inside in (f.0, f.1, omega arith)
 
-abbrev begun : tie.After-slice-known2 → tie.Start
-begun c = c.before.before.before
-
-abbrev coded : tie.After-code-at → tie.Start
-coded c = begun c.before.before
-
 -- the side at p, which is its own sibling
-side : (c : tie.Else2) → let a = (coded c.before).args in Side a.list.now (side_at a.p)
-side c = let (m, (inside, s)) = (coded c.before).requires in side_here m s inside c.before.before.if1.false
+side : (c : tie.Else-sibling-code_at) → let a = c.args in Side a.list.now (side_at a.p)
+side c = let (m, (inside, s)) = c.requires in side_here m s inside c.if-sibling-eq0.false
 
-own : (c : tie.Else2) → let a = (coded c.before).args in at a.work.now (a.n + a.p) ≡ side_at a.p
-own c = c.if2.false ∙ c.before.code_at.ensures
+own : (c : tie.Else-sibling-code_at) → let a = c.args in at a.work.now (a.n + a.p) ≡ side_at a.p
+own c = c.if-sibling-code_at.false ∙ c.code_at.ensures
 
-add_sibling : tie.Need-overflow-add-sibling
+add_sibling : tie.Need-overflow_add-sibling
 add_sibling c = search rules
 
-mul_sibling : tie.Need-overflow-mul-sibling
+mul_sibling : tie.Need-offset_bounds-work-n
 mul_sibling c = search rules
 
-slice_read_sibling : tie.Need-slice-read-sibling
+slice_read_sibling : tie.Need-bounds-work-n
 slice_read_sibling c = search rules
 
-returns : tie.Need-returns
-returns c = let (m, (inside, s)) = (begun c.before).requires in none_on m s inside c.if1.true
+returns : tie.Need-returns-then-sibling-eq0
+returns c = let (m, (inside, s)) = c.requires in none_on m s inside c.if-sibling-eq0.true
 
-add_c : tie.Need-overflow-add-c
-add_c c = omega (arith, counts (begun c.before))
+add_c : tie.Need-overflow_add-c
+add_c c = omega (arith, counts c.before.before.before.before)
 
-code_at_requires : tie.Need-code-at-requires
+code_at_requires : tie.Need-code_at-requires
 code_at_requires c κs = search rules
 
-returns_2 : tie.Need-returns-2
+returns_2 : tie.Need-returns-then-sibling-code_at
 returns_2 c =
-    let (m, (inside, s)) = (coded c.before).requires in
-    paired_on m s inside c.before.before.if1.false (λ e. c.if2.true (e ∙ sym c.before.code_at.ensures))
+    let (m, (inside, s)) = c.requires in
+    paired_on m s inside c.if-sibling-eq0.false (λ e. c.if-sibling-code_at.true (e ∙ sym c.code_at.ensures))
 
-add_b : tie.Need-overflow-add-b
-add_b c = omega (arith, counts (coded c.before))
+add_b : tie.Need-overflow_add-b
+add_b c = omega (arith, counts c.before.before.before.before.before.before)
 
-put_border_requires : tie.Need-put-border-requires
+put_border_requires : tie.Need-put_border-requires
 put_border_requires c κs =
-    let lone = c.before in
-    let p = coded lone.before in
-    let (m, (inside, s)) = p.pre in
+    let (m, (inside, s)) = c.requires in
     let r = room m s inside in
-    let f = ends_fit m s inside (side lone) (own lone) in
-    ((inside, (omega arith), omega (arith, counts p), r.0, r.1), (side lone, f.0, f.1))
+    let f = ends_fit m s inside (side c.before) (own c.before) in
+    ((inside, (omega arith), omega (arith, counts c.before.before.before.before.before.before.before), r.0, r.1), (side c.before, f.0, f.1))
 
-same_length : tie.Need-same-length
+same_length : tie.Need-shape_of-work
 same_length c = search rules
 
-returns_3 : tie.Need-returns-3
+returns_3 : tie.Need-returns
 returns_3 c =
-    let done = c.before.before in
-    let lone = done.before.before in
-    let (m, (inside, s)) = (coded lone.before).requires in
-    border_on m s inside (side lone) (own lone) done.put-border.ensures
+    let (m, (inside, s)) = c.requires in
+    border_on m s inside (side c.before.before.before.before) (own c.before.before.before.before) c.put_border.ensures
 
 pub number_place_spec : {M : Type 1} → statement M
 number_place_spec =

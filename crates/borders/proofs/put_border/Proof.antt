@@ -11,81 +11,69 @@ use Rattle.borders.proofs.Stepping.{put_length, put_read}
 use Rattle.borders.proofs.put_border.Statement.{statement}
 use Rattle.borders.proofs.put_border.Tie as tie
 
-abbrev begun : tie.After-code-at → tie.Start
-begun c = c.before.before.before
+border : (c : tie.After-border-border) → c.border-border.result.code ≡ 8 * c.args.b
+border c = c.border-border.ensures ∙ border_code_lem _ (omega arith) (omega arith)
 
-abbrev entered : tie.After-wide2 → tie.After-wide
-entered c = c.before.before.before
-
-abbrev coded : tie.After-wide2 → tie.After-border
-coded c = (entered c).before
-
-border : (c : tie.After-border) → c.border.result.code ≡ 8 * (begun c.before).args.b
-border c = c.border.ensures ∙ border_code_lem _ (omega arith) (omega arith)
-
-ends : (c : tie.After-wide2) → let a = (begun (coded c).before).args in c.wide2.result ≡ destination a.list.now (side_at a.p)
+ends : (c : tie.After-wide-2) → let a = c.args in c.wide-2.result ≡ destination a.list.now (side_at a.p)
 ends c =
-    c.wide2.ensures
-    ∙ c.before.destination-of.ensures
-    ∙ ap (destination _) (coded c).before.code_at.ensures
+    c.wide-2.ensures
+    ∙ c.destination_of.ensures
+    ∙ ap (destination _) c.code_at-s.ensures
 
-code_at_requires : tie.Need-code-at-requires
+code_at_requires : tie.Need-code_at-s-requires
 code_at_requires c κs = search rules
 
-border_requires : tie.Need-border-requires
+border_requires : tie.Need-border-border-requires
 border_requires c κs = search rules
 
-add_work : tie.Need-overflow-add-work
+add_work : tie.Need-overflow_add-work
 add_work c = search rules
 
-mul_work : tie.Need-overflow-mul-work
+mul_work : tie.Need-offset_bounds-work-n
 mul_work c = search rules
 
-slice_write_work : tie.Need-slice-write-work
+slice_write_work : tie.Need-bounds-work-n
 slice_write_work c = search rules
 
-add_work_2 : tie.Need-overflow-add-work-2
+add_work_2 : tie.Need-overflow_add-work-2
 add_work_2 c = search rules
 
 wide_requires : tie.Need-wide-requires
 wide_requires c κs = search rules
 
-add_work_3 : tie.Need-overflow-add-work-3
+add_work_3 : tie.Need-overflow_add-work-3
 add_work_3 c = search rules
 
-sub_work : tie.Need-overflow-sub-work
+sub_work : tie.Need-overflow_sub-work
 sub_work c = search rules
 
-mul_work_2 : tie.Need-overflow-mul-work-2
+mul_work_2 : tie.Need-offset_bounds-work-n-2
 mul_work_2 c = search rules
 
-slice_write_work_2 : tie.Need-slice-write-work-2
+slice_write_work_2 : tie.Need-bounds-work-n-2
 slice_write_work_2 c = simp length-set (omega (arith, c.wide.ensures))
 
-destination_of_requires : tie.Need-destination-of-requires
+destination_of_requires : tie.Need-destination_of-requires
 destination_of_requires c κs =
-    let read = c.before.before.before in rw read.code_at.ensures (begun read).requires.1.0
+    rw c.code_at-s.ensures c.requires.1.0
 
 wide_requires_2 : tie.Need-wide-requires-2
 wide_requires_2 c κs = search rules
 
-sub_put_vertex : tie.Need-overflow-sub-put-vertex
+sub_put_vertex : tie.Need-overflow_sub-wide
 sub_put_vertex c = omega (arith, ends c)
 
-put_vertex_requires : tie.Need-put-vertex-requires
+put_vertex_requires : tie.Need-put_vertex-requires
 put_vertex_requires c κs = simp length-set (omega (arith, ends c))
 
-same_length : tie.Need-same-length
-same_length c = put_length c.before.before.put-vertex.ensures ∙ simp length-set
+same_length : tie.Need-shape_of-work
+same_length c = put_length c.put_vertex.ensures ∙ simp length-set
 
 returns : tie.Need-returns
 returns c =
-    let done = c.before.before in
-    let found = done.before in
-    let read = (coded found).before in
-    let a = (begun read).args in
-    put_read a.n a.list.now a.work.now a.p a.b (border (coded found)) (entered found).wide.ensures
-    read.code_at.ensures (ends found) done.put-vertex.ensures
+    let a = c.args in
+    put_read a.n a.list.now a.work.now a.p a.b (border c.before.before.before.before.before.before.before) c.wide.ensures
+    c.code_at-s.ensures (ends c.before.before.before) c.put_vertex.ensures
 
 pub put_border_spec : {M : Type 1} → statement M
 put_border_spec =

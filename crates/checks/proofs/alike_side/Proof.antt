@@ -12,52 +12,43 @@ use Rattle.checks.specs.Maps.{alike_found, alike_later, alike_nowhere, NotAlike,
 use Rattle.checks.proofs.alike_side.Statement.{statement}
 use Rattle.checks.proofs.alike_side.Tie as tie
 
-abbrev invariant_loop : tie.invariant-loop
+abbrev invariant_loop : tie.invariant-loop-p
 invariant_loop n list work p₀ p = NotAlike list p × (p ≤ length list)
 
-abbrev decreases_loop : tie.decreases-loop
+abbrev decreases_loop : tie.decreases-loop-p
 decreases_loop n list work p₀ p = length list - p
-
-abbrev begun : tie.At-loop invariant_loop decreases_loop → tie.Start invariant_loop decreases_loop
-begun c = c.before.before.before
 
 two : (c : tie.Start invariant_loop decreases_loop) (s : ℕ) → Side c.args.list.now s → sibling c.args.list.now (sibling c.args.list.now s) ≡ s
 two c = two_by_two c.args.n c.args.list.now c.requires.0.fit c.requires.1
 
-loop_holds : tie.Need-loop-init invariant_loop decreases_loop
+loop_holds : tie.Need-loop-p-init invariant_loop decreases_loop
 loop_holds c = ((λ s a h. absurd (omega arith)), omega arith)
 
-is_alike_requires : tie.Need-is-alike-requires invariant_loop decreases_loop
-is_alike_requires c κs = ((begun c.before).pre.0, omega arith)
+is_alike_requires : tie.Need-is_alike-requires invariant_loop decreases_loop
+is_alike_requires c κs = (c.requires.0, omega arith)
 
-code_at_requires : tie.Need-code-at-requires invariant_loop decreases_loop
+code_at_requires : tie.Need-code_at-requires invariant_loop decreases_loop
 code_at_requires c κs =
-    let turn = c.before.before.before in
-    let fit = (begun turn).requires.0.fit in omega (arith, fit.size, fit.fours)
+    let fit = c.requires.0.fit in omega (arith, fit.size, fit.fours)
 
-returns : tie.Need-returns invariant_loop decreases_loop
+returns : tie.Need-returns-then-is_alike invariant_loop decreases_loop
 returns c =
-    let asked = c.before.before in
-    let turn = asked.before.before in
-    let found = asked.is-alike.ensures.says (rw c.before.if1.true tt) in
-    c.code_at.ensures ∙ alike_found _ (two (begun turn)) turn.loop.p turn.loop.invariant.0 found
+    let found = c.is_alike.ensures.says (rw c.if-is_alike.true tt) in
+    c.code_at.ensures ∙ alike_found _ (two c.before.before.before.before.before.before.before) c.loop-p.p c.loop-p.invariant.0 found
 
-add_p : tie.Need-overflow-add-p invariant_loop decreases_loop
+add_p : tie.Need-overflow_add-p invariant_loop decreases_loop
 add_p c = search rules
 
-loop_less : tie.Need-loop-smaller invariant_loop decreases_loop
+loop_less : tie.Need-loop-p-smaller invariant_loop decreases_loop
 loop_less c = omega arith
 
-loop_again : tie.Need-loop-preserved invariant_loop decreases_loop
+loop_again : tie.Need-loop-p-preserved invariant_loop decreases_loop
 loop_again c =
-    let asked = c.before in
-    let turn = asked.before.before in
-    let is = asked.is-alike in
-    (alike_later _ (two (begun turn)) turn.loop.p turn.loop.invariant.0 (λ x. T_not is.result (rw c.if1.false tt) (is.ensures.shows x)), omega arith)
+    (alike_later _ (two c.before.before.before.before.before.before) c.loop-p.p c.loop-p.invariant.0 (λ x. T_not c.is_alike.result (rw c.if-is_alike.false tt) (c.is_alike.ensures.shows x)), omega arith)
 
-returns_2 : tie.Need-returns-2 invariant_loop decreases_loop
+returns_2 : tie.Need-returns invariant_loop decreases_loop
 returns_2 c =
-    let turn = c.before in alike_nowhere _ (two (begun turn)) turn.loop.p (omega arith) turn.loop.invariant.0
+    alike_nowhere _ (two c.before.before.before.before) c.loop-p.p (omega arith) c.loop-p.invariant.0
 
 pub alike_side_spec : {M : Type 1} → statement M
 alike_side_spec =

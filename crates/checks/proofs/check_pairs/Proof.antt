@@ -6,41 +6,34 @@ use Rattle.checks.specs.Pairs.{none_alike, crowded_refuses, alike_refuses}
 use Rattle.checks.proofs.check_pairs.Statement.{statement}
 use Rattle.checks.proofs.check_pairs.Tie as tie
 
-abbrev begun : tie.After-crowded-side → tie.Start
-begun c = c.before.before.before.before
-
-give_two_requires : tie.Need-give-two-requires
+give_two_requires : tie.Need-give_two-requires
 give_two_requires c κs = search rules
 
-returns : tie.Need-returns
+returns : tie.Need-returns-then-paired
 returns c =
-    let p = c.before.before.before.before.requires in
-    c.give-two.ensures ∙ sym (none_alike _ p.1 _ p.0.fit c.before.if1.true)
+    let p = c.requires in
+    c.give_two.ensures ∙ sym (none_alike _ p.1 _ p.0.fit c.if-paired.true)
 
-crowded_side_requires : tie.Need-crowded-side-requires
+crowded_side_requires : tie.Need-crowded_side-s-requires
 crowded_side_requires c κs = search rules
 
-refuse_side_requires : tie.Need-refuse-side-requires
+refuse_side_requires : tie.Need-refuse_side-requires
 refuse_side_requires c κs = search rules
 
-returns_2 : tie.Need-returns-2
+returns_2 : tie.Need-returns-then-s-ne0
 returns_2 c =
-    let found = c.before.before in
-    c.refuse-side.ensures ∙ sym (crowded_refuses _ (begun found).requires.1 found.crowded-side.ensures c.before.if2.true)
+    c.refuse_side.ensures ∙ sym (crowded_refuses _ c.requires.1 c.crowded_side-s.ensures c.if-s-ne0.true)
 
-alike_side_requires : tie.Need-alike-side-requires
-alike_side_requires c κs = let six = c.before in ((begun six).requires.0, sym six.crowded-side.ensures ∙ c.if2.false)
+alike_side_requires : tie.Need-alike_side-requires
+alike_side_requires c κs = (c.requires.0, sym c.crowded_side-s.ensures ∙ c.if-s-ne0.false)
 
-refuse_side_requires_2 : tie.Need-refuse-side-requires-2
+refuse_side_requires_2 : tie.Need-refuse_side-requires-2
 refuse_side_requires_2 c κs = search rules
 
-returns_3 : tie.Need-returns-3
+returns_3 : tie.Need-returns
 returns_3 c =
-    let found = c.before in
-    let six = found.before in
-    let was = six.before in
-    c.refuse-side2.ensures
-    ∙ sym (alike_refuses _ (begun was).requires.1 was.before.if1.false was.crowded-side.ensures six.if2.false found.alike-side.ensures)
+    c.refuse_side-2.ensures
+    ∙ sym (alike_refuses _ c.requires.1 c.if-paired.false c.crowded_side-s.ensures c.if-s-ne0.false c.alike_side.ensures)
 
 pub check_pairs_spec : {M : Type 1} → statement M
 check_pairs_spec =

@@ -10,49 +10,40 @@ use Rattle.checks.specs.Maps.{crowded_found, crowded_later, crowded_nowhere, Not
 use Rattle.checks.proofs.crowded_side.Statement.{statement}
 use Rattle.checks.proofs.crowded_side.Tie as tie
 
-abbrev invariant_loop : tie.invariant-loop
+abbrev invariant_loop : tie.invariant-loop-p
 invariant_loop n list work p₀ p = NotCrowded list p × (p ≤ length list)
 
-abbrev decreases_loop : tie.decreases-loop
+abbrev decreases_loop : tie.decreases-loop-p
 decreases_loop n list work p₀ p = length list - p
 
-abbrev begun : tie.At-loop invariant_loop decreases_loop → tie.Start invariant_loop decreases_loop
-begun c = c.before.before.before
-
-loop_holds : tie.Need-loop-init invariant_loop decreases_loop
+loop_holds : tie.Need-loop-p-init invariant_loop decreases_loop
 loop_holds c = ((λ s a h. absurd (omega arith)), omega arith)
 
-is_crowded_requires : tie.Need-is-crowded-requires invariant_loop decreases_loop
-is_crowded_requires c κs = ((begun c.before).pre, omega arith)
+is_crowded_requires : tie.Need-is_crowded-requires invariant_loop decreases_loop
+is_crowded_requires c κs = (c.requires, omega arith)
 
-code_at_requires : tie.Need-code-at-requires invariant_loop decreases_loop
+code_at_requires : tie.Need-code_at-requires invariant_loop decreases_loop
 code_at_requires c κs =
-    let turn = c.before.before.before in
-    let fit = (begun turn).requires.fit in omega (arith, fit.size, fit.fours)
+    let fit = c.requires.fit in omega (arith, fit.size, fit.fours)
 
-returns : tie.Need-returns invariant_loop decreases_loop
+returns : tie.Need-returns-then-is_crowded invariant_loop decreases_loop
 returns c =
-    let asked = c.before.before in
-    let turn = asked.before.before in
-    let found = asked.is-crowded.ensures.says (rw c.before.if1.true tt) in
-    c.code_at.ensures ∙ crowded_found _ _ (begun turn).requires.fit turn.loop.p turn.loop.invariant.0 found
+    let found = c.is_crowded.ensures.says (rw c.if-is_crowded.true tt) in
+    c.code_at.ensures ∙ crowded_found _ _ c.requires.fit c.loop-p.p c.loop-p.invariant.0 found
 
-add_p : tie.Need-overflow-add-p invariant_loop decreases_loop
+add_p : tie.Need-overflow_add-p invariant_loop decreases_loop
 add_p c = search rules
 
-loop_less : tie.Need-loop-smaller invariant_loop decreases_loop
+loop_less : tie.Need-loop-p-smaller invariant_loop decreases_loop
 loop_less c = omega arith
 
-loop_again : tie.Need-loop-preserved invariant_loop decreases_loop
+loop_again : tie.Need-loop-p-preserved invariant_loop decreases_loop
 loop_again c =
-    let asked = c.before in
-    let turn = asked.before.before in
-    let is = asked.is-crowded in
-    (crowded_later _ _ (begun turn).requires.fit turn.loop.p turn.loop.invariant.0 (λ x. T_not is.result (rw c.if1.false tt) (is.ensures.shows x)), omega arith)
+    (crowded_later _ _ c.requires.fit c.loop-p.p c.loop-p.invariant.0 (λ x. T_not c.is_crowded.result (rw c.if-is_crowded.false tt) (c.is_crowded.ensures.shows x)), omega arith)
 
-returns_2 : tie.Need-returns-2 invariant_loop decreases_loop
+returns_2 : tie.Need-returns invariant_loop decreases_loop
 returns_2 c =
-    let turn = c.before in crowded_nowhere _ _ (begun turn).requires.fit turn.loop.p (omega arith) turn.loop.invariant.0
+    crowded_nowhere _ _ c.requires.fit c.loop-p.p (omega arith) c.loop-p.invariant.0
 
 pub crowded_side_spec : {M : Type 1} → statement M
 crowded_side_spec =

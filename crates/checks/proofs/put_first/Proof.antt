@@ -9,44 +9,39 @@ use Rattle.checks.specs.Firsts.{firsts_skip, firsts_put, entry_vertex}
 use Rattle.checks.proofs.put_first.Statement.{statement}
 use Rattle.checks.proofs.put_first.Tie as tie
 
-abbrev begun : tie.Else1 → tie.Start
-begun c = c.before.before.before
-
-vertex : (c : tie.Else1) → let a = (begun c).args in (1 ≤ a.x) × (a.x ≤ a.n)
+vertex : (c : tie.Else-x-eq0) → let a = c.args in (1 ≤ a.x) × (a.x ≤ a.n)
 vertex c =
-    let (fit, room, inside, read, firsts) = (begun c).requires in entry_vertex _ _ fit _ _ inside read c.if1.false
+    let (fit, room, inside, read, firsts) = c.requires in entry_vertex _ _ fit _ _ inside read c.if-x-eq0.false
 
-returns : tie.Need-returns
+returns : tie.Need-returns-then-x-eq0
 returns c =
-    let p = c.before.before.before in
-    let (fit, room, inside, read, firsts) = p.requires in
-    (kept_itself _ _, firsts_skip _ _ p.args.work.now fit room _ inside firsts (sym read ∙ c.if1.true))
+    let (fit, room, inside, read, firsts) = c.requires in
+    (kept_itself _ _, firsts_skip _ _ c.args.work.now fit room _ inside firsts (sym read ∙ c.if-x-eq0.true))
 
-wide_requires : tie.Need-wide-requires
+wide_requires : tie.Need-wide-i-requires
 wide_requires c κs = search rules
 
-sub_i : tie.Need-overflow-sub-i
+sub_i : tie.Need-overflow_sub-i
 sub_i c = search rules
 
-code_at_requires : tie.Need-code-at-requires
+code_at_requires : tie.Need-code_at-requires
 code_at_requires c κs = search rules
 
-mul_work : tie.Need-overflow-mul-work
+mul_work : tie.Need-offset_bounds-work-i
 mul_work c = search rules
 
-slice_write_work : tie.Need-slice-write-work
-slice_write_work c = omega (arith, vertex c.before.before, c.before.wide.ensures, (begun c.before.before).requires.1)
+slice_write_work : tie.Need-bounds-work-i
+slice_write_work c = omega (arith, vertex c.before.before, c.wide-i.ensures, c.requires.1)
 
-same_length : tie.Need-same-length
+same_length : tie.Need-shape_of-work
 same_length c = search rules
 
-returns_2 : tie.Need-returns-2
+returns_2 : tie.Need-returns
 returns_2 c =
-    let some = c.before.before in
-    let (fit, room, inside, read, firsts) = (begun some).requires in
-    rw (c.before.wide.ensures, c.code_at.ensures) (
-      kept_set _ _ (kept_itself _ _) (omega (arith, vertex some)),
-      firsts_put _ _ (begun some).args.work.now fit room _ inside firsts _ read some.if1.false,
+    let (fit, room, inside, read, firsts) = c.requires in
+    rw (c.wide-i.ensures, c.code_at.ensures) (
+      kept_set _ _ (kept_itself _ _) (omega (arith, vertex c.before.before)),
+      firsts_put _ _ c.args.work.now fit room _ inside firsts _ read c.if-x-eq0.false,
     )
 
 pub put_first_spec : {M : Type 1} → statement M

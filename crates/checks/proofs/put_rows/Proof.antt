@@ -8,43 +8,39 @@ use Rattle.checks.proofs.Putting.{Sofar, begins, goes_on}
 use Rattle.checks.proofs.put_rows.Statement.{statement}
 use Rattle.checks.proofs.put_rows.Tie as tie
 
-abbrev invariant_loop : tie.invariant-loop
+abbrev invariant_loop : tie.invariant-loop-a
 invariant_loop n list work₀ a₀ work a = (a ≤ length list) × (a ≡ 4 * (a / 4)) × Sofar n list work₀ work a
 
-abbrev decreases_loop : tie.decreases-loop
+abbrev decreases_loop : tie.decreases-loop-a
 decreases_loop n list work₀ a₀ work a = a
 
-loop_holds : tie.Need-loop-init invariant_loop decreases_loop
-loop_holds c = let (fit, room, none) = c.before.before.requires in (omega arith, fit.fours, begins fit room none)
+loop_holds : tie.Need-loop-a-init invariant_loop decreases_loop
+loop_holds c = let (fit, room, none) = c.requires in (omega arith, fit.fours, begins fit room none)
 
-sub_a : tie.Need-overflow-sub-a invariant_loop decreases_loop
-sub_a c = omega (arith, c.before.loop.invariant.1)
+sub_a : tie.Need-overflow_sub-a invariant_loop decreases_loop
+sub_a c = omega (arith, c.loop-a.invariant.1)
 
-put_row_requires : tie.Need-put-row-requires invariant_loop decreases_loop
+put_row_requires : tie.Need-put_row-requires invariant_loop decreases_loop
 put_row_requires c κs =
-    let loop = c.before.before.loop in
+    let loop = c.loop-a in
     let (below, fours, sofar) = loop.invariant in
     let e : loop.a - 4 + 4 ≡ loop.a = omega arith in
     (sofar.fit, sofar.room, omega arith, rw e sofar.firsts)
 
-abbrev turn : tie.After-put-row invariant_loop decreases_loop → tie.At-loop invariant_loop decreases_loop
-turn c = c.before.before.before
+loop_less : tie.Need-loop-a-smaller invariant_loop decreases_loop
+loop_less c = omega (arith, c.loop-a.invariant.1)
 
-loop_less : tie.Need-loop-smaller invariant_loop decreases_loop
-loop_less c = omega (arith, (turn c.before.before).loop.inv.1)
-
-loop_again : tie.Need-loop-preserved invariant_loop decreases_loop
+loop_again : tie.Need-loop-a-preserved invariant_loop decreases_loop
 loop_again c =
-    let done = c.before.before in
-    let (below, fours, sofar) = (turn done).loop.invariant in
-    (omega arith, omega arith, goes_on sofar done.put-row.ensures)
+    let (below, fours, sofar) = c.loop-a.invariant in
+    (omega arith, omega arith, goes_on sofar c.put_row.ensures)
 
-same_length : tie.Need-same-length invariant_loop decreases_loop
-same_length c = c.before.loop.invariant.2.kept.long
+same_length : tie.Need-shape_of-work invariant_loop decreases_loop
+same_length c = c.loop-a.invariant.2.kept.long
 
 returns : tie.Need-returns invariant_loop decreases_loop
 returns c =
-    let loop = c.before.loop in
+    let loop = c.loop-a in
     let sofar = loop.invariant.2 in
     let e : loop.a ≡ 0 = omega arith in
     (sofar.kept, rw e at sofar.firsts)

@@ -79,7 +79,7 @@ mul_work : tie.Need-offset_bounds-work-p-in-loop-work invariant_loop decreases_l
 mul_work c = mul_x c.before
 
 slice_write_work : tie.Need-bounds-work-p-in-loop-work invariant_loop decreases_loop
-slice_write_work c = slice_read_x c
+slice_write_work c = below c.before.before.before.before.before c.wide-p.ensures
 
 loop_again : tie.Need-loop-work-preserved invariant_loop decreases_loop
 loop_again c M size o =

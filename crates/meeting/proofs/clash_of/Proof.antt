@@ -15,71 +15,62 @@ use Rattle.meeting.specs.Numbers.{Nobody, nobody_more, found_number, found_none}
 use Rattle.meeting.proofs.clash_of.Statement.{statement}
 use Rattle.meeting.proofs.clash_of.Tie as tie
 
-abbrev invariant_loop : tie.invariant-loop
+abbrev invariant_loop : tie.invariant-loop-g
 invariant_loop list f m g₀ g = Nobody (λ h. both (ltb f h) (not (meet_well list f h))) g × ((f ≤ g) × (g ≤ m))
 
-abbrev decreases_loop : tie.decreases-loop
+abbrev decreases_loop : tie.decreases-loop-g
 decreases_loop list f m g₀ g = m - g
 
-abbrev begun : tie.At-loop invariant_loop decreases_loop → tie.Start invariant_loop decreases_loop
-begun c = c.before.before
-
-abbrev is_it : tie.At-loop invariant_loop decreases_loop → ℕ → Bool
-is_it c = let a = (begun c).args in λ h. both (ltb a.f h) (not (meet_well a.list.now a.f h))
+abbrev is_it : tie.At-loop-g invariant_loop decreases_loop → ℕ → Bool
+is_it c = let a = c.args in λ h. both (ltb a.f h) (not (meet_well a.list.now a.f h))
 
 -- what the test said of g + 1
-said : (c : tie.After-meet-well invariant_loop decreases_loop) → is_it c.before.before (c.before.before.loop.g + 1) ≡ not c.meet-well.result
+said : (c : tie.After-meet_well invariant_loop decreases_loop) → is_it c.before.before (c.loop-g.g + 1) ≡ not c.meet_well.result
 said c =
-    let turn = c.before.before in
-    let a = (begun turn).args in
-    let h = turn.loop.invariant.1.0 in
-    rw (true_of (ltb a.f (turn.loop.g + 1)) ((means_lt a.f (turn.loop.g + 1)).shows (omega arith)), c.meet-well.ensures)
+    let a = c.args in
+    let h = c.loop-g.invariant.1.0 in
+    rw (true_of (ltb a.f (c.loop-g.g + 1)) ((means_lt a.f (c.loop-g.g + 1)).shows (omega arith)), c.meet_well.ensures)
 
-cast_m : tie.Need-overflow-cast-m invariant_loop decreases_loop
+cast_m : tie.Need-overflow_cast-m invariant_loop decreases_loop
 cast_m c = search rules
 
-loop_holds : tie.Need-loop-init invariant_loop decreases_loop
+loop_holds : tie.Need-loop-g-init invariant_loop decreases_loop
 loop_holds c =
-    let a = c.before.args in (
+    let a = c.args in (
       (λ j h l.
           not_T (both (ltb a.f j) (not (meet_well a.list.now a.f j)))
           (λ t. let (k, u) = passes (ltb a.f j) (not (meet_well a.list.now a.f j)) t in omega (arith, (means_lt a.f j).says k))),
-      (omega arith, c.before.requires.0.1),
+      (omega arith, c.requires.0.1),
     )
 
-add_g : tie.Need-overflow-add-g invariant_loop decreases_loop
+add_g : tie.Need-overflow_add-g invariant_loop decreases_loop
 add_g c = search rules
 
-meet_well_requires : tie.Need-meet-well-requires invariant_loop decreases_loop
+meet_well_requires : tie.Need-meet_well-requires invariant_loop decreases_loop
 meet_well_requires c κs =
-    let p = (begun c.before).pre in
-    let h = c.loop-test.true in (p.0, (omega arith, omega arith), p.1)
+    let p = c.requires in
+    let h = c.loop-g-test.true in (p.0, (omega arith, omega arith), p.1)
 
-returns : tie.Need-returns invariant_loop decreases_loop
+returns : tie.Need-returns-then-not-meet_well invariant_loop decreases_loop
 unfolding clash_of
 returns c =
-    let asked = c.before in
-    let turn = asked.before.before in
-    let h = asked.before.loop-test.true in
-    found_number (is_it turn) (elements (begun turn).args.list.now) turn.loop.g turn.loop.invariant.0 (omega arith) (said asked ∙ c.if1.true)
+    let h = c.loop-g-test.true in
+    found_number (is_it c.before.before.before) (elements c.args.list.now) c.loop-g.g c.loop-g.invariant.0 (omega arith) (said c.before ∙ c.if-not-meet_well.true-raw)
 
-loop_less : tie.Need-loop-smaller invariant_loop decreases_loop
-loop_less c = let h = c.before.before.loop-test.true in omega arith
+loop_less : tie.Need-loop-g-smaller invariant_loop decreases_loop
+loop_less c = let h = c.loop-g-test.true in omega arith
 
-loop_again : tie.Need-loop-preserved invariant_loop decreases_loop
+loop_again : tie.Need-loop-g-preserved invariant_loop decreases_loop
 loop_again c =
-    let asked = c.before in
-    let turn = asked.before.before in
-    let h = asked.before.loop-test.true in
-    let i = turn.loop.invariant.1 in
-    (nobody_more (is_it turn) turn.loop.g turn.loop.invariant.0 (said asked ∙ c.if1.false), (omega arith, omega arith))
+    let h = c.loop-g-test.true in
+    let i = c.loop-g.invariant.1 in
+    (nobody_more (is_it c.before.before.before) c.loop-g.g c.loop-g.invariant.0 (said c.before ∙ c.if-not-meet_well.false-raw), (omega arith, omega arith))
 
-returns_2 : tie.Need-returns-2 invariant_loop decreases_loop
+returns_2 : tie.Need-returns invariant_loop decreases_loop
 unfolding clash_of
 returns_2 c =
-    let turn = c.before in
-    let h = c.loop-test.false in
-    found_none (is_it turn) (elements (begun turn).args.list.now) turn.loop.g turn.loop.invariant.0 (omega arith)
+    let h = c.loop-g-test.false in
+    found_none (is_it c.before) (elements c.args.list.now) c.loop-g.g c.loop-g.invariant.0 (omega arith)
 
 pub clash_of_spec : {M : Type 1} → statement M
 clash_of_spec =

@@ -13,91 +13,79 @@ use Rattle.meeting.specs.Numbers.{Nobody, nobody_yet, nobody_more, found_some, f
 use Rattle.meeting.proofs.has_side.Statement.{statement}
 use Rattle.meeting.proofs.has_side.Tie as tie
 
-abbrev invariant_loop : tie.invariant-loop
+abbrev invariant_loop : tie.invariant-loop-j
 invariant_loop list g s k j₀ j = Nobody (λ i. joins list s (8 * g + i)) j × (j ≤ k)
 
-abbrev decreases_loop : tie.decreases-loop
+abbrev decreases_loop : tie.decreases-loop-j
 decreases_loop list g s k j₀ j = k - j
 
-abbrev begun : tie.After-side-count invariant_loop decreases_loop → tie.Start invariant_loop decreases_loop
-begun c = c.before.before.before
+abbrev is_it : tie.After-side_count-k invariant_loop decreases_loop → ℕ → Bool
+is_it c = let a = c.args in λ i. joins a.list.now a.s (8 * a.g + i)
 
-abbrev is_it : tie.After-side-count invariant_loop decreases_loop → ℕ → Bool
-is_it c = let a = (begun c).args in λ i. joins a.list.now a.s (8 * a.g + i)
+counted : (c : tie.After-side_count-k invariant_loop decreases_loop) → let a = c.args in c.side_count-k.result ≡ sides a.list.now a.g
+counted c = let a = c.args in sides_read a.list.now a.g c.row_at.ensures c.side_count-k.ensures
 
-counted : (c : tie.After-side-count invariant_loop decreases_loop) → let a = (begun c).args in c.side-count.result ≡ sides a.list.now a.g
-counted c = let a = (begun c).args in sides_read a.list.now a.g c.before.row_at.ensures c.side-count.ensures
-
-few_sides : (c : tie.After-side-count invariant_loop decreases_loop) → c.side-count.result ≤ 4
-few_sides c = let a = (begun c).args in omega (arith, counted c, few a.list.now a.g)
+few_sides : (c : tie.After-side_count-k invariant_loop decreases_loop) → c.side_count-k.result ≤ 4
+few_sides c = let a = c.args in omega (arith, counted c, few a.list.now a.g)
 
 -- side j + 1 of g
-its_side : (c : tie.After-side-code invariant_loop decreases_loop) → Side (begun c.before.before.before).args.list.now c.side-code.result
+its_side : (c : tie.After-side_code invariant_loop decreases_loop) → Side c.args.list.now c.side_code.result
 its_side c =
-    let turn = c.before in
-    let start = turn.before.before in
-    let a = (begun start).args in
-    let p = (begun start).requires.0 in
-    let h = turn.loop-test.true in
-    rw c.side-code.ensures
-    (at_corner a.list.now a.g (turn.before.loop.j + 1) p.0 p.1 (omega arith) (omega (arith, few_sides start)) (omega (arith, counted start))).is-side
+    let a = c.args in
+    let p = c.requires.0 in
+    let h = c.loop-j-test.true in
+    rw c.side_code.ensures
+    (at_corner a.list.now a.g (c.loop-j.j + 1) p.0 p.1 (omega arith) (omega (arith, few_sides c.before.before.before)) (omega (arith, counted c.before.before.before))).is_side_lem
 
 -- what the test said of it
-said : (c : tie.After-is-joined invariant_loop decreases_loop) →
-    let l = c.before.before.before.loop in c.is-joined.result ≡ is_it c.before.before.before.before (l.j + 1)
+said : (c : tie.After-is_joined invariant_loop decreases_loop) →
+    let l = c.loop-j in c.is_joined.result ≡ is_it c.before.before.before.before (l.j + 1)
 said c =
-    let a = (begun c.before.before.before.before).args in
-    c.is-joined.ensures ∙ ap (joins a.list.now a.s) c.before.side-code.ensures
+    let a = c.args in
+    c.is_joined.ensures ∙ ap (joins a.list.now a.s) c.side_code.ensures
 
-row_at_requires : tie.Need-row-at-requires invariant_loop decreases_loop
-row_at_requires c κs = omega (arith, c.before.requires.0.0, c.before.requires.0.1)
+row_at_requires : tie.Need-row_at-requires invariant_loop decreases_loop
+row_at_requires c κs = omega (arith, c.requires.0.0, c.requires.0.1)
 
-side_count_requires : tie.Need-side-count-requires invariant_loop decreases_loop
+side_count_requires : tie.Need-side_count-k-requires invariant_loop decreases_loop
 side_count_requires c κs = search rules
 
-loop_holds : tie.Need-loop-init invariant_loop decreases_loop
+loop_holds : tie.Need-loop-j-init invariant_loop decreases_loop
 loop_holds c = (nobody_yet (is_it c), omega arith)
 
-add_j : tie.Need-overflow-add-j invariant_loop decreases_loop
+add_j : tie.Need-overflow_add-j invariant_loop decreases_loop
 add_j c =
-    let h = c.loop-test.true in omega (arith, few_sides c.before.before)
+    let h = c.loop-j-test.true in omega (arith, few_sides c.before.before)
 
-side_code_requires : tie.Need-side-code-requires invariant_loop decreases_loop
+side_code_requires : tie.Need-side_code-requires invariant_loop decreases_loop
 side_code_requires c κs =
-    let h = c.loop-test.true in
-    let start = c.before.before in
-    (omega (arith, (begun start).requires.0.1, (begun start).requires.2), omega (arith, few_sides start))
+    let h = c.loop-j-test.true in
+    (omega (arith, c.requires.0.1, c.requires.2), omega (arith, few_sides c.before.before))
 
-is_joined_requires : tie.Need-is-joined-requires invariant_loop decreases_loop
-is_joined_requires c κs = ((begun c.before.before.before).pre.1, its_side c)
+is_joined_requires : tie.Need-is_joined-requires invariant_loop decreases_loop
+is_joined_requires c κs = (c.requires.1, its_side c)
 
-returns : tie.Need-returns invariant_loop decreases_loop
+returns : tie.Need-returns-then-is_joined invariant_loop decreases_loop
 returns c =
-    let asked = c.before in
-    let turn = asked.before.before in
-    let l = turn.before.loop in
-    let start = turn.before.before in
-    let h = turn.loop-test.true in
-    found_some (is_it start) (sides (begun start).args.list.now (begun start).args.g) l.j l.invariant.0 (omega (arith, counted start))
-    (sym (said asked) ∙ c.if1.true)
+    let l = c.loop-j in
+    let h = c.loop-j-test.true in
+    found_some (is_it c.before.before.before.before.before) (sides c.args.list.now c.args.g) l.j l.invariant.0 (omega (arith, counted c.before.before.before.before.before))
+    (sym (said c.before) ∙ c.if-is_joined.true)
 
-loop_less : tie.Need-loop-smaller invariant_loop decreases_loop
-loop_less c = let h = c.before.before.before.loop-test.true in omega arith
+loop_less : tie.Need-loop-j-smaller invariant_loop decreases_loop
+loop_less c = let h = c.loop-j-test.true in omega arith
 
-loop_again : tie.Need-loop-preserved invariant_loop decreases_loop
+loop_again : tie.Need-loop-j-preserved invariant_loop decreases_loop
 loop_again c =
-    let asked = c.before in
-    let turn = asked.before.before in
-    let l = turn.before.loop in
-    let h = turn.loop-test.true in
-    (nobody_more (is_it turn.before.before) l.j l.invariant.0 (sym (said asked) ∙ c.if1.false), omega arith)
+    let l = c.loop-j in
+    let h = c.loop-j-test.true in
+    (nobody_more (is_it c.before.before.before.before.before) l.j l.invariant.0 (sym (said c.before) ∙ c.if-is_joined.false), omega arith)
 
-returns_2 : tie.Need-returns-2 invariant_loop decreases_loop
+returns_2 : tie.Need-returns invariant_loop decreases_loop
 returns_2 c =
-    let turn = c.before in
-    let a = (begun turn.before).args in
-    let h = c.loop-test.false in
-    found_nobody (is_it turn.before) (sides a.list.now a.g) turn.loop.j turn.loop.invariant.0 (omega (arith, counted turn.before))
+    let a = c.args in
+    let h = c.loop-j-test.false in
+    found_nobody (is_it c.before.before) (sides a.list.now a.g) c.loop-j.j c.loop-j.invariant.0 (omega (arith, counted c.before.before))
 
 pub has_side_spec : {M : Type 1} → statement M
 has_side_spec =

@@ -13,69 +13,54 @@ use Rattle.off.specs.Writing.{At, face_fit, at_next, rows_more}
 use Rattle.off.proofs.put_rows.Statement.{statement}
 use Rattle.off.proofs.put_rows.Tie as tie
 
-abbrev invariant_loop : tie.invariant-loop
+abbrev invariant_loop : tie.invariant-loop-f
 invariant_loop text list₀ p m at₀ f₀ list at f =
     (f ≤ m) × (length list ≡ length list₀) × (list ≡ tab (4 * f) (corner_entry (items text)) ++ drop (4 * f) list₀) × At text f at
 
-abbrev decreases_loop : tie.decreases-loop
+abbrev decreases_loop : tie.decreases-loop-f
 decreases_loop text list₀ p m at₀ f₀ list at f = m - f
 
-abbrev begun : tie.At-loop invariant_loop decreases_loop → tie.Start invariant_loop decreases_loop
-begun c = c.before.before.before
-
-abbrev read : tie.After-put-four invariant_loop decreases_loop → tie.After-read-row invariant_loop decreases_loop
-read c = c.before.before.before
-
-abbrev looped : tie.After-read-row invariant_loop decreases_loop → tie.At-loop invariant_loop decreases_loop
-looped c = c.before.before
-
 -- a face more to write
-more : (c : tie.In-loop invariant_loop decreases_loop) → c.before.loop.f < the_m (items (begun c.before).args.text.now)
-more c = let (sound, count, room, first) = (begun c.before).pre in omega arith
+more : (c : tie.In-loop-f invariant_loop decreases_loop) → c.loop-f.f < the_m (items c.args.text.now)
+more c = let (sound, count, room, first) = c.requires in omega arith
 
-loop_holds : tie.Need-loop-init invariant_loop decreases_loop
+loop_holds : tie.Need-loop-f-init invariant_loop decreases_loop
 unfolding tab
-loop_holds c = (search rules, refl, refl, c.before.before.requires.3)
+loop_holds c = (search rules, refl, refl, c.requires.3)
 
-read_row_requires : tie.Need-read-row-requires invariant_loop decreases_loop
+read_row_requires : tie.Need-read_row-r-requires invariant_loop decreases_loop
 read_row_requires c κs =
-    let h = c.before in
-    let here = h.loop.invariant.3 in (here.inside, face_fit (begun h).requires.0 (more c) here)
+    let here = c.loop-f.invariant.3 in (here.inside, face_fit c.requires.0 (more c) here)
 
-mul_put_four : tie.Need-overflow-mul-put-four invariant_loop decreases_loop
-mul_put_four c = let (sound, count, room, first) = (begun (looped c.before.before)).pre in omega arith
+mul_put_four : tie.Need-overflow_mul-f invariant_loop decreases_loop
+mul_put_four c = let (sound, count, room, first) = c.requires in omega arith
 
-put_four_requires : tie.Need-put-four-requires invariant_loop decreases_loop
+put_four_requires : tie.Need-put_four-requires invariant_loop decreases_loop
 put_four_requires c κs =
-    let h = looped c.before.before in
-    let (sound, count, room, first) = (begun h).pre in omega (arith, h.loop.inv.1)
+    let (sound, count, room, first) = c.requires in omega (arith, c.loop-f.invariant.1)
 
-add_f : tie.Need-overflow-add-f invariant_loop decreases_loop
+add_f : tie.Need-overflow_add-f invariant_loop decreases_loop
 add_f c = search rules
 
-loop_less : tie.Need-loop-smaller invariant_loop decreases_loop
+loop_less : tie.Need-loop-f-smaller invariant_loop decreases_loop
 loop_less c = search rules
 
-loop_again : tie.Need-loop-preserved invariant_loop decreases_loop
+loop_again : tie.Need-loop-f-preserved invariant_loop decreases_loop
 loop_again c =
-    let put = c.before.before in
-    let r = read put in
-    let h = looped r in
-    let (sound, count, room, first) = (begun h).pre in
-    let here = h.loop.inv.3 in (
+    let (sound, count, room, first) = c.requires in
+    let here = c.loop-f.invariant.3 in (
       omega arith,
-      ap length put.put_four.ensures ∙ simp length-sets h.loop.inv.1,
-      rows_more sound (more r.before) here r.read-row.ensures _ (omega arith) h.loop.inv.2 put.put_four.ensures,
-      at_next sound (more r.before) here r.read-row.ensures,
+      ap length c.put_four.ensures ∙ simp length-sets c.loop-f.invariant.1,
+      rows_more sound (more c.before.before.before.before.before.before) here c.read_row-r.ensures _ (omega arith) c.loop-f.invariant.2 c.put_four.ensures,
+      at_next sound (more c.before.before.before.before.before.before) here c.read_row-r.ensures,
     )
 
-same_length : tie.Need-same-length invariant_loop decreases_loop
-same_length c = c.before.loop.invariant.1
+same_length : tie.Need-shape_of-list invariant_loop decreases_loop
+same_length c = c.loop-f.invariant.1
 
 returns : tie.Need-returns invariant_loop decreases_loop
 returns c =
-    let h = c.before in
-    let q : h.loop.f ≡ (begun h).args.m = omega arith in rw q at h.loop.invariant.2
+    let q : c.loop-f.f ≡ c.args.m = omega arith in rw q at c.loop-f.invariant.2
 
 pub put_rows_spec : {M : Type 1} → statement M
 put_rows_spec =

@@ -76,7 +76,7 @@ same_length_2 c = search rules
 
 returns_2 : tie.Need-returns-then-out-wide
 returns_2 c =
-    let (is, long) = found c in
+    let (is, long) = found c.before.before.before.before in
     let room : length c.args.out.now < c.places-first.result + c.in-Value.size =
     omega (arith, c.if-out-wide.true, c.wide.ensures, ap length (kept c.before.before.before.before.before.before.before)) in
     subst (Lists _ _ _) (sym (kept c.before.before.before.before.before.before.before)) (short_listed _ _ _ is c.places-first.ensures long room c.refuse_at.ensures)
@@ -107,8 +107,8 @@ led_in c =
 
 returns_4 : tie.Need-returns
 returns_4 c =
-    let (is, long) = found c in
-    let all = c.pass.ensures.1.0.written (sized c ∙ ap some (sym c.wide-3.ensures)) in
+    let (is, long) = found c.before.before.before.before.before.before.before.before.before.before.before.before.before.before.before in
+    let all = c.pass.ensures.1.0.written (sized c.before.before.before.before.before.before.before.before.before.before.before.before.before.before.before ∙ ap some (sym c.wide-3.ensures)) in
     all_listed _ _ _ is c.places-first.ensures long (inside c.before.before.before.before.before.before.before.before.before.before) c.give-2.ensures (wrote all (led_in c.before.before.before.before.before.before.before.before.before.before) c.wide-2.ensures is)
 
 give_requires : tie.Need-give-requires
@@ -120,7 +120,7 @@ same_length_3 c = search rules
 -- nothing is listed after it
 returns_3 : tie.Need-returns-then-size-eq0
 returns_3 c =
-    let (is, long) = found c in
+    let (is, long) = found c.before.before.before.before.before.before.before.before.before in
     all_listed _ _ _ is c.places-first.ensures long (inside c.before.before.before.before) c.give.ensures
     (led_in c.before.before.before.before ∙ sym (no_more _ c.places-first.result (list_of (whole c.before.before.before.before.before.before.before.before.before.before.before.before.before.before.before.before.before.before.before)) (long ∙ c.if-size-eq0.true)))
 

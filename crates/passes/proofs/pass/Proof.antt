@@ -63,7 +63,7 @@ put_requires c κs =
 
 add_count : tie.Need-overflow_add-count invariant_loop decreases_loop
 add_count c =
-    omega (arith, c.if-limit-count.false, c.fits.limit)
+    omega (arith, c.if-limit-count.false, c.ranges.limit.fits)
 
 loop_less : tie.Need-loop-x-smaller invariant_loop decreases_loop
 loop_less c = omega (arith, c.if-limit-count.false)

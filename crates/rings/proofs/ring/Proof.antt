@@ -10,65 +10,52 @@ use native.Mathlib.Omega.{arith}
 use Rattle.rings.proofs.ring.Statement.{statement}
 use Rattle.rings.proofs.ring.Tie as tie
 
--- the start side was read, and named
-abbrev started : tie.After-known-told → tie.After-start-side
-started c = c.before.before.before
-
-vertex_refusal_requires : tie.Need-vertex-refusal-requires
+vertex_refusal_requires : tie.Need-vertex_refusal-refusal-requires
 vertex_refusal_requires c κs = search rules
 
 refuse_requires : tie.Need-refuse-requires
 refuse_requires c κs = search rules
 
-returns : tie.Need-returns
+returns : tie.Need-returns-then-refusal-gt0
 unfolding ring_answer ring_leaves
 returns c =
-    list_refused _ c.before.before.vertex-refusal.ensures _ _ c.before.if1.true c.refuse.ensures
+    list_refused _ c.vertex_refusal-refusal.ensures _ _ c.if-refusal-gt0.true c.refuse.ensures
 
-start_side_requires : tie.Need-start-side-requires
-start_side_requires c κs = let x = c.before.vertex-refusal.ensures in (x.fit c.if1.false, x.found c.if1.false)
+start_side_requires : tie.Need-start_side-begun-requires
+start_side_requires c κs = let x = c.vertex_refusal-refusal.ensures in (x.fit c.if-refusal-gt0.false, x.found c.if-refusal-gt0.false)
 
-enum_known_begun : tie.Need-enum-known-begun
+enum_known_begun : tie.Need-enum_known-begun
 enum_known_begun c = search rules
 
-enum_told : tie.Need-enum-told
+enum_told : tie.Need-enum_told-1
 enum_told c = search rules
 
-refuse_requires_2 : tie.Need-refuse-requires-2
+refuse_requires_2 : tie.Need-refuse-requires-in_default
 refuse_requires_2 c κs = search rules
 
-returns_2 : tie.Need-returns-2
+returns_2 : tie.Need-returns-in_default
 unfolding ring_answer ring_leaves
 returns_2 c =
-    let told = c.before in
-    let lost = told.before.before in
-    let passed = lost.before in
-    list_broken _ passed.before.vertex-refusal.ensures _ _ passed.if1.false
-    (ring_none _ _ (broken_of lost.start-side.ensures told.enum_told.given.1)) c.refuse2.ensures
+    list_broken _ c.vertex_refusal-refusal.ensures _ _ c.if-refusal-gt0.false
+    (ring_none _ _ (broken_of c.start_side-begun.ensures c.in_default.is)) c.refuse-in_default.ensures
 
-cast_limit : tie.Need-overflow-cast-limit
+cast_limit : tie.Need-overflow_cast-limit
 cast_limit c =
-    let passed = (started c).before in
-    omega (arith, (passed.before.vertex-refusal.ensures.fit passed.if1.left).elements)
+    omega (arith, (c.vertex_refusal-refusal.ensures.fit c.if-refusal-gt0.false).elements)
 
-list_walk_requires : tie.Need-list-walk-requires
+list_walk_requires : tie.Need-list_walk-requires
 list_walk_requires c κs =
-    let known = c.before in
-    let passed = (started known).before in
-    let fit = passed.before.vertex-refusal.ensures.fit passed.if1.left in
-    ((fit, start_side_lem _ _ _ (value_of (started known).start-side.ensures known.before.begun.given.1)), omega (arith, fit.elements))
+    let fit = c.vertex_refusal-refusal.ensures.fit c.if-refusal-gt0.false in
+    ((fit, start_side_lem _ _ _ (value_of c.start_side-begun.ensures c.in-Value.is)), omega (arith, fit.elements))
 
-same_length : tie.Need-same-length
+same_length : tie.Need-shape_of-out
 same_length c = search rules
 
-returns_3 : tie.Need-returns-3
+returns_3 : tie.Need-returns
 unfolding ring_answer ring_leaves preceded
 returns_3 c =
-    let walked = c.before.before in
-    let known = walked.before.before in
-    let passed = (started known).before in
-    list_done _ passed.before.vertex-refusal.ensures _ _ _ passed.if1.left
-    (ring_walk _ _ _ (value_of (started known).start-side.ensures known.before.begun.given.1)) walked.list-walk.ensures
+    list_done _ c.vertex_refusal-refusal.ensures _ _ _ c.if-refusal-gt0.false
+    (ring_walk _ _ _ (value_of c.start_side-begun.ensures c.in-Value.is)) c.list_walk.ensures
 
 pub ring_spec : {M : Type 1} → statement M
 ring_spec =

@@ -6,50 +6,44 @@ use Rattle.sibling_map.specs.Mapping.{vertices_are, map_is}
 use Rattle.sibling_map.proofs.write.Statement.{statement}
 use Rattle.sibling_map.proofs.write.Tie as tie
 
-abbrev begun : tie.After-siblings → tie.Start
-begun c = c.before.before.before.before.before.before
-
 siblings_requires : tie.Need-siblings-requires
 siblings_requires c κs = search rules
 
-add_end : tie.Need-overflow-add-end
+add_end : tie.Need-overflow_add-end
 add_end c = search rules
 
-mul_copy : tie.Need-overflow-mul-copy
+mul_copy : tie.Need-offset_bounds-work-n
 mul_copy c = search rules
 
-sub_copy : tie.Need-overflow-sub-copy
+sub_copy : tie.Need-slice_bounds-copy-count
 sub_copy c = search rules
 
-part_copy_start : tie.Need-slice-bounds-copy-start
+part_copy_start : tie.Need-slice_bounds-copy-start
 part_copy_start c = search rules
 
-part_copy_end : tie.Need-slice-bounds-copy-end
+part_copy_end : tie.Need-slice_bounds-copy-end
 part_copy_end c = search rules
 
 copy_requires : tie.Need-copy-requires
 copy_requires c κs = search rules
 
-first_sides_requires : tie.Need-first-sides-requires
+first_sides_requires : tie.Need-first_sides-requires
 first_sides_requires c κs = search rules
 
-same_length : tie.Need-same-length
+same_length : tie.Need-shape_of-v2e
 same_length c = search rules
 
-same_length_2 : tie.Need-same-length-2
+same_length_2 : tie.Need-shape_of-sibhe
 same_length_2 c = search rules
 
-same_length_3 : tie.Need-same-length-3
+same_length_3 : tie.Need-shape_of-work
 same_length_3 c = search rules
 
 returns : tie.Need-returns
 returns c =
-    let firsts = c.before.before in
-    let copied = firsts.before.before.before.before in
-    let grouped = copied.before.before.before.before.before.before in
-    let done = grouped.siblings.ensures.0 in
-    let (fit, v2e, map, room) = (begun grouped).requires in (
-      (vertices_are fit v2e firsts.first-sides.ensures, map_is fit done (begun grouped).args.sibhe.now room map refl copied.copy.ensures),
+    let done = c.siblings.ensures.0 in
+    let (fit, v2e, map, room) = c.requires in (
+      (vertices_are fit v2e c.first_sides.ensures, map_is fit done c.args.sibhe.now room map refl c.copy.ensures),
       done.kept.long,
     )
 
