@@ -12,108 +12,83 @@ use borrow.Author.Rules.{rules}
 use Rattle.build.proofs.build_fit.Statement.{statement}
 use Rattle.build.proofs.build_fit.Tie as tie
 
-abbrev begun : tie.After-wide → tie.Start
-begun c = c.before.before.before.before.before.before
-
-abbrev tabled : tie.After-slice-known5 → tie.After-tabulate
-tabled c = c.before.before
-
-abbrev start : tie.After-tabulate → tie.Start
-start c = begun c.before.before
-
--- counts were told, and k is an index
-abbrev told : tie.After-wide2 → tie.After-t
-told c = c.before.before
-
-abbrev found : tie.After-wide2 → tie.After-tabulate
-found c = tabled (told c).before.before
-
-abbrev enough : tie.After-commit-arg4 → tie.Else1
-enough c = c.before.before.before.before
-
 known : (c : tie.Start) → let a = c.args in Checked a.n a.list.now a.v2e.now a.e2e.now a.work.now
 known c = c.requires.0
 
 -- the scratch buffer is back in front of the rest of the work
-scratch : (c : tie.After-tabulate) →
-    let a = (start c).args in
-    let end = c.before.before.wide.result + 12 * elements a.list.now in
-    Scratched a.n a.list.now (numbers c.tabulate.result) a.work.now (c.tabulate.new.1.1.0 ++ drop (end - 0) a.work.now)
-scratch c = scratched (roomy (known (start c))) c.before.before.wide.ensures c.tabulate.ensures
+scratch : (c : tie.After-tabulate-t) →
+    let a = c.args in
+    let end = c.wide-vertices.result + 12 * elements a.list.now in
+    Scratched a.n a.list.now (numbers c.tabulate-t.result) a.work.now (c.tabulate-t.new.work ++ drop (end - 0) a.work.now)
+scratch c = scratched (roomy (known c.before.before.before.before.before.before.before.before)) c.wide-vertices.ensures c.tabulate-t.ensures
 
-wide_requires : tie.Need-wide-requires
+wide_requires : tie.Need-wide-vertices-requires
 wide_requires c κs = search rules
 
-mul_end : tie.Need-overflow-mul-end
+mul_end : tie.Need-overflow_mul-end
 mul_end c = search rules
 
-add_end : tie.Need-overflow-add-end
+add_end : tie.Need-overflow_add-end
 add_end c = search rules
 
-sub_tabulate : tie.Need-overflow-sub-tabulate
+sub_tabulate : tie.Need-slice_bounds-tabulate-count
 sub_tabulate c = search rules
 
-part_tabulate_start : tie.Need-slice-bounds-tabulate-start
+part_tabulate_start : tie.Need-slice_bounds-tabulate-start
 part_tabulate_start c = search rules
 
-part_tabulate_end : tie.Need-slice-bounds-tabulate-end
-part_tabulate_end c = let h = front_fits (roomy (known (begun c))) c.wide.ensures in search rules
+part_tabulate_end : tie.Need-slice_bounds-tabulate-end
+part_tabulate_end c = let h = front_fits (roomy (known c.before.before.before.before.before.before)) c.wide-vertices.ensures in search rules
 
-tabulate_requires : tie.Need-tabulate-requires
-tabulate_requires c κs = front_sized (roomy (known (begun c.before))) c.before.wide.ensures
+tabulate_requires : tie.Need-tabulate-t-requires
+tabulate_requires c κs = front_sized (roomy (known c.before.before.before.before.before.before.before)) c.wide-vertices.ensures
 
-enum_known_t : tie.Need-enum-known-t
+enum_known_t : tie.Need-enum_known-t
 enum_known_t c = search rules
 
-enum_told : tie.Need-enum-told
+enum_told : tie.Need-enum_told-1
 enum_told c = search rules
 
-same_length : tie.Need-same-length
+same_length : tie.Need-shape_of-work-in_default
 same_length c = search rules
 
-returns : tie.Need-returns
-returns c = refused_on (scratch (tabled c.before.before)) (ap numbers c.enum_told.given.1)
+returns : tie.Need-returns-in_default
+returns c = refused_on (scratch c.before.before.before) (ap numbers c.in_default.is)
 
-wide_requires_2 : tie.Need-wide-requires-2
+wide_requires_2 : tie.Need-wide-k-requires
 wide_requires_2 c κs = search rules
 
-refuse_at_requires : tie.Need-refuse-at-requires
+refuse_at_requires : tie.Need-refuse_at-requires
 refuse_at_requires c κs = search rules
 
-same_length_2 : tie.Need-same-length-2
+same_length_2 : tie.Need-shape_of-work-then-b2e-k
 same_length_2 c = search rules
 
-returns_2 : tie.Need-returns-2
+returns_2 : tie.Need-returns-then-b2e-k
 returns_2 c =
-    let short = c.before.before in
-    short_on (scratch (found short)) (ap numbers (told short).t.given.1) short.wide2.ensures c.before.if1.true c.refuse-at.ensures
+    short_on (scratch c.before.before.before.before.before.before) (ap numbers c.in-Gives.is) c.wide-k.ensures c.if-b2e-k.true c.refuse_at.ensures
 
 commit_requires : tie.Need-commit-requires
 commit_requires c κs =
-    let room = enough c in
-    let k = room.before in
-    commits (known (start (found k))) (scratch (found k)) (ap numbers (told k).t.given.1) (found k).before.before.wide.ensures k.wide2.ensures
-    (start (found k)).args.b2e.now room.if1.left (start (found k)).requires.1
+    commits (known c.before.before.before.before.before.before.before.before.before.before.before.before.before.before.before.before) (scratch c.before.before.before.before.before.before.before.before) (ap numbers c.in-Gives.is) c.wide-vertices.ensures c.wide-k.ensures
+    c.args.b2e.now c.if-b2e-k.false c.requires.1
 
-same_length_3 : tie.Need-same-length-3
+same_length_3 : tie.Need-shape_of-v2e
 same_length_3 c = search rules
 
-same_length_4 : tie.Need-same-length-4
+same_length_4 : tie.Need-shape_of-e2e
 same_length_4 c = search rules
 
-same_length_5 : tie.Need-same-length-5
+same_length_5 : tie.Need-shape_of-b2e
 same_length_5 c = search rules
 
-same_length_6 : tie.Need-same-length-6
+same_length_6 : tie.Need-shape_of-work
 same_length_6 c = search rules
 
-returns_3 : tie.Need-returns-3
+returns_3 : tie.Need-returns
 returns_3 c =
-    let done = c.before.before.before.before.before.before in
-    let room = enough done.before in
-    let k = room.before in
-    counts_on (known (start (found k))) (scratch (found k)) (ap numbers (told k).t.given.1) (found k).before.before.wide.ensures k.wide2.ensures
-    (start (found k)).args.b2e.now room.if1.left (start (found k)).requires.1 done.commit.ensures
+    counts_on (known c.before.before.before.before.before.before.before.before.before.before.before.before.before.before.before.before.before.before.before.before.before.before.before) (scratch c.before.before.before.before.before.before.before.before.before.before.before.before.before.before.before) (ap numbers c.in-Gives.is) c.wide-vertices.ensures c.wide-k.ensures
+    c.args.b2e.now c.if-b2e-k.false c.requires.1 c.commit.ensures
 
 pub build_fit_spec : {M : Type 1} → statement M
 build_fit_spec =

@@ -8,36 +8,28 @@ use Rattle.tabulate.specs.Results.{rows_refuse, rows_fit_lem, pairs_on}
 use Rattle.tabulate.proofs.pair.Statement.{statement}
 use Rattle.tabulate.proofs.pair.Tie as tie
 
--- where the rows were checked, before they were found fit
-abbrev asked : tie.After-enum-told → tie.After-check-rows
-asked c = c.before.before
+check_rows_requires : tie.Need-check_rows-rows-requires
+check_rows_requires c κs = let (a, (b, d)) = (means_sizes _ _).says c.requires.sizes in (d, b)
 
-check_rows_requires : tie.Need-check-rows-requires
-check_rows_requires c κs = let (a, (b, d)) = (means_sizes _ _).says c.before.before.requires.sizes in (d, b)
-
-enum_told : tie.Need-enum-told
+enum_told : tie.Need-enum_told-1
 enum_told c = search rules
 
-enum_told_2 : tie.Need-enum-told-2
+enum_told_2 : tie.Need-enum_told-in_default
 enum_told_2 c = search rules
 
-returns : tie.Need-returns
-returns c = rows_refuse c.before.before.check-rows.ensures (ap numbers c.enum-told2.given.1)
+returns : tie.Need-returns-in_default
+returns c = rows_refuse c.check_rows-rows.ensures (ap numbers c.in_default.is)
 
-pair_fit_requires : tie.Need-pair-fit-requires
+pair_fit_requires : tie.Need-pair_fit-requires
 pair_fit_requires c κs =
-    let told = c.before in
-    let rows = asked told in
-    rows_fit_lem rows.check-rows.ensures (ap numbers told.enum_told.given.1) rows.before.before.before.pre
+    rows_fit_lem c.check_rows-rows.ensures (ap numbers c.in-Gives.is) c.requires
 
-same_length : tie.Need-same-length
+same_length : tie.Need-shape_of-work
 same_length c = search rules
 
-returns_2 : tie.Need-returns-2
+returns_2 : tie.Need-returns
 returns_2 c =
-    let done = c.before.before in
-    let told = done.before.before in
-    pairs_on (asked told).check-rows.ensures (ap numbers told.enum_told.given.1) done.pair-fit.ensures
+    pairs_on c.check_rows-rows.ensures (ap numbers c.in-Gives.is) c.pair_fit.ensures
 
 pub pair_spec : {M : Type 1} → statement M
 pair_spec =

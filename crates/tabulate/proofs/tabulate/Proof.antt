@@ -7,37 +7,31 @@ use Rattle.tabulate.specs.Results.{list_refuse, pairs_found, list_on}
 use Rattle.tabulate.proofs.tabulate.Statement.{statement}
 use Rattle.tabulate.proofs.tabulate.Tie as tie
 
-pair_requires : tie.Need-pair-requires
+pair_requires : tie.Need-pair-paired-requires
 pair_requires c κs = search rules
 
-enum_known_paired : tie.Need-enum-known-paired
+enum_known_paired : tie.Need-enum_known-paired
 enum_known_paired c = search rules
 
-enum_told : tie.Need-enum-told
+enum_told : tie.Need-enum_told-1
 enum_told c = search rules
 
-same_length : tie.Need-same-length
+same_length : tie.Need-shape_of-work-in_default
 same_length c = search rules
 
-returns : tie.Need-returns
-returns c = list_refuse c.before.before.before.before.pair.ensures (ap numbers c.enum_told.given.1)
+returns : tie.Need-returns-in_default
+returns c = list_refuse c.pair-paired.ensures (ap numbers c.in_default.is)
 
--- past checks 3 to 7
-abbrev asked : tie.After-known-told → tie.After-pair
-asked c = c.before.before.before.before.before
-
-tabulate_paired_requires : tie.Need-tabulate-paired-requires
+tabulate_paired_requires : tie.Need-tabulate_paired-requires
 tabulate_paired_requires c κs =
-    let told = c.before in pairs_found (asked told).pair.ensures (ap numbers told.before.paired.given.1)
+    pairs_found c.pair-paired.ensures (ap numbers c.in-Gives.is)
 
-same_length_2 : tie.Need-same-length-2
+same_length_2 : tie.Need-shape_of-work
 same_length_2 c = search rules
 
-returns_2 : tie.Need-returns-2
+returns_2 : tie.Need-returns
 returns_2 c =
-    let done = c.before.before in
-    let told = done.before.before in
-    list_on (asked told).pair.ensures (ap numbers told.before.paired.given.1) done.tabulate-paired.ensures
+    list_on c.pair-paired.ensures (ap numbers c.in-Gives.is) c.tabulate_paired.ensures
 
 pub tabulate_spec : {M : Type 1} → statement M
 tabulate_spec =

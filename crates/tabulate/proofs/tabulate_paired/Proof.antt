@@ -7,83 +7,62 @@ use Rattle.tabulate.specs.Results.{Tabled, standing, to_decide, not_ordered, ord
 use Rattle.tabulate.proofs.tabulate_paired.Statement.{statement}
 use Rattle.tabulate.proofs.tabulate_paired.Tie as tie
 
-abbrev begun : tie.After-number-borders-arg → tie.Start
-begun c = c.before.before.before.before
-
--- the tables stand
-abbrev start : tie.After-number-borders → tie.Start
-start c = begun c.before
-
-tables : (c : tie.After-number-borders) →
-    let k = c.number-borders.result in
-    let a = (start c).args in Tabled a.n c.before.before.wide.result k.borders k.sides a.list.now a.work.now c.number-borders.new.1.1.0
+tables : (c : tie.After-number_borders-counts) →
+    let k = c.number_borders-counts.result in
+    let a = c.args in Tabled a.n c.wide-vertices.result k.borders k.sides a.list.now a.work.now c.number_borders-counts.new.work
 tables c =
-    record { ready = (start c).requires.0; index = c.before.before.wide.ensures; numbered = c.number-borders.ensures }
+    record { ready = c.requires.0; index = c.wide-vertices.ensures; numbered = c.number_borders-counts.ensures }
 
-abbrev tabled : tie.After-is-ordered → tie.After-number-borders
-tabled c = c.before.before.before.before
-
-wide_requires : tie.Need-wide-requires
+wide_requires : tie.Need-wide-vertices-requires
 wide_requires c κs = search rules
 
-number_borders_requires : tie.Need-number-borders-requires
-number_borders_requires c κs = rw c.before.wide.ensures (begun c).requires.0
+number_borders_requires : tie.Need-number_borders-counts-requires
+number_borders_requires c κs = rw c.wide-vertices.ensures c.requires.0
 
-is_ordered_requires : tie.Need-is-ordered-requires
-is_ordered_requires c κs = to_decide (tables c.before.before.before)
+is_ordered_requires : tie.Need-is_ordered-requires
+is_ordered_requires c κs = to_decide (tables c.before.before)
 
 unordered_requires : tie.Need-unordered-requires
-unordered_requires c κs = standing (tables (tabled c.before.before))
+unordered_requires c κs = standing (tables c.before.before.before.before.before)
 
-refuse_at_requires : tie.Need-refuse-at-requires
+refuse_at_requires : tie.Need-refuse_at-requires
 refuse_at_requires c κs = search rules
 
-same_length : tie.Need-same-length
+same_length : tie.Need-shape_of-work-then-not-is_ordered
 same_length c = search rules
 
-returns : tie.Need-returns
+returns : tie.Need-returns-then-not-is_ordered
 returns c =
-    let found = c.before.before.before in
-    let one = found.before.before in
-    let t = tabled one.before in
-    refuses_8 (tables t) (not_ordered (tables t) one.before.is-ordered.ensures (not-true _ one.if1.true)) found.unordered.ensures.0
-    found.unordered.ensures.1 c.refuse-at.ensures
+    refuses_8 (tables c.before.before.before.before.before.before.before.before.before) (not_ordered (tables c.before.before.before.before.before.before.before.before.before) c.is_ordered.ensures (not-true _ c.if-not-is_ordered.true-raw)) c.unordered.ensures.0
+    c.unordered.ensures.1 c.refuse_at.ensures
 
-clash_of_requires : tie.Need-clash-of-requires
+clash_of_requires : tie.Need-clash_of-requires
 clash_of_requires c κs =
-    let p = start (tabled c.before.before) in
-    (clashes p.args.list.now p.args.f p.pre.1 c.if2.true, p.pre.0.mapped.fit.size)
+    (clashes c.args.list.now c.args.f c.requires.1 c.if-f-ne0.true, c.requires.0.mapped.fit.size)
 
-refuse_at_requires_2 : tie.Need-refuse-at-requires-2
+refuse_at_requires_2 : tie.Need-refuse_at-requires-then-f-ne0
 refuse_at_requires_2 c κs = search rules
 
-same_length_2 : tie.Need-same-length-2
+same_length_2 : tie.Need-shape_of-work-then-f-ne0
 same_length_2 c = search rules
 
-returns_2 : tie.Need-returns-2
+returns_2 : tie.Need-returns-then-f-ne0
 returns_2 c =
-    let asked = c.before in
-    let two = asked.before in
-    let one = two.before in
-    let t = tabled one.before in
-    refuses_18 (tables t) (ordered (tables t) one.before.is-ordered.ensures (not-false _ one.if1.false)) (start t).pre.1 two.if2.true asked.clash-of.ensures
-    c.refuse-at2.ensures
+    refuses_18 (tables c.before.before.before.before.before.before.before) (ordered (tables c.before.before.before.before.before.before.before) c.is_ordered.ensures (not-false _ c.if-not-is_ordered.false-raw)) c.requires.1 c.if-f-ne0.true c.clash_of.ensures
+    c.refuse_at-then-f-ne0.ensures
 
-add_give_two : tie.Need-overflow-add-give-two
-add_give_two c = omega (arith, few (tables (tabled c.before.before)))
+add_give_two : tie.Need-overflow_add-sides
+add_give_two c = omega (arith, few (tables c.before.before.before.before.before))
 
-give_two_requires : tie.Need-give-two-requires
+give_two_requires : tie.Need-give_two-requires
 give_two_requires c κs = search rules
 
-same_length_3 : tie.Need-same-length-3
+same_length_3 : tie.Need-shape_of-work
 same_length_3 c = search rules
 
-returns_3 : tie.Need-returns-3
+returns_3 : tie.Need-returns
 returns_3 c =
-    let two = c.before in
-    let one = two.before in
-    let t = tabled one.before in
-    gives_tables (tables t) (ordered (tables t) one.before.is-ordered.ensures (not-false _ one.if1.false)) (start t).pre.1 two.if2.false c.give-two.ensures
+    gives_tables (tables c.before.before.before.before.before.before) (ordered (tables c.before.before.before.before.before.before) c.is_ordered.ensures (not-false _ c.if-not-is_ordered.false-raw)) c.requires.1 c.if-f-ne0.false c.give_two.ensures
 
 pub tabulate_paired_spec : {M : Type 1} → statement M
 tabulate_paired_spec =
