@@ -1,4 +1,5 @@
-// The exported calls. Each answers in one 64-bit number: the refusal's number (0: an answer), and two numbers beside it.
+// The calls as hosts make them. Each answers in one 64-bit number: the refusal's number (0: an answer), and two numbers beside it. borzhanu_c exports
+// them to C.
 #![tactic(auto)]
 
 ghost use Rattle.std.specs.Prelude.{◌≡◌};
@@ -24,8 +25,7 @@ ghost use Rattle.borzhanu.specs.Walkers.{walker_in, entries_of};
 use walker::{Call, Walker};
 
 // V2e, E2e and the first k entries of B2e of an element list: k and the number of edges.
-#[unsafe(no_mangle)]
-pub extern "C" fn borzhanu_build(
+pub fn borzhanu_build(
     n: u32,
     elements: &[u32],
     v2e: &mut [u32],
@@ -40,16 +40,14 @@ pub extern "C" fn borzhanu_build(
 }
 
 // How many columns the E2e of an element list has, 3 or 4: what queries are told.
-#[unsafe(no_mangle)]
-pub extern "C" fn borzhanu_columns(n: u32, elements: &[u32]) -> u64
+pub fn borzhanu_columns(n: u32, elements: &[u32]) -> u64
     ensures { result ≡ packed_answer (columns_answer n elements.now) }
 {
     answer::pack(columns::columns(n, elements))
 }
 
 // The accepted element list of m rows that has exactly these tables.
-#[unsafe(no_mangle)]
-pub extern "C" fn borzhanu_recover(
+pub fn borzhanu_recover(
     n: u32,
     m: u32,
     v2e: &[u32],
@@ -65,8 +63,7 @@ pub extern "C" fn borzhanu_recover(
 }
 
 // The next side of the same two vertices for each side, and the least side of each vertex.
-#[unsafe(no_mangle)]
-pub extern "C" fn borzhanu_siblings(
+pub fn borzhanu_siblings(
     n: u32,
     elements: &[u32],
     v2e: &mut [u32],
@@ -80,8 +77,7 @@ pub extern "C" fn borzhanu_siblings(
 }
 
 // The diagonal of two triangles swapped, in the list and its tables: k and the number of edges. `size` holds n and m, which stay.
-#[unsafe(no_mangle)]
-pub extern "C" fn borzhanu_swap(
+pub fn borzhanu_swap(
     size: &mut [u32; 2],
     elements: &mut [u32],
     v2e: &mut [u32],
@@ -100,8 +96,7 @@ pub extern "C" fn borzhanu_swap(
 
 // A new vertex on a side, with its midpoint, in the list, its tables and the points: k and the number of edges. `size` holds n and m, and then
 // the new n and m.
-#[unsafe(no_mangle)]
-pub extern "C" fn borzhanu_split(
+pub fn borzhanu_split(
     size: &mut [u32; 2],
     elements: &mut [u32],
     v2e: &mut [u32],
@@ -120,8 +115,7 @@ pub extern "C" fn borzhanu_split(
 
 // An edge contracted and the gaps closed, in the list, its tables and the points: k and the number of edges. `size` holds n and m, and then the
 // new n and m.
-#[unsafe(no_mangle)]
-pub extern "C" fn borzhanu_contract(
+pub fn borzhanu_contract(
     size: &mut [u32; 2],
     elements: &mut [u32],
     v2e: &mut [u32],
@@ -139,16 +133,15 @@ pub extern "C" fn borzhanu_contract(
 }
 
 // The number of vertices less that of edges, and that of elements added: signed, in two's complement in bits 0 to 55.
-#[unsafe(no_mangle)]
-pub extern "C" fn borzhanu_shape(n: u32, elements: &[u32], work: &mut [u32]) -> u64
+pub fn borzhanu_shape(n: u32, elements: &[u32], work: &mut [u32]) -> u64
     ensures value { result ≡ packed_answer (shape_answer n elements.now work.old) }
     ensures work_after { work.new ≡ shape_work n elements.now work.old }
 {
     answer::pack(shape::shape(n, elements, work))
 }
 
-#[unsafe(no_mangle)]
-pub extern "C" fn borzhanu_read_off(text: &[u8], elements: &mut [u32]) -> u64
+// The faces of an OFF text as an element list: n and m.
+pub fn borzhanu_read_off(text: &[u8], elements: &mut [u32]) -> u64
     ensures value { result ≡ packed_answer (off_answer text.now elements.old) }
     ensures elements_after { elements.new ≡ off_leaves text.now elements.old }
 {
@@ -156,8 +149,7 @@ pub extern "C" fn borzhanu_read_off(text: &[u8], elements: &mut [u32]) -> u64
 }
 
 // The half-edge that runs along the same edge the other way.
-#[unsafe(no_mangle)]
-pub extern "C" fn borzhanu_opposite(
+pub fn borzhanu_opposite(
     n: u32,
     columns: u32,
     elements: &[u32],
@@ -173,8 +165,7 @@ pub extern "C" fn borzhanu_opposite(
 }
 
 // The half-edge after a half-edge, in its element or along the border.
-#[unsafe(no_mangle)]
-pub extern "C" fn borzhanu_next(
+pub fn borzhanu_next(
     n: u32,
     columns: u32,
     elements: &[u32],
@@ -190,8 +181,7 @@ pub extern "C" fn borzhanu_next(
 }
 
 // The side before a side, in its element.
-#[unsafe(no_mangle)]
-pub extern "C" fn borzhanu_previous(
+pub fn borzhanu_previous(
     n: u32,
     columns: u32,
     elements: &[u32],
@@ -207,8 +197,7 @@ pub extern "C" fn borzhanu_previous(
 }
 
 // The element of a side.
-#[unsafe(no_mangle)]
-pub extern "C" fn borzhanu_element(
+pub fn borzhanu_element(
     n: u32,
     columns: u32,
     elements: &[u32],
@@ -224,8 +213,7 @@ pub extern "C" fn borzhanu_element(
 }
 
 // The vertex where a half-edge begins.
-#[unsafe(no_mangle)]
-pub extern "C" fn borzhanu_origin(
+pub fn borzhanu_origin(
     n: u32,
     columns: u32,
     elements: &[u32],
@@ -241,8 +229,7 @@ pub extern "C" fn borzhanu_origin(
 }
 
 // The vertex where a half-edge ends.
-#[unsafe(no_mangle)]
-pub extern "C" fn borzhanu_destination(
+pub fn borzhanu_destination(
     n: u32,
     columns: u32,
     elements: &[u32],
@@ -258,8 +245,7 @@ pub extern "C" fn borzhanu_destination(
 }
 
 // The element on the other side of a side, or 0 at a border.
-#[unsafe(no_mangle)]
-pub extern "C" fn borzhanu_across(
+pub fn borzhanu_across(
     n: u32,
     columns: u32,
     elements: &[u32],
@@ -275,8 +261,7 @@ pub extern "C" fn borzhanu_across(
 }
 
 // 1 for a border half-edge, 0 for a side.
-#[unsafe(no_mangle)]
-pub extern "C" fn borzhanu_halfedge_is_border(
+pub fn borzhanu_halfedge_is_border(
     n: u32,
     columns: u32,
     elements: &[u32],
@@ -292,8 +277,7 @@ pub extern "C" fn borzhanu_halfedge_is_border(
 }
 
 // 1 for a vertex on a border, 0 for another.
-#[unsafe(no_mangle)]
-pub extern "C" fn borzhanu_vertex_is_border(
+pub fn borzhanu_vertex_is_border(
     n: u32,
     columns: u32,
     elements: &[u32],
@@ -309,8 +293,7 @@ pub extern "C" fn borzhanu_vertex_is_border(
 }
 
 // The elements about a vertex, in turn order.
-#[unsafe(no_mangle)]
-pub extern "C" fn borzhanu_ring(
+pub fn borzhanu_ring(
     n: u32,
     columns: u32,
     elements: &[u32],
@@ -328,8 +311,7 @@ pub extern "C" fn borzhanu_ring(
 }
 
 // The vertices joined to a vertex by an edge, in turn order.
-#[unsafe(no_mangle)]
-pub extern "C" fn borzhanu_neighbours(
+pub fn borzhanu_neighbours(
     n: u32,
     columns: u32,
     elements: &[u32],
@@ -347,8 +329,7 @@ pub extern "C" fn borzhanu_neighbours(
 }
 
 // The border numbers of one hole, from b on.
-#[unsafe(no_mangle)]
-pub extern "C" fn borzhanu_border_loop(
+pub fn borzhanu_border_loop(
     n: u32,
     columns: u32,
     elements: &[u32],
@@ -366,8 +347,7 @@ pub extern "C" fn borzhanu_border_loop(
 }
 
 // The hole of each border half-edge and the length of each hole: how many holes there are.
-#[unsafe(no_mangle)]
-pub extern "C" fn borzhanu_holes(
+pub fn borzhanu_holes(
     n: u32,
     columns: u32,
     elements: &[u32],
@@ -416,8 +396,7 @@ fn called(
 }
 
 // The walker, three numbers, is set to the start of the ring of v.
-#[unsafe(no_mangle)]
-pub extern "C" fn borzhanu_walker_start(
+pub fn borzhanu_walker_start(
     n: u32,
     columns: u32,
     elements: &[u32],
@@ -434,8 +413,7 @@ pub extern "C" fn borzhanu_walker_start(
 }
 
 // The walker's element, 0 after the ring's last; the walker moves on.
-#[unsafe(no_mangle)]
-pub extern "C" fn borzhanu_walker_step(
+pub fn borzhanu_walker_step(
     n: u32,
     columns: u32,
     elements: &[u32],
