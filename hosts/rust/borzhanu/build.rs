@@ -1,6 +1,6 @@
 //! Finds the kernel's archive, libborzhanu.a, and links it. BORZHANU_ARCHIVE names the archive or the folder that it is
-//! in, by a whole path; where it isn't set, the folder is target/staticlib of the repository, where `rt staticlib
-//! borzhanu` writes the archive.
+//! in, by a whole path; where it isn't set, the folder is target/staticlib of the repository, where `hosts/archive` puts
+//! the archive.
 
 use std::env;
 use std::path::{Path, PathBuf};
@@ -50,7 +50,7 @@ fn own_folder() -> Result<PathBuf, String> {
     }
     let repository = repository.canonicalize().unwrap_or(repository);
     Err(format!(
-        "there is no target/staticlib/{ARCHIVE}: run `rt staticlib borzhanu` in {}, \
+        "there is no target/staticlib/{ARCHIVE}: run `hosts/archive` in {}, \
          or name the folder of an archive in BORZHANU_ARCHIVE",
         repository.display()
     ))
