@@ -3,7 +3,7 @@
 
 ghost use Rattle.std.specs.Prelude.{◌≡◌, ◌⊎◌, ◌+◌, ◌*◌, ◌≤◌, length};
 ghost use Rattle.rules.specs.Elements.{max_vertex, max_element};
-ghost use Rattle.rules.specs.Tables.{columns as columnsIn};
+ghost use Rattle.rules.specs.Tables.{columns as columns_in};
 ghost use Rattle.rules.specs.Refusals.{build_answer, build_leaves};
 ghost use Rattle.answer.specs.Numbers.{numbers};
 ghost use Rattle.build.specs.Building.{Built, Checked, Copied, lent};
@@ -47,7 +47,7 @@ pub fn build_fit(
     b2e: &mut [u32],
     work: &mut [u32],
 ) -> Answer
-    requires { Checked n list.now v2e.old e2e.old work.old × (columns ≡ columnsIn list.now) }
+    requires { Checked n list.now v2e.old e2e.old work.old × (columns ≡ columns_in list.now) }
     ensures built { Built n list.now (numbers result) v2e.old e2e.old b2e.old v2e.new e2e.new b2e.new }
     ensures work_len_unchanged { length work.new ≡ length work.old }
 {

@@ -6,10 +6,10 @@ ghost use Rattle.lists.specs.Search.{tab};
 ghost use Rattle.lists.specs.Tests.{same};
 ghost use Rattle.rules.specs.Elements.{elements, side_at};
 ghost use Rattle.rules.specs.Tables.{entry_of};
-ghost use Rattle.rules.specs.Tables.{columns as columnsIn};
+ghost use Rattle.rules.specs.Tables.{columns as columns_in};
 ghost use Rattle.rules.specs.Recovery.{widened};
 ghost use Rattle.rules.specs.Queries.{columns_answer};
-ghost use Rattle.rules.specs.Queries.{seen as seenIn};
+ghost use Rattle.rules.specs.Queries.{seen as seen_in};
 ghost use Rattle.theory.specs.Columns.{narrowed};
 ghost use Rattle.answer.specs.Numbers.{numbers};
 
@@ -19,7 +19,7 @@ use lengths::sizes_fit;
 
 // 4 where an element has a fourth corner, else 3.
 pub fn columns_of(list: &[u32]) -> u32
-    ensures { result ≡ columnsIn list.now }
+    ensures { result ≡ columns_in list.now }
 {
     let mut p = 3;
     while p < list.len() {
@@ -33,7 +33,7 @@ pub fn columns_of(list: &[u32]) -> u32
 
 // The columns that a query goes by: told 0 it looks at the list, which takes the time of reading it.
 pub fn seen(told: u32, list: &[u32]) -> u32
-    ensures { result ≡ seenIn told list.now }
+    ensures { result ≡ seen_in told list.now }
 {
     if told == 0 {
         return columns_of(list);

@@ -3,7 +3,7 @@
 
 ghost use Rattle.std.specs.Prelude.{◌≡◌, [], ◌+◌, ◌*◌, ◌≤◌, length, take, get_or};
 ghost use Rattle.lists.specs.Search.{at};
-ghost use Rattle.rules.specs.Elements.{elements as elementsOf, Side, slot, origin, destination};
+ghost use Rattle.rules.specs.Elements.{elements as elements_of, Side, slot, origin, destination};
 ghost use Rattle.rules.specs.Tables.{wide as wide_of};
 ghost use Rattle.rules.specs.Refusals.{after};
 ghost use Rattle.edit_rules.specs.Edits.{over_old};
@@ -123,7 +123,7 @@ fn replace(
     t: u32,
     edge: Edge,
 ) -> Answer
-    requires contractible { Contractible n list.old s t × (m ≡ elementsOf list.old) × Ends list.old s edge.a edge.b edge.c edge.d }
+    requires contractible { Contractible n list.old s t × (m ≡ elements_of list.old) × Ends list.old s edge.a edge.b edge.c edge.d }
     requires roomy { Roomy n columns list.old v2e.old e2e.old × (n + 12 * m ≤ length work.old) }
     ensures tried { Tried n list.old s (numbers result) v2e.old e2e.old b2e.old v2e.new e2e.new b2e.new × Replaced n list.old s (numbers result) list.new }
     ensures work_len_unchanged { length work.new ≡ length work.old }
@@ -153,7 +153,7 @@ fn try_new(
     t: u32,
     edge: Edge,
 ) -> Answer
-    requires contractible { Contractible n list.old s t × (m ≡ elementsOf list.old) × Ends list.old s edge.a edge.b edge.c edge.d }
+    requires contractible { Contractible n list.old s t × (m ≡ elements_of list.old) × Ends list.old s edge.a edge.b edge.c edge.d }
     requires roomy { Roomy n columns list.old v2e.old e2e.old × (n + 16 * m ≤ length work.old) }
     ensures tried { Tried n list.old s (numbers result) v2e.old e2e.old b2e.old v2e.new e2e.new b2e.new × (list.new ≡ after (numbers result) (padded (length list.old) (contracted n list.old s)) list.old) }
     ensures work_len_unchanged { length work.new ≡ length work.old }

@@ -4,7 +4,7 @@
 ghost use Rattle.std.specs.Prelude.{◌≡◌, ◌*◌, ◌-◌, ◌%◌, ◌≤◌, length, take};
 ghost use Rattle.rules.specs.Elements.{elements, origin, destination};
 ghost use Rattle.edit_rules.specs.Contract.{without_row, without_both, without_edge, renamed, merged, is_used};
-ghost use Rattle.edit_rules.specs.Contract.{instead as insteadOf};
+ghost use Rattle.edit_rules.specs.Contract.{instead as instead_of};
 ghost use Rattle.theory.specs.Coarsening.{all_used};
 ghost use Rattle.gaps.specs.Closing.{fewer_by, ToClose};
 
@@ -61,7 +61,7 @@ fn without_edge(m: u32, list: &mut [u32], s: u32, t: u32)
 
 // The number c, or `new` where c is `old`.
 fn instead(old: u32, new: u32, c: u32) -> u32
-    ensures { result ≡ insteadOf old new c }
+    ensures { result ≡ instead_of old new c }
 {
     if c == old {
         return new;

@@ -2,7 +2,7 @@
 #![tactic(auto)]
 
 ghost use Rattle.std.specs.Prelude.{◌≡◌, ◌≤◌, leb, length};
-ghost use Rattle.rules.specs.Tables.{columns as columnsIn};
+ghost use Rattle.rules.specs.Tables.{columns as columns_in};
 ghost use Rattle.build.specs.Building.{lent};
 ghost use Rattle.print.specs.Lines.{Written, Counts, shown_if};
 ghost use Rattle.listed.specs.Listing.{mesh_lines, listing};
@@ -23,7 +23,7 @@ fn list_mesh(
     work: &mut [u32],
     out: &mut [u8],
 ) -> usize
-    requires fits { Fits n list.now (lent v2e.old e2e.old b2e.old work.old) × (columns ≡ columnsIn list.now) }
+    requires fits { Fits n list.now (lent v2e.old e2e.old b2e.old work.old) × (columns ≡ columns_in list.now) }
     requires in_bounds { 22_022 ≤ length out.old }
     ensures written { Written out.old 0 (mesh_lines n list.now) out.new result }
     ensures counts { Counts result out.new }

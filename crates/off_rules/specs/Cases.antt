@@ -1,16 +1,14 @@
 -- Texts, and what the rules make of them.
 -- Assumes nothing.
-use Rattle.std.specs.Prelude.{Bool, List, [], ◌∷◌, ◌++◌, ℕ, ◌*◌, T, replicate}
+use Rattle.std.specs.Prelude.{Bool, List, [], ◌∷◌, ◌++◌, ℕ, ◌*◌, replicate}
 use Prim.Native.String.{String}
 use Rattle.lists.specs.Tests.{both, same}
-use Rattle.lists.specs.Search.{least, tab}
+use Rattle.lists.specs.Search.{tab}
 use Rattle.print.specs.Cases.{bytes}
-use Rattle.digits.specs.Digits.{value}
-use Rattle.rules.specs.Elements.{first_number}
-use Rattle.rules.specs.Refusals.{Answer, gives, refused, check_found, after, onto}
+use Rattle.rules.specs.Refusals.{Answer, gives, refused, after}
 use Rattle.rules.specs.Cases.{tri, quad, same_answer, every}
-use Rattle.off_rules.specs.Off.{bare, closed, line_after, parted, items, item, is_off, first_from, is_whole, number_of, past_sign, past_fraction, is_decimal}
-use Rattle.off_rules.specs.Off.{the_n, the_m, face_item, is_good, bad_item, bad_line, unfit_face, row_entry, element_list, items_answer, off_answer, off_leaves}
+use Rattle.off_rules.specs.Off.{items, item}
+use Rattle.off_rules.specs.Off.{off_answer, off_leaves}
 
 pub data Case : Type 0 where
   -- a text that is read: its n, m and rows; a list of two entries more keeps them
@@ -72,9 +70,3 @@ cases =
     refuses "OFF 0 2 0 3 0 1 2 4 0 2 3 4" 7 (refused 13 8 0) ∷
     refuses "OFF 0 2 0 3 0 1 2 2 0 2" 7 (refused 17 2 0) ∷
     []
-
-pub cases_hold : T (every holds cases)
-unfolding bytes tri quad same_answer outcome holds every rows cases same least tab value first_number check_found after onto
-    bare closed line_after parted items item is_off first_from is_whole number_of past_sign past_fraction is_decimal the_n the_m face_item is_good bad_item
-    bad_line unfit_face row_entry element_list items_answer off_answer off_leaves
-cases_hold = tt

@@ -3,8 +3,8 @@
 
 ghost use Rattle.std.specs.Prelude.{◌≡◌, [], ◌∷◌, ◌+◌, ◌*◌, ◌≤◌, length};
 ghost use Rattle.edit_rules.specs.Split.{coordinate, with_point};
-ghost use Rattle.edit_rules.specs.Split.{midpoint as midpointOf};
-ghost use Rattle.edit_rules.specs.Split.{midway as midwayOf};
+ghost use Rattle.edit_rules.specs.Split.{midpoint as midpoint_of};
+ghost use Rattle.edit_rules.specs.Split.{midway as midway_of};
 ghost use Rattle.edit_rules.specs.Contract.{without_point};
 
 use halfedge::wide;
@@ -17,15 +17,15 @@ pub struct Point {
 }
 
 fn midway(x: f64, y: f64) -> f64
-    ensures { result ≡ midwayOf x y }
+    ensures { result ≡ midway_of x y }
 {
     (x + y) * 0.5
 }
 
 pub fn midpoint(p: Point, q: Point) -> Point
-    ensures { (result.x ≡ midwayOf p.x q.x)
-        × (result.y ≡ midwayOf p.y q.y)
-        × (result.z ≡ midwayOf p.z q.z) }
+    ensures { (result.x ≡ midway_of p.x q.x)
+        × (result.y ≡ midway_of p.y q.y)
+        × (result.z ≡ midway_of p.z q.z) }
 {
     Point {
         x: midway(p.x, q.x),
@@ -63,7 +63,7 @@ fn put_point(n: u32, p: Point, points: &mut [f64])
 // The midpoint of a and b becomes the point of vertex n + 1.
 pub fn place_midpoint(points: &mut [f64], n: u32, a: u32, b: u32)
     requires { (1 ≤ a) × (a ≤ n) × (1 ≤ b) × (b ≤ n) × (3 * n + 3 ≤ length points.old) }
-    ensures { points.new ≡ with_point n (midpointOf points.old a b) points.old }
+    ensures { points.new ≡ with_point n (midpoint_of points.old a b) points.old }
 {
     let p = point_of(points, a);
     let q = point_of(points, b);

@@ -5,7 +5,7 @@ ghost use Rattle.std.specs.Prelude.{◌≡◌};
 ghost use Rattle.answer.specs.Numbers.{numbers};
 ghost use Rattle.rules.specs.Refusals.{gives};
 ghost use Rattle.rules.specs.Queries.{by_side, by_entry, opposite_answer, next_answer, previous_answer, element_answer, origin_answer, destination_answer, across_answer, half_edge_border_answer, vertex_border_answer};
-ghost use Rattle.rules.specs.Queries.{found as foundIn};
+ghost use Rattle.rules.specs.Queries.{found as found_in};
 ghost use Rattle.reads.specs.Meshes.{mesh};
 ghost use Rattle.reads.specs.Readings.{read_of};
 
@@ -40,7 +40,7 @@ fn kind_answer(entry: u32) -> Answer
 
 // The answer to a question for one number.
 fn found(r: Read) -> Answer
-    ensures { numbers result ≡ foundIn (read_of r) }
+    ensures { numbers result ≡ found_in (read_of r) }
 {
     match r {
         Read::Value(x) => give(x),

@@ -4,7 +4,7 @@
 ghost use Rattle.std.specs.Prelude.{◌≡◌, ◌+◌, ◌*◌, ◌≤◌, length};
 ghost use Rattle.rules.specs.Elements.{elements};
 ghost use Rattle.rules.specs.Siblings.{siblings_answer, siblings_leaves, v2he};
-ghost use Rattle.rules.specs.Siblings.{sibhe as sibheOf};
+ghost use Rattle.rules.specs.Siblings.{sibhe as sibhe_of};
 ghost use Rattle.theory.specs.FitRows.{Fit};
 ghost use Rattle.answer.specs.Numbers.{numbers};
 ghost use Rattle.sibling_map.specs.Mapping.{Checked, Mapped, lent_maps};
@@ -20,7 +20,7 @@ use siblings::siblings as map_siblings;
 // Both maps of a list with fit rows.
 fn write(n: usize, list: &[u32], v2e: &mut [u32], sibhe: &mut [u32], work: &mut [u32])
     requires { Fit n list.now × (length v2e.old ≡ n) × (length sibhe.old ≡ 4 * elements list.now) × (n + 16 * elements list.now ≤ length work.old) }
-    ensures v2e_after { (v2e.new ≡ v2he n list.now) × (sibhe.new ≡ sibheOf list.now) }
+    ensures v2e_after { (v2e.new ≡ v2he n list.now) × (sibhe.new ≡ sibhe_of list.now) }
     ensures work_len_unchanged { length work.new ≡ length work.old }
 {
     map_siblings(n, list, work);

@@ -2,7 +2,7 @@
 #![tactic(auto)]
 
 ghost use Rattle.std.specs.Prelude.{◌≡◌, ◌⊎◌, [], ◌+◌, ◌*◌, ◌-◌, ◌≤◌, length, take, get_or, set};
-ghost use Rattle.rules.specs.Tables.{columns as columnsIn};
+ghost use Rattle.rules.specs.Tables.{columns as columns_in};
 ghost use Rattle.rules.specs.Refusals.{onto};
 ghost use Rattle.edit_rules.specs.Split.{halved, split_at, split_answer, split_leaves, split_points};
 ghost use Rattle.answer.specs.Numbers.{numbers};
@@ -154,7 +154,7 @@ fn write(
     t: u32,
 ) -> Answer
     requires to_write { ToWrite (lent_sized size.old list.old v2e.old e2e.old b2e.old work.old) points.old s t elements }
-    requires columns_value { columns ≡ columnsIn (take (4 * get_or size.old 1 0) list.old) }
+    requires columns_value { columns ≡ columns_in (take (4 * get_or size.old 1 0) list.old) }
     ensures written { Written (lent_sized size.old list.old v2e.old e2e.old b2e.old []) points.old s (numbers result) (lent_sized size.new list.new v2e.new e2e.new b2e.new []) points.new }
     ensures work_len_unchanged { length work.new ≡ length work.old }
 {

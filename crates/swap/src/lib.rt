@@ -3,11 +3,11 @@
 
 ghost use Rattle.std.specs.Prelude.{◌≡◌, [], ◌∷◌, ◌*◌, length};
 ghost use Rattle.lists.specs.Search.{at};
-ghost use Rattle.rules.specs.Tables.{columns as columnsIn};
+ghost use Rattle.rules.specs.Tables.{columns as columns_in};
 ghost use Rattle.rules.specs.Refusals.{list_answer, room_check};
 ghost use Rattle.edit_rules.specs.Edits.{becomes, once_accepted, new_answer};
 ghost use Rattle.edit_rules.specs.Swap.{swapped, is_swappable, swap_answer, swap_leaves};
-ghost use Rattle.edit_rules.specs.Swap.{swap as swapOf};
+ghost use Rattle.edit_rules.specs.Swap.{swap as swap_of};
 ghost use Rattle.halfedge.specs.Rows.{corner_of, previous_side};
 ghost use Rattle.answer.specs.Numbers.{numbers};
 ghost use Rattle.build.specs.Building.{Checked};
@@ -66,7 +66,7 @@ fn swap_rows(
     s: u32,
     t: u32,
 ) -> Answer
-    requires { ToSwap n list.old v2e.old e2e.old work.old s t × (columns ≡ columnsIn list.old) }
+    requires { ToSwap n list.old v2e.old e2e.old work.old s t × (columns ≡ columns_in list.old) }
     ensures left { Left (room_check (length b2e.old) (list_answer n (swapped list.old s))) (numbers result) (tight n list.old v2e.old e2e.old b2e.old) (becomes n (swapped list.old s)) (tight n list.new v2e.new e2e.new b2e.new) }
     ensures work_len_unchanged { length work.new ≡ length work.old }
 {
@@ -117,8 +117,8 @@ fn swap_fit(
     work: &mut [u32],
     code: u32,
 ) -> Answer
-    requires { Checked n list.old v2e.old e2e.old work.old × (columns ≡ columnsIn list.old) }
-    ensures left { Left (once_accepted (list_answer n list.old) (new_answer (length b2e.old) (swapOf n list.old code))) (numbers result) (tight n list.old v2e.old e2e.old b2e.old) (swapOf n list.old code) (tight n list.new v2e.new e2e.new b2e.new) }
+    requires { Checked n list.old v2e.old e2e.old work.old × (columns ≡ columns_in list.old) }
+    ensures left { Left (once_accepted (list_answer n list.old) (new_answer (length b2e.old) (swap_of n list.old code))) (numbers result) (tight n list.old v2e.old e2e.old b2e.old) (swap_of n list.old code) (tight n list.new v2e.new e2e.new b2e.new) }
     ensures work_len_unchanged { length work.new ≡ length work.old }
 {
     let vertices = wide(n);

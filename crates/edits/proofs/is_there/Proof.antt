@@ -13,40 +13,37 @@ use borrow.Author.Rules.{rules}
 use Rattle.edits.proofs.is_there.Statement.{statement}
 use Rattle.edits.proofs.is_there.Tie as tie
 
-abbrev start : tie.Else1 → tie.Start
-start c = c.before.before.before
-
 -- the code is no side
-unsided : (c : tie.Else1) {border : Bool} {b : ℕ} → let a = (start c).args in border ≡ eqb (number a.code) 0 → b ≡ element a.code
+unsided : (c : tie.Else-is_side) {border : Bool} {b : ℕ} → let a = c.args in border ≡ eqb (number a.code) 0 → b ≡ element a.code
     → is_there a.list.now a.code ≡ both border (within 1 a.k b)
-unsided c p q = there_by _ _ (sym c.if1.false ∙ c.before.is-side.ensures) p q (start c).requires
+unsided c p q = there_by _ _ (sym c.if-is_side.false ∙ c.is_side.ensures) p q c.requires
 
 -- and a border's
-bordered : (c : tie.Else2) {b : ℕ} → let a = (start c.before.before).args in b ≡ element a.code → is_there a.list.now a.code ≡ within 1 a.k b
-bordered c q = unsided c.before.before (sym (not-false _ c.if2.false) ∙ c.before.is-border.ensures) q
+bordered : (c : tie.Else-not-is_border) {b : ℕ} → let a = c.args in b ≡ element a.code → is_there a.list.now a.code ≡ within 1 a.k b
+bordered c q = unsided c.before.before (sym (not-false _ c.if-not-is_border.false-raw) ∙ c.is_border.ensures) q
 
-is_side_requires : tie.Need-is-side-requires
+is_side_requires : tie.Need-is_side-requires
 is_side_requires c κs = search rules
 
-returns : tie.Need-returns
-returns c = let s = c.before.before.before in sym (there_by _ _ (sym c.if1.true ∙ c.before.is-side.ensures) refl refl s.requires)
+returns : tie.Need-returns-then-is_side
+returns c = sym (there_by _ _ (sym c.if-is_side.true ∙ c.is_side.ensures) refl refl c.requires)
 
-is_border_requires : tie.Need-is-border-requires
+is_border_requires : tie.Need-is_border-requires
 is_border_requires c κs = search rules
 
-returns_2 : tie.Need-returns-2
+returns_2 : tie.Need-returns-then-not-is_border
 returns_2 c =
-    sym (unsided c.before.before (sym (not-true _ c.if2.true) ∙ c.before.is-border.ensures) refl)
+    sym (unsided c.before.before (sym (not-true _ c.if-not-is_border.true-raw) ∙ c.is_border.ensures) refl)
 
-element_of_requires : tie.Need-element-of-requires
+element_of_requires : tie.Need-element_of-b-requires
 element_of_requires c κs = search rules
 
-returns_3 : tie.Need-returns-3
+returns_3 : tie.Need-returns-then-b-lt1
 returns_3 c =
-    let one = c.before in sym (bordered one.before one.element-of.ensures ∙ simp (lt-leb 1 _ c.if3.true))
+    sym (bordered c.before.before c.element_of-b.ensures ∙ simp (lt-leb 1 _ c.if-b-lt1.true))
 
-returns_4 : tie.Need-returns-4
-returns_4 c = let one = c.before in sym (bordered one.before one.element-of.ensures ∙ simp (le-leb 1 _ c.if3.false))
+returns_4 : tie.Need-returns
+returns_4 c = sym (bordered c.before.before c.element_of-b.ensures ∙ simp (le-leb 1 _ c.if-b-lt1.false))
 
 pub is_there_spec : {M : Type 1} → statement M
 is_there_spec =

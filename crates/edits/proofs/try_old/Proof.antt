@@ -6,37 +6,33 @@ use borrow.Author.Rules.{rules}
 use Rattle.edits.proofs.try_old.Statement.{statement}
 use Rattle.edits.proofs.try_old.Tie as tie
 
-abbrev start : tie.After-wide → tie.Start
-start c = c.before.before.before
-
 wide_requires : tie.Need-wide-requires
 wide_requires c κs = search rules
 
-mul_end : tie.Need-overflow-mul-end
+mul_end : tie.Need-overflow_mul-end
 mul_end c = search rules
 
-add_end : tie.Need-overflow-add-end
+add_end : tie.Need-overflow_add-end
 add_end c = search rules
 
-sub_tabulate : tie.Need-overflow-sub-tabulate
+sub_tabulate : tie.Need-slice_bounds-tabulate-count
 sub_tabulate c = search rules
 
-part_tabulate_start : tie.Need-slice-bounds-tabulate-start
+part_tabulate_start : tie.Need-slice_bounds-tabulate-start
 part_tabulate_start c = search rules
 
-part_tabulate_end : tie.Need-slice-bounds-tabulate-end
-part_tabulate_end c = let h = front_fits (roomy (start c).requires.checked) c.wide.ensures in search rules
+part_tabulate_end : tie.Need-slice_bounds-tabulate-end
+part_tabulate_end c = let h = front_fits (roomy c.requires.checked) c.wide.ensures in search rules
 
 tabulate_requires : tie.Need-tabulate-requires
-tabulate_requires c κs = let w = c.before in front_sized (roomy (start w).requires.checked) w.wide.ensures
+tabulate_requires c κs = front_sized (roomy c.requires.checked) c.wide.ensures
 
-same_length : tie.Need-same-length
+same_length : tie.Need-shape_of-work
 same_length c = search rules
 
 returns : tie.Need-returns
 returns c =
-    let done = c.before.before in
-    let w = done.before.before in scratched (roomy (start w).requires.checked) w.wide.ensures done.tabulate.ensures
+    scratched (roomy c.requires.checked) c.wide.ensures c.tabulate.ensures
 
 pub try_old_spec : {M : Type 1} → statement M
 try_old_spec =

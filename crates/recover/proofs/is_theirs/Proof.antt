@@ -13,66 +13,61 @@ use borrow.Author.Rules.{rules}
 use Rattle.recover.proofs.is_theirs.Statement.{statement}
 use Rattle.recover.proofs.is_theirs.Tie as tie
 
-abbrev begun : tie.After-is-same → tie.Start
-begun c = c.before.before.before.before.before
-
-vertices : (c : tie.After-is-same) → c.is_same.result ≡ same (take (begun c).args.n (begun c).args.work.now) (begun c).args.v2e.now
+vertices : (c : tie.After-is_same) → c.is_same.result ≡ same (take c.args.n c.args.work.now) c.args.v2e.now
 vertices c =
-    let s = (begun c).args in
+    let s = c.args in
     let z : s.n - 0 ≡ s.n = omega arith in
     c.is_same.ensures ∙ ap (λ (k : ℕ). same (take k s.work.now) s.v2e.now) z
 
-mul_end : tie.Need-overflow-mul-end
+mul_end : tie.Need-overflow_mul-end
 mul_end c = search rules
 
-add_end : tie.Need-overflow-add-end
+add_end : tie.Need-overflow_add-end
 add_end c = search rules
 
-sub_is_same : tie.Need-overflow-sub-is-same
+sub_is_same : tie.Need-slice_bounds-is_same-count
 sub_is_same c = search rules
 
-part_is_same_start : tie.Need-slice-bounds-is-same-start
+part_is_same_start : tie.Need-slice_bounds-is_same-start
 part_is_same_start c = search rules
 
-part_is_same_end : tie.Need-slice-bounds-is-same-end
+part_is_same_end : tie.Need-slice_bounds-is_same-end
 part_is_same_end c = search rules
 
-is_same_requires : tie.Need-is-same-requires
+is_same_requires : tie.Need-is_same-requires
 is_same_requires c κs = search rules
 
-returns : tie.Need-returns
+returns : tie.Need-returns-then-not-is_same
 returns c =
-    let s = (begun c.before).args in
-    sym (ap (λ (b : Bool). both b (same (narrowed s.columns (part s.n (4 * s.m) s.work.now)) s.e2e.now)) (sym (vertices c.before) ∙ not-true _ c.if1.true))
+    let s = c.args in
+    sym (ap (λ (b : Bool). both b (same (narrowed s.columns (part s.n (4 * s.m) s.work.now)) s.e2e.now)) (sym (vertices c.before) ∙ not-true _ c.if-not-is_same.true-raw))
 
-mul_is_put : tie.Need-overflow-mul-is-put
+mul_is_put : tie.Need-offset_bounds-work-n
 mul_is_put c = search rules
 
-sub_is_put : tie.Need-overflow-sub-is-put
+sub_is_put : tie.Need-slice_bounds-is_put-count
 sub_is_put c = search rules
 
-part_is_put_start : tie.Need-slice-bounds-is-put-start
+part_is_put_start : tie.Need-slice_bounds-is_put-start
 part_is_put_start c = search rules
 
-part_is_put_end : tie.Need-slice-bounds-is-put-end
+part_is_put_end : tie.Need-slice_bounds-is_put-end
 part_is_put_end c = search rules
 
-is_put_requires : tie.Need-is-put-requires
+is_put_requires : tie.Need-is_put-requires
 is_put_requires c κs =
-    let s = begun c.before.before in
-    let l : length (take (s.args.n + 4 * s.args.m - s.args.n) (drop s.args.n s.args.work.now)) ≡ 4 * s.args.m =
-    simp (length-take, length-drop) (omega (arith, s.pre.0)) in
-    (s.pre.1, omega arith)
+    let l : length (take (c.args.n + 4 * c.args.m - c.args.n) (drop c.args.n c.args.work.now)) ≡ 4 * c.args.m =
+    simp (length-take, length-drop) (omega (arith, c.requires.0)) in
+    (c.requires.1, omega arith)
 
-returns_2 : tie.Need-returns-2
+returns_2 : tie.Need-returns
 returns_2 c =
-    let first = c.before.before in
-    let s = (begun first.before).args in
+    let s = c.args in
     let z : s.n + 4 * s.m - s.n ≡ 4 * s.m = omega arith in
     let theirs = same (narrowed s.columns (part s.n (4 * s.m) s.work.now)) s.e2e.now in
-    c.is-put.ensures
+    c.is_put.ensures
     ∙ ap (λ (k : ℕ). same (narrowed s.columns (part s.n k s.work.now)) s.e2e.now) z
-    ∙ sym (ap (λ (b : Bool). both b theirs) (sym (vertices first.before) ∙ not-false _ first.if1.false))
+    ∙ sym (ap (λ (b : Bool). both b theirs) (sym (vertices c.before.before.before) ∙ not-false _ c.if-not-is_same.false-raw))
 
 pub is_theirs_spec : {M : Type 1} → statement M
 is_theirs_spec =

@@ -1,0 +1,14 @@
+-- `queries::fill` is safe and ends: the measure is how many are left.
+-- Assumes nothing.
+use Prim.Native.Nat.{◌-◌}
+use native.Mathlib.Omega.{arith}
+use Rattle.queries.proofs.fill.Goals as goal
+
+pub loop-x-init : goal.loop-x-init
+loop-x-init c = tt
+
+pub loop-x-smaller : goal.loop-x-smaller
+loop-x-smaller c = omega arith
+
+pub loop-x-preserved : goal.loop-x-preserved
+loop-x-preserved c = tt

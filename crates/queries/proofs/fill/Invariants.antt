@@ -1,0 +1,10 @@
+-- `queries::fill` is safe and ends: the measure is how many are left.
+-- Assumes nothing.
+use Prim.Native.Nat.{◌-◌}
+use Rattle.queries.proofs.fill.Given as goal
+
+abbrev pub invariant-loop-x : goal.invariant-loop-x
+invariant-loop-x l = Unit {0}
+
+abbrev pub decreases-loop-x : goal.decreases-loop-x
+decreases-loop-x l = 80 - l.x
