@@ -14,108 +14,86 @@ use borrow.Author.Rules.{rules}
 use Rattle.contract.proofs.admit.Statement.{statement}
 use Rattle.contract.proofs.admit.Tie as tie
 
-abbrev start : tie.After-wide → tie.Start
-start c = c.before.before.before
-
 -- the tables of the list, with n as an index
-tables : (c : tie.After-wide) → Tabled c.wide.result (start c).args.list.now (start c).args.work.now
-tables c = tabled_at c.wide.ensures refl (start c).requires.tabled
+tables : (c : tie.After-wide-vertices) → Tabled c.wide-vertices.result c.args.list.now c.args.work.now
+tables c = tabled_at c.wide-vertices.ensures refl c.requires.tabled
 
--- the half-edge is there
-abbrev opened : tie.Else1 → tie.After-wide
-opened c = c.before.before
+there : (c : tie.Else-not-is_there) → let a = c.args in is_there a.list.now a.code ≡ true
+there c = sym c.is_there.ensures ∙ not-false _ c.if-not-is_there.false-raw
 
-there : (c : tie.Else1) → let a = (start (opened c)).args in is_there a.list.now a.code ≡ true
-there c = sym c.before.is-there.ensures ∙ not-false _ c.if1.false
+fit : (c : tie.Else-not-is_splittable) → let a = c.args in is_splittable a.list.now a.code ≡ true
+fit c = sym c.is_splittable.ensures ∙ not-false _ c.if-not-is_splittable.false-raw
 
--- and a side with triangles only
-abbrev passed : tie.Else2 → tie.Else1
-passed c = c.before.before.before
+side : (c : tie.Else-not-is_splittable) → let a = c.args in Side a.list.now a.code
+side c = let a = c.args in side_there a.n a.list.now a.code (there c.before.before) (fit c)
 
-fit : (c : tie.Else2) → let a = (start (opened (passed c))).args in is_splittable a.list.now a.code ≡ true
-fit c = sym c.before.is-splittable.ensures ∙ not-false _ c.if2.false
-
-side : (c : tie.Else2) → let a = (start (opened (passed c))).args in Side a.list.now a.code
-side c = let a = (start (opened (passed c))).args in side_there a.n a.list.now a.code (there (passed c)) (fit c)
-
-wide_requires : tie.Need-wide-requires
+wide_requires : tie.Need-wide-vertices-requires
 wide_requires c κs = search rules
 
-is_there_requires : tie.Need-is-there-requires
+is_there_requires : tie.Need-is_there-requires
 is_there_requires c κs = search rules
 
 refuse_requires : tie.Need-refuse-requires
 refuse_requires c κs = search rules
 
-returns : tie.Need-returns
+returns : tie.Need-returns-then-not-is_there
 returns c =
-    let one = c.before.before in
-    let a = (start one.before).args in
-    (gone a.n a.list.now a.code (sym one.is-there.ensures ∙ not-true _ c.before.if1.true) c.refuse.ensures, refl)
+    let a = c.args in
+    (gone a.n a.list.now a.code (sym c.is_there.ensures ∙ not-true _ c.if-not-is_there.true-raw) c.refuse.ensures, refl)
 
-is_splittable_requires : tie.Need-is-splittable-requires
-is_splittable_requires c κs = tables (opened c.before)
+is_splittable_requires : tie.Need-is_splittable-requires
+is_splittable_requires c κs = tables c.before.before
 
-refuse_requires_2 : tie.Need-refuse-requires-2
+refuse_requires_2 : tie.Need-refuse-requires-then-not-is_splittable
 refuse_requires_2 c κs = search rules
 
-same_length : tie.Need-same-length
+same_length : tie.Need-shape_of-work-then-not-is_splittable
 same_length c = search rules
 
-returns_2 : tie.Need-returns-2
+returns_2 : tie.Need-returns-then-not-is_splittable
 returns_2 c =
-    let two = c.before.before in
-    let one = two.before.before in
-    let a = (start (opened one)).args in (
-      unfit a.n a.list.now a.code (there one) (sym two.is-splittable.ensures ∙ not-true _ c.before.if2.true)
-          c.refuse2.ensures,
+    let a = c.args in (
+      unfit a.n a.list.now a.code (there c.before.before.before) (sym c.is_splittable.ensures ∙ not-true _ c.if-not-is_splittable.true-raw)
+          c.refuse-then-not-is_splittable.ensures,
       refl,
     )
 
-entry_of_requires : tie.Need-entry-of-requires
-entry_of_requires c κs = let two = c.before in (tables (opened (passed two)), side two)
+entry_of_requires : tie.Need-entry_of-t-requires
+entry_of_requires c κs = (tables c.before.before.before.before, side c)
 
-edge_of_requires : tie.Need-edge-of-requires
-edge_of_requires c κs = (side c.before.before, c.entry-of.ensures)
+edge_of_requires : tie.Need-edge_of-edge-requires
+edge_of_requires c κs = (side c.before, c.entry_of-t.ensures)
 
-is_pinched_requires : tie.Need-is-pinched-requires
+is_pinched_requires : tie.Need-is_pinched-requires
 is_pinched_requires c κs =
-    let s = start (opened (passed c.before.before.before.before)) in
-    let p = s.pre in ((means_fit s.args.n s.args.list.now).says p.accepted.rows, omega (arith, p.tabled.room))
+    let p = c.requires in ((means_fit c.args.n c.args.list.now).says p.accepted.rows, omega (arith, p.tabled.room))
 
-refuse_requires_3 : tie.Need-refuse-requires-3
+refuse_requires_3 : tie.Need-refuse-requires-then-is_pinched
 refuse_requires_3 c κs = search rules
 
-same_length_2 : tie.Need-same-length-2
+same_length_2 : tie.Need-shape_of-work-then-is_pinched
 same_length_2 c = search rules
 
-returns_3 : tie.Need-returns-3
+returns_3 : tie.Need-returns-then-is_pinched
 returns_3 c =
-    let t = c.before.before.before.before in
-    let e = t.before.before in
-    let two = e.before.before.before in
-    let a = (start (opened (passed two))).args in (
-      pinched a.n a.list.now a.code (there (passed two)) (fit two) e.Edge-of.ensures t.is-pinched.ensures.0 c.before.if3.true
-          c.refuse3.ensures,
-      t.is-pinched.ensures.1,
+    let a = c.args in (
+      pinched a.n a.list.now a.code (there c.before.before.before.before.before.before.before.before.before.before) (fit c.before.before.before.before.before.before.before.before) c.edge_of-edge.ensures c.is_pinched.ensures.0 c.if-is_pinched.true
+          c.refuse-then-is_pinched.ensures,
+      c.is_pinched.ensures.1,
     )
 
 give_requires : tie.Need-give-requires
 give_requires c κs = search rules
 
-same_length_3 : tie.Need-same-length-3
+same_length_3 : tie.Need-shape_of-work
 same_length_3 c = search rules
 
-returns_4 : tie.Need-returns-4
+returns_4 : tie.Need-returns
 returns_4 c =
-    let t = c.before.before.before.before in
-    let e = t.before.before in
-    let two = e.before.before.before in
-    let s = start (opened (passed two)) in
-    let a = s.args in (
-      admitted a.n a.list.now a.code (there (passed two)) (fit two) e.Edge-of.ensures t.is-pinched.ensures.0 s.pre.accepted
-          e.before.entry-of.ensures c.before.if3.false c.give.ensures,
-      t.is-pinched.ensures.1,
+    let a = c.args in (
+      admitted a.n a.list.now a.code (there c.before.before.before.before.before.before.before.before.before.before) (fit c.before.before.before.before.before.before.before.before) c.edge_of-edge.ensures c.is_pinched.ensures.0 c.requires.accepted
+          c.entry_of-t.ensures c.if-is_pinched.false c.give.ensures,
+      c.is_pinched.ensures.1,
     )
 
 pub admit_spec : {M : Type 1} → statement M

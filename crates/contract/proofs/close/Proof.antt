@@ -6,76 +6,66 @@ use borrow.Author.Rules.{rules}
 use Rattle.contract.proofs.close.Statement.{statement}
 use Rattle.contract.proofs.close.Tie as tie
 
-abbrev start : tie.After-wide4 → tie.Start
-start c = c.before.before.before.before.before.before.before.before.before.before.before.before.before
+columned : (c : tie.After-wide-3) → c.wide-c.result ≡ c.args.columns
+columned c = c.wide-c.ensures
 
-columned : (c : tie.After-wide4) → c.before.before.before.before.before.before.before.wide.result ≡ (start c).args.columns
-columned c = c.before.before.before.before.before.before.before.wide.ensures
-
-element_copy_out_n : tie.Need-element-copy-out-n
+element_copy_out_n : tie.Need-bounds-size-0
 element_copy_out_n c = search rules
 
-element_copy_out_m : tie.Need-element-copy-out-m
+element_copy_out_m : tie.Need-bounds-size-1
 element_copy_out_m c = search rules
 
-wide_requires : tie.Need-wide-requires
+wide_requires : tie.Need-wide-c-requires
 wide_requires c κs = search rules
 
-sub_wide : tie.Need-overflow-sub-wide
+sub_wide : tie.Need-overflow_sub-n
 sub_wide c = search rules
 
-wide_requires_2 : tie.Need-wide-requires-2
+wide_requires_2 : tie.Need-wide-requires
 wide_requires_2 c κs = search rules
 
-wide_requires_3 : tie.Need-wide-requires-3
+wide_requires_3 : tie.Need-wide-requires-2
 wide_requires_3 c κs = search rules
 
-clear_between_requires : tie.Need-clear-between-requires
+clear_between_requires : tie.Need-clear_between-requires
 clear_between_requires c κs = search rules
 
-wide_requires_4 : tie.Need-wide-requires-4
+wide_requires_4 : tie.Need-wide-requires-3
 wide_requires_4 c κs = search rules
 
-mul_clear_between : tie.Need-overflow-mul-clear-between
-mul_clear_between c = let h = (few (start c).requires (columned c) c.wide4.ensures refl).0 in search rules
+mul_clear_between : tie.Need-overflow_mul-c
+mul_clear_between c = let h = (few c.requires (columned c) c.wide-3.ensures refl).0 in search rules
 
-wide_requires_5 : tie.Need-wide-requires-5
+wide_requires_5 : tie.Need-wide-requires-4
 wide_requires_5 c κs = search rules
 
-mul_clear_between_2 : tie.Need-overflow-mul-clear-between-2
-mul_clear_between_2 c = let w = c.before in let h = (few (start w).requires (columned w) w.wide4.ensures c.wide5.ensures).1 in search rules
+mul_clear_between_2 : tie.Need-overflow_mul-c-2
+mul_clear_between_2 c = let h = (few c.requires (columned c.before) c.wide-3.ensures c.wide-4.ensures).1 in search rules
 
-clear_between_requires_2 : tie.Need-clear-between-requires-2
+clear_between_requires_2 : tie.Need-clear_between-requires-2
 clear_between_requires_2 c κs =
-    let l = c.before in
-    let w = l.before in entries_inside (start w).requires (columned w) w.wide4.ensures l.wide5.ensures
+    entries_inside c.requires (columned c.before.before) c.wide-3.ensures c.wide-4.ensures
 
-close_point_requires : tie.Need-close-point-requires
+close_point_requires : tie.Need-close_point-requires
 close_point_requires c κs = search rules
 
-sub_t13 : tie.Need-overflow-sub-t13
+sub_t13 : tie.Need-overflow_sub-size
 sub_t13 c = search rules
 
-same_length : tie.Need-same-length
+same_length : tie.Need-shape_of-v2e
 same_length c = search rules
 
-same_length_2 : tie.Need-same-length-2
+same_length_2 : tie.Need-shape_of-e2e
 same_length_2 c = search rules
 
-same_length_3 : tie.Need-same-length-3
+same_length_3 : tie.Need-shape_of-points
 same_length_3 c = search rules
 
 returns : tie.Need-returns
 returns c =
-    let p = c.before.before.before in
-    let e = p.before.before.before.before in
-    let l = e.before.before in
-    let w = l.before in
-    let v = w.before.before.before in
-    let n = v.before.before in
-    closes (start w).requires (columned w) w.wide4.ensures l.wide5.ensures n.before.wide2.ensures n.wide3.ensures
-    v.clear-between.ensures
-    e.clear-between2.ensures p.close-point.ensures
+    closes c.requires (columned c.before.before.before.before.before.before.before.before.before.before) c.wide-3.ensures c.wide-4.ensures c.wide.ensures c.wide-2.ensures
+    c.clear_between.ensures
+    c.clear_between-2.ensures c.close_point.ensures
 
 pub close_spec : {M : Type 1} → statement M
 close_spec =

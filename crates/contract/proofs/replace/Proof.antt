@@ -11,118 +11,96 @@ use borrow.Author.Rules.{rules}
 use Rattle.contract.proofs.replace.Statement.{statement}
 use Rattle.contract.proofs.replace.Tie as tie
 
-abbrev start : tie.After-merge-ends → tie.Start
-start c = c.before.before.before.before.before.before.before
-
-abbrev merged_at : tie.After-wide → tie.After-merge-ends
-merged_at c = c.before.before.before.before
-
 -- where the rows that stay end
-rows : (c : tie.After-wide) → let a = (start (merged_at c)).args in 4 * c.wide.result - 0 ≡ 4 * fewer_by a.m a.t
-rows c = omega (arith, c.wide.ensures ∙ c.before.fewer.ensures)
+rows : (c : tie.After-wide-rows) → let a = c.args in 4 * c.wide-rows.result - 0 ≡ 4 * fewer_by a.m a.t
+rows c = omega (arith, c.wide-rows.ensures ∙ c.fewer-left.ensures)
 
-inside : (c : tie.After-wide) → 4 * c.wide.result - 0 ≤ length (merged_at c).merge-ends.new.1.0
+inside : (c : tie.After-wide-rows) → 4 * c.wide-rows.result - 0 ≤ length c.merge_ends.new.list
 inside c =
-    let m = merged_at c in
-    let p = (start m).pre.0 in front_inside p.0 p.1 p.2 m.merge-ends.ensures (rows c)
+    let p = c.requires.0 in front_inside p.0 p.1 p.2 c.merge_ends.ensures (rows c)
 
-merge_ends_requires : tie.Need-merge-ends-requires
-merge_ends_requires c κs = let p = c.before.before.before.before.before.before.requires.0 in (to_merge p.0 p.1 p.2, fours p.0 p.1)
+merge_ends_requires : tie.Need-merge_ends-requires
+merge_ends_requires c κs = let p = c.requires.0 in (to_merge p.0 p.1 p.2, fours p.0 p.1)
 
-fewer_requires : tie.Need-fewer-requires
-fewer_requires c κs = let p = (start c.before.before).requires.0 in fewer_fits (to_close p.0 p.1)
+fewer_requires : tie.Need-fewer-left-requires
+fewer_requires c κs = let p = c.requires.0 in fewer_fits (to_close p.0 p.1)
 
-wide_requires : tie.Need-wide-requires
+wide_requires : tie.Need-wide-rows-requires
 wide_requires c κs = search rules
 
-mul_rows : tie.Need-overflow-mul-rows
+mul_rows : tie.Need-overflow_mul-rows
 mul_rows c = search rules
 
-sub_all_used : tie.Need-overflow-sub-all-used
+sub_all_used : tie.Need-slice_bounds-all_used-count
 sub_all_used c = search rules
 
-part_all_used_start : tie.Need-slice-bounds-all-used-start
+part_all_used_start : tie.Need-slice_bounds-all_used-start
 part_all_used_start c = search rules
 
-part_all_used_end : tie.Need-slice-bounds-all-used-end
-part_all_used_end c = let w = c.before in let h = inside w in search rules
+part_all_used_end : tie.Need-slice_bounds-all_used-end
+part_all_used_end c = let h = inside c in search rules
 
-all_used_requires : tie.Need-all-used-requires
+all_used_requires : tie.Need-all_used-requires
 all_used_requires c κs =
-    let w = c.before.before in
-    let m = merged_at w in
-    let p = (start m).pre.0 in to_ask p.0 p.1 p.2 m.merge-ends.ensures (rows w)
+    let p = c.requires.0 in to_ask p.0 p.1 p.2 c.merge_ends.ensures (rows c.before)
 
 refuse_requires : tie.Need-refuse-requires
 refuse_requires c κs = search rules
 
-same_length : tie.Need-same-length
+same_length : tie.Need-shape_of-list-then-not-all_used
 same_length c = search rules
 
-returns : tie.Need-returns
+returns : tie.Need-returns-then-not-all_used
 returns c =
-    let u = c.before.before in
-    let w = u.before.before.before in
-    let m = merged_at w in
-    let p = (start m).pre.0 in (
-      left_unused p.0 p.1 p.2 m.merge-ends.ensures (rows w) u.all-used.ensures (not-true _ c.before.if1.true)
+    let p = c.requires.0 in (
+      left_unused p.0 p.1 p.2 c.merge_ends.ensures (rows c.before.before.before.before) c.all_used.ensures (not-true _ c.if-not-all_used.true-raw)
           c.refuse.ensures,
       refl,
     )
 
-sub_rename : tie.Need-overflow-sub-rename
+sub_rename : tie.Need-slice_bounds-rename-count
 sub_rename c = search rules
 
-part_rename_start : tie.Need-slice-bounds-rename-start
+part_rename_start : tie.Need-slice_bounds-rename-start
 part_rename_start c = search rules
 
-part_rename_end : tie.Need-slice-bounds-rename-end
-part_rename_end c = let w = c.before.before.before.before in let h = inside w in search rules
+part_rename_end : tie.Need-slice_bounds-rename-end
+part_rename_end c = let h = inside c.before.before.before in search rules
 
 rename_requires : tie.Need-rename-requires
 rename_requires c κs = search rules
 
-sub_build_front : tie.Need-overflow-sub-build-front
+sub_build_front : tie.Need-overflow_sub-n
 sub_build_front c =
-    let w = c.before.before.before.before.before.before.before.before in
-    let p = (start (merged_at w)).requires.0 in
+    let p = c.requires.0 in
     let h = last_there p.0 p.1 in search rules
 
-build_front_requires : tie.Need-build-front-requires
+build_front_requires : tie.Need-build_front-requires
 build_front_requires c κs =
-    let r = c.before.before.before.before.before.before.before in
-    let w = r.before.before.before.before.before.before in
-    let m = merged_at w in
-    let s = start m in
-    let p = s.pre.0 in
-    fits p.0 p.1 p.2 m.merge-ends.ensures (rows w) r.rename.ensures w.before.fewer.ensures s.pre.1.0 s.pre.1.1
+    let p = c.requires.0 in
+    fits p.0 p.1 p.2 c.merge_ends.ensures (rows c.before.before.before.before.before.before.before.before.before.before.before) c.rename.ensures c.fewer-left.ensures c.requires.1.0 c.requires.1.1
 
-same_length_2 : tie.Need-same-length-2
+same_length_2 : tie.Need-shape_of-list
 same_length_2 c = search rules
 
-same_length_3 : tie.Need-same-length-3
+same_length_3 : tie.Need-shape_of-v2e
 same_length_3 c = search rules
 
-same_length_4 : tie.Need-same-length-4
+same_length_4 : tie.Need-shape_of-e2e
 same_length_4 c = search rules
 
-same_length_5 : tie.Need-same-length-5
+same_length_5 : tie.Need-shape_of-b2e
 same_length_5 c = search rules
 
-same_length_6 : tie.Need-same-length-6
+same_length_6 : tie.Need-shape_of-work
 same_length_6 c = search rules
 
-returns_2 : tie.Need-returns-2
+returns_2 : tie.Need-returns
 returns_2 c =
-    let b = c.before.before.before.before.before.before.before.before in
-    let r = b.before.before.before.before.before.before.before.before in
-    let u = r.before.before.before in
-    let w = u.before.before.before in
-    let m = merged_at w in
-    let p = (start m).pre.0 in (
-      made p.0 p.1 p.2 m.merge-ends.ensures (rows w) r.rename.ensures w.before.fewer.ensures u.all-used.ensures
-          (not-false _ r.before.before.if1.false) b.build-front.ensures.0,
-      b.build-front.ensures.1,
+    let p = c.requires.0 in (
+      made p.0 p.1 p.2 c.merge_ends.ensures (rows c.before.before.before.before.before.before.before.before.before.before.before.before.before.before.before.before.before.before.before.before) c.rename.ensures c.fewer-left.ensures c.all_used.ensures
+          (not-false _ c.if-not-all_used.false-raw) c.build_front.ensures.0,
+      c.build_front.ensures.1,
     )
 
 pub replace_spec : {M : Type 1} → statement M

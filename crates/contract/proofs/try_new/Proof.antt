@@ -13,41 +13,30 @@ use borrow.Author.Rules.{rules}
 use Rattle.contract.proofs.try_new.Statement.{statement}
 use Rattle.contract.proofs.try_new.Tie as tie
 
-abbrev start : tie.After-wide2 → tie.Start
-start c = c.before.before.before.before.before.before.before
-
 -- where the list is kept
-abbrev end : tie.After-wide2 → ℕ
-end c = c.before.wide.result + 12 * c.wide2.result
+abbrev end : tie.After-wide-2 → ℕ
+end c = c.wide.result + 12 * c.wide-2.result
 
-inside : (c : tie.After-wide2) → let a = (start c).args in end c + length a.list.now ≤ length a.work.now
+inside : (c : tie.After-wide-2) → let a = c.args in end c + length a.list.now ≤ length a.work.now
 inside c =
-    let s = start c in
-    let p = s.pre.0 in omega (arith, fours p.0 p.1, s.pre.1.1, c.wide2.ensures, c.before.wide.ensures)
-
-abbrev ended : tie.After-copy → tie.After-wide2
-ended c = c.before.before.before
+    let p = c.requires.0 in omega (arith, fours p.0 p.1, c.requires.1.1, c.wide-2.ensures, c.wide.ensures)
 
 -- the list is kept, and the new one tried before it
-abbrev kept : tie.After-replace → tie.After-copy
+abbrev kept : tie.After-replace-a → tie.After-copy
 kept c = c.before.before.before.before.before.before.before.before
 
-abbrev before : tie.After-replace → List ℕ
-before c = c.replace.new.1.1.1.1.1.1.1.0
+abbrev before : tie.After-replace-a → List ℕ
+before c = c.replace-a.new.work
 
-front : (c : tie.After-replace) → length (before c) ≡ end (ended (kept c))
+front : (c : tie.After-replace-a) → length (before c) ≡ end c.before.before.before.before.before.before.before.before.before.before
 front c =
-    let k = kept c in
-    let e = ended k in
-    let s = start e in c.replace.ensures.1 ∙ before_long (end e) s.args.list.now s.args.work.now (inside e) k.copy.ensures
+    c.replace-a.ensures.1 ∙ before_long (end c.before.before.before.before.before.before.before.before.before.before) c.args.list.now c.args.work.now (inside c.before.before.before.before.before.before.before.before.before.before) c.copy.ensures
 
-long : (c : tie.After-replace) → let k = kept c in let e = ended k in let a = (start e).args in
-    length (before c ++ drop (end e - 0) (keeping (end e) a.list.now a.work.now (inside e) k.copy.ensures))
+long : (c : tie.After-replace-a) → let a = c.args in
+    length (before c ++ drop (end c.before.before.before.before.before.before.before.before.before.before - 0) (keeping (end c.before.before.before.before.before.before.before.before.before.before) a.list.now a.work.now (inside c.before.before.before.before.before.before.before.before.before.before) c.copy.ensures))
     ≡ length a.work.now
 long c =
-    let k = kept c in
-    let e = ended k in
-    let s = start e in still_long (end e) s.args.list.now s.args.work.now (inside e) k.copy.ensures (before c) (front c)
+    still_long (end c.before.before.before.before.before.before.before.before.before.before) c.args.list.now c.args.work.now (inside c.before.before.before.before.before.before.before.before.before.before) c.copy.ensures (before c) (front c)
 
 wide_requires : tie.Need-wide-requires
 wide_requires c κs = search rules
@@ -55,124 +44,112 @@ wide_requires c κs = search rules
 wide_requires_2 : tie.Need-wide-requires-2
 wide_requires_2 c κs = search rules
 
-mul_end : tie.Need-overflow-mul-end
+mul_end : tie.Need-overflow_mul-end
 mul_end c = search rules
 
-add_end : tie.Need-overflow-add-end
+add_end : tie.Need-overflow_add-end
 add_end c = search rules
 
-add_last : tie.Need-overflow-add-last
+add_last : tie.Need-overflow_add-last
 add_last c = search rules
 
-mul_copy : tie.Need-overflow-mul-copy
+mul_copy : tie.Need-offset_bounds-work-end
 mul_copy c = search rules
 
-sub_copy : tie.Need-overflow-sub-copy
+sub_copy : tie.Need-slice_bounds-copy-count
 sub_copy c = search rules
 
-part_copy_start : tie.Need-slice-bounds-copy-start
+part_copy_start : tie.Need-slice_bounds-copy-start
 part_copy_start c = search rules
 
-part_copy_end : tie.Need-slice-bounds-copy-end
+part_copy_end : tie.Need-slice_bounds-copy-end
 part_copy_end c = search rules
 
 copy_requires : tie.Need-copy-requires
-copy_requires c κs = let e = c.before.before in let s = start e in room_to_keep (end e) s.args.list.now s.args.work.now (inside e)
+copy_requires c κs = room_to_keep (end c.before) c.args.list.now c.args.work.now (inside c.before)
 
-sub_replace : tie.Need-overflow-sub-replace
+sub_replace : tie.Need-slice_bounds-replace-count
 sub_replace c = search rules
 
-part_replace_start : tie.Need-slice-bounds-replace-start
+part_replace_start : tie.Need-slice_bounds-replace-start
 part_replace_start c = search rules
 
-part_replace_end : tie.Need-slice-bounds-replace-end
+part_replace_end : tie.Need-slice_bounds-replace-end
 part_replace_end c = search rules
 
-replace_requires : tie.Need-replace-requires
+replace_requires : tie.Need-replace-a-requires
 replace_requires c κs =
-    let k = c.before.before.before.before.before.before.before in
-    let e = ended k in
-    let s = start e in
-    let front = before_long (end e) s.args.list.now s.args.work.now (inside e) k.copy.ensures in
-    (s.pre.0, (s.pre.1.0, omega (arith, front, e.wide2.ensures, e.before.wide.ensures)))
+    let front = before_long (end c.before.before.before.before.before.before.before.before.before) c.args.list.now c.args.work.now (inside c.before.before.before.before.before.before.before.before.before) c.copy.ensures in
+    (c.requires.0, (c.requires.1.0, omega (arith, front, c.wide-2.ensures, c.wide.ensures)))
 
-enum_told : tie.Need-enum-told
+enum_told : tie.Need-enum_told-1
 enum_told c = search rules
 
-enum_told_2 : tie.Need-enum-told-2
+enum_told_2 : tie.Need-enum_told-in_default
 enum_told_2 c = search rules
 
-mul_copy_2 : tie.Need-overflow-mul-copy-2
+mul_copy_2 : tie.Need-offset_bounds-work-end-in_default
 mul_copy_2 c = search rules
 
-sub_copy_2 : tie.Need-overflow-sub-copy-2
+sub_copy_2 : tie.Need-slice_bounds-copy-count-in_default
 sub_copy_2 c = search rules
 
-part_copy_start_2 : tie.Need-slice-bounds-copy-start-2
+part_copy_start_2 : tie.Need-slice_bounds-copy-start-in_default
 part_copy_start_2 c = search rules
 
-part_copy_end_2 : tie.Need-slice-bounds-copy-end-2
+part_copy_end_2 : tie.Need-slice_bounds-copy-end-in_default
 part_copy_end_2 c =
-    let r = c.before.before.before.before.before.before.before.before.before.before.before.before.before in
-    let h = long r in
-    let i = inside (ended (kept r)) in search rules
+    let h = long c.before.before.before.before.before.before.before.before.before.before.before in
+    let i = inside c.before.before.before.before.before.before.before.before.before.before.before.before.before.before.before.before.before.before.before.before.before in search rules
 
-copy_requires_2 : tie.Need-copy-requires-2
+copy_requires_2 : tie.Need-copy-requires-in_default
 copy_requires_2 c κs = search rules
 
-same_length : tie.Need-same-length
+same_length : tie.Need-shape_of-list-in_default
 same_length c = search rules
 
-same_length_2 : tie.Need-same-length-2
+same_length_2 : tie.Need-shape_of-v2e-in_default
 same_length_2 c = search rules
 
-same_length_3 : tie.Need-same-length-3
+same_length_3 : tie.Need-shape_of-e2e-in_default
 same_length_3 c = search rules
 
-same_length_4 : tie.Need-same-length-4
+same_length_4 : tie.Need-shape_of-b2e-in_default
 same_length_4 c = search rules
 
-same_length_5 : tie.Need-same-length-5
+same_length_5 : tie.Need-shape_of-work-in_default
 same_length_5 c = search rules
 
-returns : tie.Need-returns
+returns : tie.Need-returns-in_default
 returns c =
-    let back = c.before.before in
-    let told = back.before.before.before.before in
-    let r = told.before.before.before.before.before.before.before.before.before.before.before.before in
-    let k = kept r in
-    let e = ended k in
-    let s = start e in
-    let L = s.args.list.now in
-    let (tried, replaced) = r.replace.ensures.0 in
-    let count : end e + length L - end e ≡ length L = omega arith in
+    let L = c.args.list.now in
+    let (tried, replaced) = c.replace-a.ensures.0 in
+    let count : end c.before.before.before.before.before.before.before.before.before.before.before.before.before.before.before.before.before.before.before.before.before.before.before.before.before.before + length L - end c.before.before.before.before.before.before.before.before.before.before.before.before.before.before.before.before.before.before.before.before.before.before.before.before.before.before ≡ length L = omega arith in
     let old =
-    put_back (end e) L s.args.work.now (inside e) k.copy.ensures (before r) (front r) count
-    r.replace.new.1.1.1.0 replaced.long back.copy2.ensures in
-    ((tried, old ∙ sym (after_refusal _ L (ap numbers told.enum-told2.given.1))), long r)
+    put_back (end c.before.before.before.before.before.before.before.before.before.before.before.before.before.before.before.before.before.before.before.before.before.before.before.before.before.before) L c.args.work.now (inside c.before.before.before.before.before.before.before.before.before.before.before.before.before.before.before.before.before.before.before.before.before.before.before.before.before.before) c.copy.ensures (before c.before.before.before.before.before.before.before.before.before.before.before.before.before.before.before.before) (front c.before.before.before.before.before.before.before.before.before.before.before.before.before.before.before.before) count
+    c.replace-a.new.list replaced.long c.copy-in_default.ensures in
+    ((tried, old ∙ sym (after_refusal _ L (ap numbers c.in_default.is))), long c.before.before.before.before.before.before.before.before.before.before.before.before.before.before.before.before)
 
-same_length_6 : tie.Need-same-length-6
+same_length_6 : tie.Need-shape_of-list
 same_length_6 c = search rules
 
-same_length_7 : tie.Need-same-length-7
+same_length_7 : tie.Need-shape_of-v2e
 same_length_7 c = search rules
 
-same_length_8 : tie.Need-same-length-8
+same_length_8 : tie.Need-shape_of-e2e
 same_length_8 c = search rules
 
-same_length_9 : tie.Need-same-length-9
+same_length_9 : tie.Need-shape_of-b2e
 same_length_9 c = search rules
 
-same_length_10 : tie.Need-same-length-10
+same_length_10 : tie.Need-shape_of-work
 same_length_10 c = search rules
 
-returns_2 : tie.Need-returns-2
+returns_2 : tie.Need-returns
 returns_2 c =
-    let r = c.before.before.before.before.before.before.before.before.before.before.before.before in
-    let s = start (ended (kept r)) in
-    let (tried, replaced) = r.replace.ensures.0 in
-    let gave = ap numbers c.enum_told.given.1 in
-    ((tried, replaced.list gave ∙ sym (after_answer _ s.args.list.now gave)), long r)
+    let (tried, replaced) = c.replace-a.ensures.0 in
+    let gave = ap numbers c.in-Gives.is in
+    ((tried, replaced.list gave ∙ sym (after_answer _ c.args.list.now gave)), long c.before.before.before.before.before.before.before.before.before.before.before)
 
 pub try_new_spec : {M : Type 1} → statement M
 try_new_spec =

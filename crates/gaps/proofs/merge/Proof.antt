@@ -9,56 +9,47 @@ use borrow.Author.Rules.{rules}
 use Rattle.gaps.proofs.merge.Statement.{statement}
 use Rattle.gaps.proofs.merge.Tie as tie
 
--- the rows on the edge have gone, and those that stay are counted
-abbrev gone : tie.After-wide → tie.After-without-edge
-gone c = c.before.before.before.before
+abbrev list : tie.After-wide-rows → List ℕ
+list c = c.without_edge.new.list
 
-abbrev start : tie.After-wide → tie.Start
-start c = (gone c).before.before.before
+end : (c : tie.After-wide-rows) → let a = c.args in 4 * c.wide-rows.result ≡ 4 * fewer_by a.m a.t
+end c = ap (λ (k : ℕ). 4 * k) (c.wide-rows.ensures ∙ c.fewer.ensures)
 
-abbrev list : tie.After-wide → List ℕ
-list c = (gone c).without-edge.new.1.0
-
-end : (c : tie.After-wide) → let a = (start c).args in 4 * c.wide.result ≡ 4 * fewer_by a.m a.t
-end c = ap (λ (k : ℕ). 4 * k) (c.wide.ensures ∙ c.before.fewer.ensures)
-
-without_edge_requires : tie.Need-without-edge-requires
+without_edge_requires : tie.Need-without_edge-requires
 without_edge_requires c κs = search rules
 
 fewer_requires : tie.Need-fewer-requires
-fewer_requires c κs = fewer_fits c.before.before.before.before.before.requires.0
+fewer_requires c κs = fewer_fits c.requires.0
 
-wide_requires : tie.Need-wide-requires
+wide_requires : tie.Need-wide-rows-requires
 wide_requires c κs = search rules
 
-mul_rows : tie.Need-overflow-mul-rows
+mul_rows : tie.Need-overflow_mul-rows
 mul_rows c = search rules
 
-sub_rename : tie.Need-overflow-sub-rename
+sub_rename : tie.Need-slice_bounds-rename-count
 sub_rename c = search rules
 
-part_rename_start : tie.Need-slice-bounds-rename-start
+part_rename_start : tie.Need-slice_bounds-rename-start
 part_rename_start c = search rules
 
-part_rename_end : tie.Need-slice-bounds-rename-end
+part_rename_end : tie.Need-slice_bounds-rename-end
 part_rename_end c =
-    let (x, from, to) = (start c).requires in
-    let (long, is) = (gone c).without-edge.ensures in
+    let (x, from, to) = c.requires in
+    let (long, is) = c.without_edge.ensures in
     let h = end_inside x from to (list c) long is (end c) in search rules
 
 rename_requires : tie.Need-rename-requires
 rename_requires c κs = search rules
 
-same_length : tie.Need-same-length
+same_length : tie.Need-shape_of-list
 same_length c = search rules
 
 returns : tie.Need-returns
 returns c =
-    let done = c.before.before in
-    let rows = done.before.before in
-    let (x, from, to) = (start rows).requires in
-    let (long, is) = (gone rows).without-edge.ensures in
-    front_renamed x from to (list rows) long is (end rows) done.rename.ensures
+    let (x, from, to) = c.requires in
+    let (long, is) = c.without_edge.ensures in
+    front_renamed x from to (list c.before.before.before.before) long is (end c.before.before.before.before) c.rename.ensures
 
 pub merge_spec : {M : Type 1} → statement M
 merge_spec =

@@ -8,55 +8,50 @@ use borrow.Author.Rules.{rules}
 use Rattle.gaps.proofs.rename.Statement.{statement}
 use Rattle.gaps.proofs.rename.Tie as tie
 
-abbrev invariant_loop : tie.invariant-loop
+abbrev invariant_loop : tie.invariant-loop-p
 invariant_loop old new list₀ p₀ list p = Begun old new list₀ list p
 
-abbrev decreases_loop : tie.decreases-loop
+abbrev decreases_loop : tie.decreases-loop-p
 decreases_loop old new list₀ p₀ list p = length list₀ - p
 
--- the turn of the loop in which the entry was read
-abbrev turn : tie.After-instead invariant_loop decreases_loop → tie.At-loop invariant_loop decreases_loop
-turn c = c.before.before.before
+loop_holds : tie.Need-loop-p-init invariant_loop decreases_loop
+loop_holds c = let a = c.args in not_begun a.old a.new a.list.now
 
-loop_holds : tie.Need-loop-init invariant_loop decreases_loop
-loop_holds c = let a = c.before.args in not_begun a.old a.new a.list.now
-
-mul_instead : tie.Need-overflow-mul-instead invariant_loop decreases_loop
+mul_instead : tie.Need-offset_bounds-list-p invariant_loop decreases_loop
 mul_instead c = search rules
 
-slice_read_instead : tie.Need-slice-read-instead invariant_loop decreases_loop
+slice_read_instead : tie.Need-bounds-list-p invariant_loop decreases_loop
 slice_read_instead c = search rules
 
 instead_requires : tie.Need-instead-requires invariant_loop decreases_loop
 instead_requires c κs = search rules
 
-mul_list : tie.Need-overflow-mul-list invariant_loop decreases_loop
+mul_list : tie.Need-offset_bounds-list-p-in-loop-p invariant_loop decreases_loop
 mul_list c = search rules
 
-slice_write_list : tie.Need-slice-write-list invariant_loop decreases_loop
+slice_write_list : tie.Need-bounds-list-p-in-loop-p invariant_loop decreases_loop
 slice_write_list c = search rules
 
-add_p : tie.Need-overflow-add-p invariant_loop decreases_loop
+add_p : tie.Need-overflow_add-p invariant_loop decreases_loop
 add_p c = search rules
 
-loop_less : tie.Need-loop-smaller invariant_loop decreases_loop
-loop_less c = let long = (turn c).loop.invariant.kept.long in omega arith
+loop_less : tie.Need-loop-p-smaller invariant_loop decreases_loop
+loop_less c = let long = c.loop-p.invariant.kept.long in omega arith
 
-loop_again : tie.Need-loop-preserved invariant_loop decreases_loop
+loop_again : tie.Need-loop-p-preserved invariant_loop decreases_loop
 loop_again c =
-    let begun = turn c in
-    let a = begun.before.before.args in
-    let long = begun.loop.inv.kept.long in
-    one_more a.old a.new a.list.now begun.loop.inv (omega arith) c.instead.ensures
+    let a = c.args in
+    let long = c.loop-p.invariant.kept.long in
+    one_more a.old a.new a.list.now c.loop-p.invariant (omega arith) c.instead.ensures
 
-same_length : tie.Need-same-length invariant_loop decreases_loop
-same_length c = c.before.loop.invariant.kept.long
+same_length : tie.Need-shape_of-list invariant_loop decreases_loop
+same_length c = c.loop-p.invariant.kept.long
 
 returns : tie.Need-returns invariant_loop decreases_loop
 returns c =
-    let a = c.before.before.before.args in
-    let long = c.before.loop.invariant.kept.long in
-    all_renamed a.old a.new a.list.now c.before.loop.invariant (omega arith)
+    let a = c.args in
+    let long = c.loop-p.invariant.kept.long in
+    all_renamed a.old a.new a.list.now c.loop-p.invariant (omega arith)
 
 pub rename_spec : {M : Type 1} → statement M
 rename_spec =

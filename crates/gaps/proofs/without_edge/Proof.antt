@@ -11,72 +11,56 @@ use borrow.Author.Rules.{rules}
 use Rattle.gaps.proofs.without_edge.Statement.{statement}
 use Rattle.gaps.proofs.without_edge.Tie as tie
 
--- the entry is a border's, or the partner
-abbrev start : tie.After-is-border → tie.Start
-start c = c.before.before
+border : (c : tie.Then-is_border) → c.args.t % 8 ≡ 0
+border c = of_border _ c.is_border.ensures c.if-is_border.true
 
-border : (c : tie.Then1) → (start c.before).args.t % 8 ≡ 0
-border c = of_border _ c.before.is-border.ensures c.if1.true
+inner : (c : tie.Else-is_border) → c.args.t % 8 ≡ 0 → ⊥
+inner c = of_side _ c.is_border.ensures c.if-is_border.false
 
-inner : (c : tie.Else1) → (start c.before).args.t % 8 ≡ 0 → ⊥
-inner c = of_side _ c.before.is-border.ensures c.if1.false
-
-is_border_requires : tie.Need-is-border-requires
+is_border_requires : tie.Need-is_border-requires
 is_border_requires c κs = search rules
 
-element_of_requires : tie.Need-element-of-requires
+element_of_requires : tie.Need-element_of-requires
 element_of_requires c κs = search rules
 
-without_row_requires : tie.Need-without-row-requires
+without_row_requires : tie.Need-without_row-requires
 without_row_requires c κs =
-    let one = c.before in
-    let s = start one.before.before in
-    omega (arith, row_there s.pre, one.element-of.ensures, s.pre.inside)
+    omega (arith, row_there c.requires, c.element_of.ensures, c.requires.inside)
 
-same_length : tie.Need-same-length
+same_length : tie.Need-shape_of-list-then-is_border
 same_length c = search rules
 
-returns : tie.Need-returns
+returns : tie.Need-returns-then-is_border
 returns c =
-    let gone = c.before.before in
-    let one = gone.before.before in
-    let s = start one.before.before in
-    let (long, front) = gone.without-row.ensures in
-    let L = take (4 * s.args.m) s.args.list.now in
-    border_goes s.pre (border one.before) gone.without-row.new.1.1.0
-    (long, front ∙ ap (λ (f : ℕ). without_row f L) one.element-of.ensures)
+    let (long, front) = c.without_row.ensures in
+    let L = take (4 * c.args.m) c.args.list.now in
+    border_goes c.requires (border c.before.before.before.before.before) c.without_row.new.list
+    (long, front ∙ ap (λ (f : ℕ). without_row f L) c.element_of.ensures)
 
-element_of_requires_2 : tie.Need-element-of-requires-2
+element_of_requires_2 : tie.Need-element_of-requires-2
 element_of_requires_2 c κs = search rules
 
-element_of_requires_3 : tie.Need-element-of-requires-3
+element_of_requires_3 : tie.Need-element_of-requires-3
 element_of_requires_3 c κs = search rules
 
-without_both_requires : tie.Need-without-both-requires
+without_both_requires : tie.Need-without_both-requires
 without_both_requires c κs =
-    let two = c.before in
-    let one = two.before in
-    let s = start one.before.before in
-    let x = s.pre in
-    let d = inner one.before in
-    let e = one.element-of2.ensures in
-    let f = two.element-of3.ensures in
+    let x = c.requires in
+    let d = inner c.before.before.before in
+    let e = c.element_of-2.ensures in
+    let f = c.element_of-3.ensures in
     (omega (arith, row_there x, other_there x d, e, f, x.inside), (λ z. rows_differ x d (sym e ∙ z ∙ f)))
 
-same_length_2 : tie.Need-same-length-2
+same_length_2 : tie.Need-shape_of-list
 same_length_2 c = search rules
 
-returns_2 : tie.Need-returns-2
+returns_2 : tie.Need-returns
 returns_2 c =
-    let gone = c.before.before in
-    let two = gone.before.before in
-    let one = two.before in
-    let s = start one.before.before in
-    let e = one.element-of2.ensures in
-    let f = two.element-of3.ensures in
-    let (long, front) = gone.without-both.ensures in
-    let L = take (4 * s.args.m) s.args.list.now in
-    inner_goes s.pre (inner one.before) gone.without-both.new.1.1.1.0 (long, front ∙ (λ i. without_both (e i) (f i) L))
+    let e = c.element_of-2.ensures in
+    let f = c.element_of-3.ensures in
+    let (long, front) = c.without_both.ensures in
+    let L = take (4 * c.args.m) c.args.list.now in
+    inner_goes c.requires (inner c.before.before.before.before.before.before) c.without_both.new.list (long, front ∙ (λ i. without_both (e i) (f i) L))
 
 pub without_edge_spec : {M : Type 1} → statement M
 without_edge_spec =

@@ -27,9 +27,6 @@ use borrow.Author.Rules.{rules}
 use Rattle.split.proofs.admit.Statement.{statement}
 use Rattle.split.proofs.admit.Tie as tie
 
-abbrev start : tie.After-wide2 → tie.Start
-start c = c.before.before.before.before.before.before.before.before
-
 -- what is lent
 abbrev lends : tie.Start → Lent
 lends c = let a = c.args in lent_edit a.n a.m a.list.now a.v2e.now a.e2e.now a.b2e.now a.work.now
@@ -38,186 +35,139 @@ abbrev points : tie.Start → List Float
 points c = c.args.points.now
 
 -- the rows that are held
-front : (c : tie.After-wide2) → take (4 * c.wide2.result - 0) (start c).args.list.now ≡ held (lends (start c))
+front : (c : tie.After-wide-rows) → take (4 * c.wide-rows.result - 0) c.args.list.now ≡ held (lends c.before.before.before.before.before.before.before.before)
 front c =
-    let e : 4 * c.wide2.result - 0 ≡ 4 * (start c).args.m = omega (arith, c.wide2.ensures) in
-    ap (λ (k : ℕ). take k (start c).args.list.now) e
+    let e : 4 * c.wide-rows.result - 0 ≡ 4 * c.args.m = omega (arith, c.wide-rows.ensures) in
+    ap (λ (k : ℕ). take k c.args.list.now) e
 
 -- their tables, with n as an index
-tables : (c : tie.After-wide2) → Tabled c.before.wide.result (take (4 * c.wide2.result - 0) (start c).args.list.now) (start c).args.work.now
-tables c = tabled_at c.before.wide.ensures (front c) (start c).requires.tabled
+tables : (c : tie.After-wide-rows) → Tabled c.wide-vertices.result (take (4 * c.wide-rows.result - 0) c.args.list.now) c.args.work.now
+tables c = tabled_at c.wide-vertices.ensures (front c) c.requires.tabled
 
--- the half-edge is there
-abbrev began : tie.After-is-there → tie.After-wide2
-began c = c.before.before
-
-asked : (c : tie.After-is-there) {b : Bool} → let s = start (began c) in c.is-there.result ≡ b → is_there (held (lends s)) s.args.code ≡ b
+asked : (c : tie.After-is_there) {b : Bool} → c.is_there.result ≡ b → is_there (held (lends c.before.before.before.before.before.before.before.before.before.before)) c.args.code ≡ b
 asked c e =
-    ap (λ (X : List ℕ). is_there X (start (began c)).args.code) (sym (front (began c))) ∙ sym c.is-there.ensures ∙ e
+    ap (λ (X : List ℕ). is_there X c.args.code) (sym (front c.before.before)) ∙ sym c.is_there.ensures ∙ e
 
-abbrev opened : tie.Else1 → tie.After-wide2
-opened c = began c.before
-
-there : (c : tie.Else1) → let s = start (opened c) in is_there (held (lends s)) s.args.code ≡ true
-there c = asked c.before (not-false _ c.if1.false)
+there : (c : tie.Else-not-is_there) → is_there (held (lends c.before.before.before.before.before.before.before.before.before.before.before)) c.args.code ≡ true
+there c = asked c.before (not-false _ c.if-not-is_there.false-raw)
 
 -- and a side that may be split
-tried : (c : tie.After-is-splittable) {b : Bool} → let s = start (opened c.before) in
-    c.is-splittable.result ≡ b → is_splittable (held (lends s)) s.args.code ≡ b
+tried : (c : tie.After-is_splittable) {b : Bool} → c.is_splittable.result ≡ b → is_splittable (held (lends c.before.before.before.before.before.before.before.before.before.before.before.before)) c.args.code ≡ b
 tried c e =
-    let o = opened c.before in
-    ap (λ (X : List ℕ). is_splittable X (start o).args.code) (sym (front o)) ∙ sym c.is-splittable.ensures ∙ e
+    ap (λ (X : List ℕ). is_splittable X c.args.code) (sym (front c.before.before.before.before)) ∙ sym c.is_splittable.ensures ∙ e
 
-abbrev passed : tie.Else2 → tie.Else1
-passed c = c.before.before
+fit : (c : tie.Else-not-is_splittable) → is_splittable (held (lends c.before.before.before.before.before.before.before.before.before.before.before.before.before)) c.args.code ≡ true
+fit c = tried c.before (not-false _ c.if-not-is_splittable.false-raw)
 
-fit : (c : tie.Else2) → let s = start (opened (passed c)) in is_splittable (held (lends s)) s.args.code ≡ true
-fit c = tried c.before (not-false _ c.if2.false)
-
--- with its entry in E2e, and the new m
-abbrev sided : tie.After-entry-of → tie.Start
-sided c = start (opened (passed c.before))
-
-entry : (c : tie.After-entry-of) → let s = sided c in c.entry-of.result ≡ at (wide (held (lends s))) (slot s.args.code)
+entry : (c : tie.After-entry_of-t) → c.entry_of-t.result ≡ at (wide (held (lends c.before.before.before.before.before.before.before.before.before.before.before.before.before.before))) (slot c.args.code)
 entry c =
-    let o = opened (passed c.before) in
-    c.entry-of.ensures ∙ ap (λ (X : List ℕ). at (wide X) (slot (start o).args.code)) (front o)
+    c.entry_of-t.ensures ∙ ap (λ (X : List ℕ). at (wide X) (slot c.args.code)) (front c.before.before.before.before.before.before)
 
-counted : (c : tie.After-by-border) → let s = sided c.before in c.by-border.result ≡ elements (new (lends s) s.args.code)
+counted : (c : tie.After-by_border-elements) → c.by_border-elements.result ≡ elements (new (lends c.before.before.before.before.before.before.before.before.before.before.before.before.before.before.before) c.args.code)
 counted c =
-    let s = sided c.before in
-    let w = lends s in
-    let two = c.before.before in
-    let m = held_elements s.args.m s.args.list.now s.pre.inside in
-    c.by-border.ensures
-    ∙ (λ i. by_border c.before.entry-of.result (sym m i + 1) (sym m i + 2))
-    ∙ sym (elements_then (cuttable w (points s) s.args.code (there (passed two)) (fit two) s.pre (entry c.before)) (w.n + 1))
+    let w = lends c.before.before.before.before.before.before.before.before.before.before.before.before.before.before.before in
+    let m = held_elements c.args.m c.args.list.now c.requires.inside in
+    c.by_border-elements.ensures
+    ∙ (λ i. by_border c.entry_of-t.result (sym m i + 1) (sym m i + 2))
+    ∙ sym (elements_then (cuttable w (points c.before.before.before.before.before.before.before.before.before.before.before.before.before.before.before) c.args.code (there c.before.before.before.before) (fit c.before.before) c.requires (entry c.before)) (w.n + 1))
 
--- by 19
-abbrev chosen : tie.After-can-hold → tie.Start
-chosen c = sided c.before.before
-
-told : (c : tie.After-can-hold) {b : Bool} → let s = chosen c in
-    let w = lends s in c.can-hold.result ≡ b → can_hold w (points s) (vertex w) (new w s.args.code) ≡ b
+told : (c : tie.After-can_hold) {b : Bool} → let w = lends c.before.before.before.before.before.before.before.before.before.before.before.before.before.before.before.before in c.can_hold.result ≡ b → can_hold w (points c.before.before.before.before.before.before.before.before.before.before.before.before.before.before.before.before) (vertex w) (new w c.args.code) ≡ b
 told c e =
-    let s = chosen c in
-    let w = lends s in
-    sym (can_hold_by w (points s) (w.n + 1) (new w s.args.code) s.pre.columned (counted c.before)) ∙ sym c.can-hold.ensures ∙ e
+    let w = lends c.before.before.before.before.before.before.before.before.before.before.before.before.before.before.before.before in
+    sym (can_hold_by w (points c.before.before.before.before.before.before.before.before.before.before.before.before.before.before.before.before) (w.n + 1) (new w c.args.code) c.requires.columned (counted c.before)) ∙ sym c.can_hold.ensures ∙ e
 
-wide_requires : tie.Need-wide-requires
+wide_requires : tie.Need-wide-vertices-requires
 wide_requires c κs = search rules
 
-wide_requires_2 : tie.Need-wide-requires-2
+wide_requires_2 : tie.Need-wide-rows-requires
 wide_requires_2 c κs = search rules
 
-mul_rows : tie.Need-overflow-mul-rows
+mul_rows : tie.Need-overflow_mul-rows
 mul_rows c = search rules
 
-sub_held : tie.Need-overflow-sub-held
+sub_held : tie.Need-slice_bounds-held-count
 sub_held c = search rules
 
-part_held_start : tie.Need-slice-bounds-held-start
+part_held_start : tie.Need-slice_bounds-held-start
 part_held_start c = search rules
 
-part_held_end : tie.Need-slice-bounds-held-end
+part_held_end : tie.Need-slice_bounds-held-end
 part_held_end c = search rules
 
-is_there_requires : tie.Need-is-there-requires
-is_there_requires c κs = let o = c.before in (start o).requires.number ∙ ap borders (sym (front o))
+is_there_requires : tie.Need-is_there-requires
+is_there_requires c κs = c.requires.number ∙ ap borders (sym (front c.before))
 
 refuse_requires : tie.Need-refuse-requires
 refuse_requires c κs = search rules
 
-returns : tie.Need-returns
+returns : tie.Need-returns-then-not-is_there
 returns c =
-    let one = c.before.before in
-    let s = start (began one) in
-    gone (lends s) (points s) s.args.code (asked one (not-true _ c.before.if1.true)) c.refuse.ensures
+    gone (lends c.before.before.before.before.before.before.before.before.before.before.before.before) (points c.before.before.before.before.before.before.before.before.before.before.before.before) c.args.code (asked c.before.before (not-true _ c.if-not-is_there.true-raw)) c.refuse.ensures
 
-is_splittable_requires : tie.Need-is-splittable-requires
-is_splittable_requires c κs = tables (opened c)
+is_splittable_requires : tie.Need-is_splittable-requires
+is_splittable_requires c κs = tables c.before.before.before
 
-refuse_requires_2 : tie.Need-refuse-requires-2
+refuse_requires_2 : tie.Need-refuse-requires-then-not-is_splittable
 refuse_requires_2 c κs = search rules
 
-returns_2 : tie.Need-returns-2
+returns_2 : tie.Need-returns-then-not-is_splittable
 returns_2 c =
-    let two = c.before.before in
-    let s = start (opened two.before) in
-    unfit (lends s) (points s) s.args.code (there two.before) (tried two (not-true _ c.before.if2.true)) c.refuse2.ensures
+    unfit (lends c.before.before.before.before.before.before.before.before.before.before.before.before.before.before) (points c.before.before.before.before.before.before.before.before.before.before.before.before.before.before) c.args.code (there c.before.before.before) (tried c.before.before (not-true _ c.if-not-is_splittable.true-raw)) c.refuse-then-not-is_splittable.ensures
 
-entry_of_requires : tie.Need-entry-of-requires
+entry_of_requires : tie.Need-entry_of-t-requires
 entry_of_requires c κs =
-    let o = opened (passed c) in
-    let s = start o in
-    (tables o, rw (front o) ((means_splittable (held (lends s)) s.args.code).says (rw (fit c) tt)).side)
+    (tables c.before.before.before.before.before, rw (front c.before.before.before.before.before) ((means_splittable (held (lends c.before.before.before.before.before.before.before.before.before.before.before.before.before)) c.args.code).says (rw (fit c) tt)).side)
 
-add_by_border : tie.Need-overflow-add-by-border
-add_by_border c = let s = sided c in let h = s.pre.tabled.size in let e = held_elements s.args.m s.args.list.now s.pre.inside in search rules
+add_by_border : tie.Need-overflow_add-m
+add_by_border c = let h = c.requires.tabled.size in let e = held_elements c.args.m c.args.list.now c.requires.inside in search rules
 
-add_by_border_2 : tie.Need-overflow-add-by-border-2
-add_by_border_2 c = let s = sided c in let h = s.pre.tabled.size in let e = held_elements s.args.m s.args.list.now s.pre.inside in search rules
+add_by_border_2 : tie.Need-overflow_add-m-2
+add_by_border_2 c = let h = c.requires.tabled.size in let e = held_elements c.args.m c.args.list.now c.requires.inside in search rules
 
-by_border_requires : tie.Need-by-border-requires
+by_border_requires : tie.Need-by_border-elements-requires
 by_border_requires c κs = search rules
 
-add_can_hold : tie.Need-overflow-add-can-hold
-add_can_hold c = let h = (sided c.before).requires.tabled.vertices in search rules
+add_can_hold : tie.Need-overflow_add-n
+add_can_hold c = let h = c.requires.tabled.vertices in search rules
 
-can_hold_requires : tie.Need-can-hold-requires
-can_hold_requires c κs = let s = sided c.before in rw s.pre.columned (three_or_four (held (lends s)))
+can_hold_requires : tie.Need-can_hold-requires
+can_hold_requires c κs = rw c.requires.columned (three_or_four (held (lends c.before.before.before.before.before.before.before.before.before.before.before.before.before.before.before)))
 
-refuse_requires_3 : tie.Need-refuse-requires-3
+refuse_requires_3 : tie.Need-refuse-requires-then-not-can_hold
 refuse_requires_3 c κs = search rules
 
-returns_3 : tie.Need-returns-3
+returns_3 : tie.Need-returns-then-not-can_hold
 returns_3 c =
-    let asked = c.before.before in
-    let s = chosen asked in
-    let two = asked.before.before.before in
-    full (lends s) (points s) s.args.code (there (passed two)) (fit two) (told asked (not-true _ c.before.if3.true)) c.refuse3.ensures
+    full (lends c.before.before.before.before.before.before.before.before.before.before.before.before.before.before.before.before.before.before) (points c.before.before.before.before.before.before.before.before.before.before.before.before.before.before.before.before.before.before) c.args.code (there c.before.before.before.before.before.before.before) (fit c.before.before.before.before.before) (told c.before.before (not-true _ c.if-not-can_hold.true-raw)) c.refuse-then-not-can_hold.ensures
 
-add_by_border_3 : tie.Need-overflow-add-by-border-3
+add_by_border_3 : tie.Need-overflow_add-k
 add_by_border_3 c =
-    let s = chosen c.before in
-    let L = held (lends s) in
-    let few : s.args.k ≤ 4 * max_element =
-    omega (arith, s.pre.number, borders_bound L, held_length s.args.m s.args.list.now s.pre.inside, s.pre.tabled.size) in
+    let L = held (lends c.before.before.before.before.before.before.before.before.before.before.before.before.before.before.before.before.before) in
+    let few : c.args.k ≤ 4 * max_element =
+    omega (arith, c.requires.number, borders_bound L, held_length c.args.m c.args.list.now c.requires.inside, c.requires.tabled.size) in
     search rules
 
-by_border_requires_2 : tie.Need-by-border-requires-2
+by_border_requires_2 : tie.Need-by_border-borders-requires
 by_border_requires_2 c κs = search rules
 
-wide_requires_3 : tie.Need-wide-requires-3
+wide_requires_3 : tie.Need-wide-requires
 wide_requires_3 c κs = search rules
 
-refuse_at_requires : tie.Need-refuse-at-requires
+refuse_at_requires : tie.Need-refuse_at-requires
 refuse_at_requires c κs = search rules
 
-returns_4 : tie.Need-returns-4
+returns_4 : tie.Need-returns-then-b2e-wide
 returns_4 c =
-    let short = c.before in
-    let k = short.before.before in
-    let asked = k.before.before in
-    let s = chosen asked in
-    let read = asked.before.before in
-    let two = read.before in
-    crowded (lends s) (points s) s.args.code (there (passed two)) (fit two) s.pre (entry read) (told asked (not-false _ k.before.if3.false))
-    k.by-border2.ensures (omega (arith, short.if4.true, short.before.wide3.ensures)) c.refuse-at.ensures
+    crowded (lends c.before.before.before.before.before.before.before.before.before.before.before.before.before.before.before.before.before.before.before.before.before) (points c.before.before.before.before.before.before.before.before.before.before.before.before.before.before.before.before.before.before.before.before.before) c.args.code (there c.before.before.before.before.before.before.before.before.before.before) (fit c.before.before.before.before.before.before.before.before) c.requires (entry c.before.before.before.before.before.before.before) (told c.before.before.before.before.before (not-false _ c.if-not-can_hold.false-raw))
+    c.by_border-borders.ensures (omega (arith, c.if-b2e-wide.true, c.wide.ensures)) c.refuse_at.ensures
 
-give_two_requires : tie.Need-give-two-requires
+give_two_requires : tie.Need-give_two-requires
 give_two_requires c κs = search rules
 
-returns_5 : tie.Need-returns-5
+returns_5 : tie.Need-returns
 returns_5 c =
-    let long = c.before in
-    let k = long.before.before in
-    let asked = k.before.before in
-    let s = chosen asked in
-    let read = asked.before.before in
-    let two = read.before in
-    admitted (lends s) (points s) s.args.code (there (passed two)) (fit two) s.pre (entry read) (told asked (not-false _ k.before.if3.false))
-    k.by-border2.ensures (counted asked.before) (omega (arith, long.if4.false, long.before.wide3.ensures)) c.give-two.ensures
+    admitted (lends c.before.before.before.before.before.before.before.before.before.before.before.before.before.before.before.before.before.before.before.before.before) (points c.before.before.before.before.before.before.before.before.before.before.before.before.before.before.before.before.before.before.before.before.before) c.args.code (there c.before.before.before.before.before.before.before.before.before.before) (fit c.before.before.before.before.before.before.before.before) c.requires (entry c.before.before.before.before.before.before.before) (told c.before.before.before.before.before (not-false _ c.if-not-can_hold.false-raw))
+    c.by_border-borders.ensures (counted c.before.before.before.before.before.before) (omega (arith, c.if-b2e-wide.false, c.wide.ensures)) c.give_two.ensures
 
 pub admit_spec : {M : Type 1} → statement M
 admit_spec =

@@ -17,9 +17,6 @@ use borrow.Author.Rules.{rules}
 use Rattle.split.proofs.split_fit.Statement.{statement}
 use Rattle.split.proofs.split_fit.Tie as tie
 
-abbrev start : tie.After-wide → tie.Start
-start c = c.before.before.before.before.before.before.before.before.before
-
 -- what is lent
 abbrev lends : tie.Start → Lent
 lends c = let a = c.args in lent_sized a.size.now a.list.now a.v2e.now a.e2e.now a.b2e.now a.work.now
@@ -27,167 +24,120 @@ lends c = let a = c.args in lent_sized a.size.now a.list.now a.v2e.now a.e2e.now
 abbrev points : tie.Start → List Float
 points c = c.args.points.now
 
-rows : (c : tie.After-wide) → 4 * c.wide.result - 0 ≡ 4 * (lends (start c)).m
-rows c = omega (arith, c.wide.ensures)
+rows : (c : tie.After-wide-rows) → 4 * c.wide-rows.result - 0 ≡ 4 * (lends c.before.before.before.before.before.before.before.before.before.before).m
+rows c = omega (arith, c.wide-rows.ensures)
 
--- the old list is tried
-abbrev began : tie.After-try-old → tie.After-wide
-began c = c.before.before.before.before
+counts : (c : tie.In-Gives) → numbers c.try_old-old.result ≡ gives c.in-Gives.first c.in-Gives.second
+counts c = ap numbers c.in-Gives.is
 
-abbrev tried : tie.After-slice-known7 → tie.After-try-old
-tried c = c.before.before
-
--- and accepted
-abbrev old : tie.After-known-told → tie.After-try-old
-old c = tried c.before.before.before
-
-abbrev opened : tie.After-known-told → tie.Start
-opened c = start (began (old c))
-
-counts : (c : tie.After-known-told) → numbers (old c).try-old.result ≡ gives c.before.old.given.0.0 c.before.old.given.0.1.0
-counts c = ap numbers c.before.old.given.1
-
--- 11, 15, 19 and 9 are tried
-abbrev accepted : tie.After-admit → tie.After-known-told
-accepted c = c.before.before.before.before.before.before.before
-
--- and find nothing
-abbrev admitted : tie.After-known-told2 → tie.After-admit
-admitted c = c.before.before.before
-
-may : (c : tie.After-known-told2) → let k = accepted (admitted c) in let s = opened k in
-    ToWrite (with_work (lends s) (old k).try-old.last.1.1.0) (points s) s.args.code c.before.a.given.0.0 c.before.a.given.0.1.0
+may : (c : tie.In-Gives-a) → ToWrite (with_work (lends c.before.before.before.before.before.before.before.before.before.before.before.before.before.before.before.before.before.before) c.try_old-old.new.work) (points c.before.before.before.before.before.before.before.before.before.before.before.before.before.before.before.before.before.before) c.args.code c.in-Gives-a.t c.in-Gives-a.elements
 may c =
-    let asked = admitted c in
-    let k = accepted asked in
-    let o = old k in
-    let s = opened k in
-    new_allowed (lends s) (points s) s.args.code s.pre (rows (began o)) o.try-old.ensures (counts k)
-    (ap numbers c.before.a.given.1) asked.admit.ensures
+    new_allowed (lends c.before.before.before.before.before.before.before.before.before.before.before.before.before.before.before.before.before.before) (points c.before.before.before.before.before.before.before.before.before.before.before.before.before.before.before.before.before.before) c.args.code c.requires (rows c.before.before.before.before.before.before.before.before) c.try_old-old.ensures (counts c.before.before)
+    (ap numbers c.in-Gives-a.is) c.admit-a.ensures
 
--- all is written, and the work buffer is as long as before
-abbrev told : tie.After-write → tie.After-known-told2
-told c = c.before.before.before.before.before.before.before.before
+long : (c : tie.After-write) → length c.write.new.work ≡ length c.args.work.now
+long c = c.write.ensures.1 ∙ c.try_old-old.ensures.long
 
-abbrev written : tie.After-slice-known13 → tie.After-write
-written c = c.before.before.before.before.before.before.before.before.before.before.before.before
-
-long : (c : tie.After-write) → length c.write.new.1.1.1.1.1.1.1.1.0 ≡ length (opened (accepted (admitted (told c)))).args.work.now
-long c = c.write.ensures.1 ∙ (old (accepted (admitted (told c)))).try-old.ensures.long
-
-element_copy_out_n : tie.Need-element-copy-out-n
+element_copy_out_n : tie.Need-bounds-size-0
 element_copy_out_n c = search rules
 
-element_copy_out_m : tie.Need-element-copy-out-m
+element_copy_out_m : tie.Need-bounds-size-1
 element_copy_out_m c = search rules
 
-wide_requires : tie.Need-wide-requires
+wide_requires : tie.Need-wide-rows-requires
 wide_requires c κs = search rules
 
-mul_rows : tie.Need-overflow-mul-rows
+mul_rows : tie.Need-overflow_mul-rows
 mul_rows c = search rules
 
-sub_try_old : tie.Need-overflow-sub-try-old
+sub_try_old : tie.Need-slice_bounds-try_old-count
 sub_try_old c = search rules
 
-part_try_old_start : tie.Need-slice-bounds-try-old-start
+part_try_old_start : tie.Need-slice_bounds-try_old-start
 part_try_old_start c = search rules
 
-part_try_old_end : tie.Need-slice-bounds-try-old-end
+part_try_old_end : tie.Need-slice_bounds-try_old-end
 part_try_old_end c = search rules
 
-try_old_requires : tie.Need-try-old-requires
-try_old_requires c κs = let w = c.before.before.before in let s = start w in to_try (lends s) (fitting (lends s) s.pre) (rows w)
+try_old_requires : tie.Need-try_old-old-requires
+try_old_requires c κs = to_try (lends c.before.before.before.before.before.before.before.before.before.before.before.before) (fitting (lends c.before.before.before.before.before.before.before.before.before.before.before.before) c.requires) (rows c.before.before)
 
-enum_known_old : tie.Need-enum-known-old
+enum_known_old : tie.Need-enum_known-old
 enum_known_old c = search rules
 
-enum_told : tie.Need-enum-told
+enum_told : tie.Need-enum_told-1
 enum_told c = search rules
 
-same_length : tie.Need-same-length
+same_length : tie.Need-shape_of-list-in_default
 same_length c = search rules
 
-same_length_2 : tie.Need-same-length-2
+same_length_2 : tie.Need-shape_of-work-in_default
 same_length_2 c = search rules
 
-returns : tie.Need-returns
+returns : tie.Need-returns-in_default
 returns c =
-    let o = tried c.before.before in
-    let s = start (began o) in
-    old_denied (lends s) (points s) s.args.code s.pre (rows (began o)) o.try-old.ensures (ap numbers c.enum_told.given.1)
+    old_denied (lends c.before.before.before.before.before.before.before.before.before.before.before.before.before.before.before.before) (points c.before.before.before.before.before.before.before.before.before.before.before.before.before.before.before.before) c.args.code c.requires (rows c.before.before.before.before.before.before) c.try_old-old.ensures (ap numbers c.in_default.is)
 
-admit_requires : tie.Need-admit-requires
+admit_requires : tie.Need-admit-a-requires
 admit_requires c κs =
-    let k = c.before.before.before.before.before.before in
-    let o = old k in
-    let s = opened k in
-    admissible (lends s) (points s) s.args.code s.pre (rows (began o)) o.try-old.ensures (counts k)
+    admissible (lends c.before.before.before.before.before.before.before.before.before.before.before.before.before.before.before.before) (points c.before.before.before.before.before.before.before.before.before.before.before.before.before.before.before.before) c.args.code c.requires (rows c.before.before.before.before.before.before) c.try_old-old.ensures (counts c)
 
-enum_known_a : tie.Need-enum-known-a
+enum_known_a : tie.Need-enum_known-a
 enum_known_a c = search rules
 
-enum_told_2 : tie.Need-enum-told-2
+enum_told_2 : tie.Need-enum_told-in_default-a
 enum_told_2 c = search rules
 
-same_length_3 : tie.Need-same-length-3
+same_length_3 : tie.Need-shape_of-list-in_default-a
 same_length_3 c = search rules
 
-same_length_4 : tie.Need-same-length-4
+same_length_4 : tie.Need-shape_of-v2e-in_default-a
 same_length_4 c = search rules
 
-same_length_5 : tie.Need-same-length-5
+same_length_5 : tie.Need-shape_of-e2e-in_default-a
 same_length_5 c = search rules
 
-same_length_6 : tie.Need-same-length-6
+same_length_6 : tie.Need-shape_of-b2e-in_default-a
 same_length_6 c = search rules
 
-same_length_7 : tie.Need-same-length-7
+same_length_7 : tie.Need-shape_of-points-in_default-a
 same_length_7 c = search rules
 
-same_length_8 : tie.Need-same-length-8
+same_length_8 : tie.Need-shape_of-work-in_default-a
 same_length_8 c = search rules
 
-returns_2 : tie.Need-returns-2
+returns_2 : tie.Need-returns-in_default-a
 returns_2 c =
-    let asked = c.before.before in
-    let k = accepted asked in
-    let o = old k in
-    let s = opened k in
-    new_denied (lends s) (points s) s.args.code s.pre (rows (began o)) o.try-old.ensures (counts k)
-    (ap numbers c.enum-told2.given.1) asked.admit.ensures
+    new_denied (lends c.before.before.before.before.before.before.before.before.before.before.before.before.before.before.before.before.before.before) (points c.before.before.before.before.before.before.before.before.before.before.before.before.before.before.before.before.before.before) c.args.code c.requires (rows c.before.before.before.before.before.before.before.before) c.try_old-old.ensures (counts c.before.before)
+    (ap numbers c.in_default-a.is) c.admit-a.ensures
 
 write_requires : tie.Need-write-requires
 write_requires c κs =
-    let t = c.before.before.before.before.before.before.before in (may t, (opened (accepted (admitted t))).requires.long.columned)
+    (may c.before.before.before.before.before.before.before, c.requires.long.columned)
 
-same_length_9 : tie.Need-same-length-9
+same_length_9 : tie.Need-shape_of-list
 same_length_9 c = search rules
 
-same_length_10 : tie.Need-same-length-10
+same_length_10 : tie.Need-shape_of-v2e
 same_length_10 c = search rules
 
-same_length_11 : tie.Need-same-length-11
+same_length_11 : tie.Need-shape_of-e2e
 same_length_11 c = search rules
 
-same_length_12 : tie.Need-same-length-12
+same_length_12 : tie.Need-shape_of-b2e
 same_length_12 c = search rules
 
-same_length_13 : tie.Need-same-length-13
+same_length_13 : tie.Need-shape_of-points
 same_length_13 c = search rules
 
-same_length_14 : tie.Need-same-length-14
-same_length_14 c = long (written c)
+same_length_14 : tie.Need-shape_of-work
+same_length_14 c = long c.before.before.before.before.before.before.before.before.before.before.before.before
 
-returns_3 : tie.Need-returns-3
-returns_3 c =
-    let done = written c in
-    let k = accepted (admitted (told done)) in
-    let o = old k in
-    let s = opened k in (
-      all_done (lends s) (points s) s.args.code s.pre (rows (began o)) o.try-old.ensures (counts k) (may (told done)) done.write.ensures.0,
-      long done,
-    )
+returns_3 : tie.Need-returns
+returns_3 c = (
+  all_done (lends c.before.before.before.before.before.before.before.before.before.before.before.before.before.before.before.before.before.before.before.before.before.before.before.before.before.before.before.before.before.before.before.before.before.before.before.before.before.before) (points c.before.before.before.before.before.before.before.before.before.before.before.before.before.before.before.before.before.before.before.before.before.before.before.before.before.before.before.before.before.before.before.before.before.before.before.before.before.before) c.args.code c.requires (rows c.before.before.before.before.before.before.before.before.before.before.before.before.before.before.before.before.before.before.before.before.before.before.before.before.before.before.before.before) c.try_old-old.ensures (counts c.before.before.before.before.before.before.before.before.before.before.before.before.before.before.before.before.before.before.before.before.before.before) (may c.before.before.before.before.before.before.before.before.before.before.before.before.before.before.before.before.before.before.before.before) c.write.ensures.0,
+  long c.before.before.before.before.before.before.before.before.before.before.before.before,
+)
 
 pub split_fit_spec : {M : Type 1} → statement M
 split_fit_spec =

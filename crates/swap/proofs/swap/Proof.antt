@@ -17,9 +17,6 @@ use borrow.Author.Rules.{rules}
 use Rattle.swap.proofs.swap.Statement.{statement}
 use Rattle.swap.proofs.swap.Tie as tie
 
-abbrev begun : tie.After-counts-fit → tie.Start
-begun c = c.before.before.before.before.before.before
-
 abbrev lent : tie.Start → Lent
 lent s = let a = s.args in lent_edit a.n a.m a.list.now a.v2e.now a.e2e.now a.b2e.now a.work.now
 
@@ -27,167 +24,145 @@ abbrev edit : tie.Start → Edited
 edit s = swap s.args.n (take (4 * s.args.m) s.args.list.now) s.args.code
 
 -- check 1
-sizes : (c : tie.After-counts-fit) → edit_sizes (lent (begun c)) ≡ c.counts-fit.result
+sizes : (c : tie.After-counts_fit) → edit_sizes (lent c.before.before.before.before.before.before) ≡ c.counts_fit.result
 unfolding edit_sizes
-sizes c = sym c.counts-fit.ensures
+sizes c = sym c.counts_fit.ensures
 
-sized : (c : tie.Else1) → edit_sizes (lent (begun c.before)) ≡ true
-sized c = sizes c.before ∙ not-false _ c.if1.false
+sized : (c : tie.Else-not-counts_fit) → edit_sizes (lent c.before.before.before.before.before.before.before) ≡ true
+sized c = sizes c.before ∙ not-false _ c.if-not-counts_fit.false-raw
 
-within : (c : tie.Else1) → let a = (begun c.before).args in (a.n ≤ max_vertex) × (a.m ≤ max_element)
+within : (c : tie.Else-not-counts_fit) → let a = c.args in (a.n ≤ max_vertex) × (a.m ≤ max_element)
 unfolding edit_sizes
-within c = let a = (begun c.before).args in counts_say a.n a.m (sized c)
-
--- check 2
-abbrev past : tie.After-columns-held → tie.Else1
-past c = c.before.before
+within c = let a = c.args in counts_say a.n a.m (sized c)
 
 lengths : (w : Lent) {b : Bool} → holds w.n w.m w.list (length w.vertices) (length w.opposites) (length w.work) ≡ b → edit_lengths w true ≡ b
 unfolding has_room edit_lengths
 lengths w e = e
 
--- the columns are known, and the ends of what the buffers hold
-abbrev begin : tie.After-wide3 → tie.Start
-begin c = begun (past c.before.before.before.before).before
+held : (c : tie.Else-columns-eq0) →
+    let a = c.args in
+    Held a.n a.m a.list.now (length a.v2e.now) (length a.e2e.now) (length a.work.now) c.columns_held-columns.result
+held c = found_long _ _ _ _ _ _ c.columns_held-columns.ensures c.if-columns-eq0.false
 
-held : (c : tie.Else2) →
-    let a = (begun (past c.before).before).args in
-    Held a.n a.m a.list.now (length a.v2e.now) (length a.e2e.now) (length a.work.now) c.before.columns-held.result
-held c = found_long _ _ _ _ _ _ c.before.columns-held.ensures c.if2.false
-
-ends : (c : tie.After-wide3) →
-    let a = (begin c).args in
-    let two = c.before.before.before in
-    (c.before.before.wide.result ≡ a.n) × (c.before.wide2.result ≡ a.m) × (c.wide3.result * c.before.wide2.result ≡ two.before.columns-held.result * a.m)
+ends : (c : tie.After-wide) →
+    let a = c.args in
+    (c.wide-vertices.result ≡ a.n) × (c.wide-elements.result ≡ a.m) × (c.wide.result * c.wide-elements.result ≡ c.columns_held-columns.result * a.m)
 ends c =
-    let a = (begin c).args in
-    (c.before.before.wide.ensures, c.before.wide2.ensures, (λ i. c.wide3.ensures i * c.before.wide2.ensures i))
+    let a = c.args in
+    (c.wide-vertices.ensures, c.wide-elements.ensures, (λ i. c.wide.ensures i * c.wide-elements.ensures i))
 
-fronts : (c : tie.After-wide3) →
-    let a = (begin c).args in
-    let two = c.before.before.before in
-    (4 * c.before.wide2.result - 0 ≡ 4 * a.m)
-    × (c.before.before.wide.result - 0 ≡ a.n) × (c.wide3.result * c.before.wide2.result - 0 ≡ two.before.columns-held.result * a.m)
+fronts : (c : tie.After-wide) →
+    let a = c.args in
+    (4 * c.wide-elements.result - 0 ≡ 4 * a.m)
+    × (c.wide-vertices.result - 0 ≡ a.n) × (c.wide.result * c.wide-elements.result - 0 ≡ c.columns_held-columns.result * a.m)
 fronts c = let (v, l, e) = ends c in (omega arith, omega arith, omega arith)
 
-counts_fit_requires : tie.Need-counts-fit-requires
+counts_fit_requires : tie.Need-counts_fit-requires
 counts_fit_requires c κs = search rules
 
 refuse_requires : tie.Need-refuse-requires
 refuse_requires c κs = search rules
 
-returns : tie.Need-returns
+returns : tie.Need-returns-then-not-counts_fit
 returns c =
-    let asked = c.before.before in
-    unsized (lent (begun asked)) true (edit (begun asked)) (sizes asked ∙ not-true _ c.before.if1.true) c.refuse.ensures
+    unsized (lent c.before.before.before.before.before.before.before.before) true (edit c.before.before.before.before.before.before.before.before) (sizes c.before.before ∙ not-true _ c.if-not-counts_fit.true-raw) c.refuse.ensures
 
-columns_held_requires : tie.Need-columns-held-requires
-columns_held_requires c κs = within c.before
+columns_held_requires : tie.Need-columns_held-columns-requires
+columns_held_requires c κs = within c
 
-refuse_requires_2 : tie.Need-refuse-requires-2
+refuse_requires_2 : tie.Need-refuse-requires-then-columns-eq0
 refuse_requires_2 c κs = search rules
 
-same_length : tie.Need-same-length
+same_length : tie.Need-shape_of-list-then-columns-eq0
 same_length c = search rules
 
-returns_2 : tie.Need-returns-2
+returns_2 : tie.Need-returns-then-columns-eq0
 returns_2 c =
-    let found = c.before.before in
-    let one = past found in
-    let a = (begun one.before).args in
-    let short = found_short a.n a.m a.list.now _ _ _ (sym found.columns-held.ensures ∙ c.before.if2.true) in
-    let start = begun one.before in
-    unlengthened (lent start) true (edit start) (sized one) (lengths (lent start) short) c.refuse2.ensures
+    let a = c.args in
+    let short = found_short a.n a.m a.list.now _ _ _ (sym c.columns_held-columns.ensures ∙ c.if-columns-eq0.true) in
+    unlengthened (lent c.before.before.before.before.before.before.before.before.before.before) true (edit c.before.before.before.before.before.before.before.before.before.before) (sized c.before.before.before) (lengths (lent c.before.before.before.before.before.before.before.before.before.before) short) c.refuse-then-columns-eq0.ensures
 
-wide_requires : tie.Need-wide-requires
+wide_requires : tie.Need-wide-vertices-requires
 wide_requires c κs = search rules
 
-wide_requires_2 : tie.Need-wide-requires-2
+wide_requires_2 : tie.Need-wide-elements-requires
 wide_requires_2 c κs = search rules
 
-mul_rows : tie.Need-overflow-mul-rows
+mul_rows : tie.Need-overflow_mul-rows
 mul_rows c = search rules
 
-wide_requires_3 : tie.Need-wide-requires-3
+wide_requires_3 : tie.Need-wide-requires
 wide_requires_3 c κs = search rules
 
-mul_entries : tie.Need-overflow-mul-entries
+mul_entries : tie.Need-overflow_mul-entries
 mul_entries c =
-    let few : c.before.wide2.result ≤ max_element = omega (arith, within (past c.before.before.before.before), ends c) in
-    omega (arith, few_entries _ c.before.wide2.result (three_or_four _) (c.wide3.ensures ∙ (held c.before.before.before).columned) few)
+    let few : c.wide-elements.result ≤ max_element = omega (arith, within c.before.before.before.before.before, ends c) in
+    omega (arith, few_entries _ c.wide-elements.result (three_or_four _) (c.wide.ensures ∙ (held c.before.before.before).columned) few)
 
-sub_swap_fit : tie.Need-overflow-sub-swap-fit
+sub_swap_fit : tie.Need-slice_bounds-swap_fit-count
 sub_swap_fit c = search rules
 
-part_swap_fit_start : tie.Need-slice-bounds-swap-fit-start
+part_swap_fit_start : tie.Need-slice_bounds-swap_fit-start
 part_swap_fit_start c = search rules
 
-part_swap_fit_end : tie.Need-slice-bounds-swap-fit-end
+part_swap_fit_end : tie.Need-slice_bounds-swap_fit-end
 part_swap_fit_end c =
-    let h : 4 * c.before.wide2.result ≤ length (begin c).args.list.now = omega (arith, (held c.before.before.before).list, ends c) in search rules
+    let h : 4 * c.wide-elements.result ≤ length c.args.list.now = omega (arith, (held c.before.before.before).list, ends c) in search rules
 
-sub_swap_fit_2 : tie.Need-overflow-sub-swap-fit-2
+sub_swap_fit_2 : tie.Need-slice_bounds-swap_fit-count-2
 sub_swap_fit_2 c = search rules
 
-part_swap_fit_start_2 : tie.Need-slice-bounds-swap-fit-start-2
+part_swap_fit_start_2 : tie.Need-slice_bounds-swap_fit-start-2
 part_swap_fit_start_2 c = search rules
 
-part_swap_fit_end_2 : tie.Need-slice-bounds-swap-fit-end-2
+part_swap_fit_end_2 : tie.Need-slice_bounds-swap_fit-end-2
 part_swap_fit_end_2 c =
-    let one = c.before in
-    let h : one.before.before.wide.result ≤ length (begin one).args.v2e.now = omega (arith, (held one.before.before.before).vertices, ends one) in
+    let h : c.wide-vertices.result ≤ length c.args.v2e.now = omega (arith, (held c.before.before.before.before).vertices, ends c.before) in
     search rules
 
-sub_swap_fit_3 : tie.Need-overflow-sub-swap-fit-3
+sub_swap_fit_3 : tie.Need-slice_bounds-swap_fit-count-3
 sub_swap_fit_3 c = search rules
 
-part_swap_fit_start_3 : tie.Need-slice-bounds-swap-fit-start-3
+part_swap_fit_start_3 : tie.Need-slice_bounds-swap_fit-start-3
 part_swap_fit_start_3 c = search rules
 
-part_swap_fit_end_3 : tie.Need-slice-bounds-swap-fit-end-3
+part_swap_fit_end_3 : tie.Need-slice_bounds-swap_fit-end-3
 part_swap_fit_end_3 c =
-    let one = c.before.before in
-    let h : one.wide3.result * one.before.wide2.result ≤ length (begin one).args.e2e.now =
-    omega (arith, (held one.before.before.before).opposites, ends one) in
+    let h : c.wide.result * c.wide-elements.result ≤ length c.args.e2e.now =
+    omega (arith, (held c.before.before.before.before.before).opposites, ends c.before.before) in
     search rules
 
-swap_fit_requires : tie.Need-swap-fit-requires
+swap_fit_requires : tie.Need-swap_fit-a-requires
 swap_fit_requires c κs =
-    let one = c.before.before.before.before.before in
-    let a = (begin one).args in
-    let two = one.before.before.before in
-    let (l, v, e) = fronts one in
-    checked_at a.n a.m a.list.now a.v2e.now a.e2e.now a.b2e.now a.work.now a.code (within (past two.before)) (held two) l v e
+    let a = c.args in
+    let (l, v, e) = fronts c.before.before.before.before.before in
+    checked_at a.n a.m a.list.now a.v2e.now a.e2e.now a.b2e.now a.work.now a.code (within c.before.before.before.before.before.before.before.before.before.before) (held c.before.before.before.before.before.before.before.before) l v e
 
 clear_requires : tie.Need-clear-requires
 clear_requires c κs = search rules
 
-same_length_2 : tie.Need-same-length-2
+same_length_2 : tie.Need-shape_of-list
 same_length_2 c = search rules
 
-same_length_3 : tie.Need-same-length-3
+same_length_3 : tie.Need-shape_of-v2e
 same_length_3 c = search rules
 
-same_length_4 : tie.Need-same-length-4
+same_length_4 : tie.Need-shape_of-e2e
 same_length_4 c = search rules
 
-same_length_5 : tie.Need-same-length-5
+same_length_5 : tie.Need-shape_of-b2e
 same_length_5 c = search rules
 
-same_length_6 : tie.Need-same-length-6
+same_length_6 : tie.Need-shape_of-work
 same_length_6 c = search rules
 
-returns_3 : tie.Need-returns-3
+returns_3 : tie.Need-returns
 returns_3 c =
-    let cleared = c.before.before in
-    let done = cleared.before.before.before.before.before.before.before.before.before.before.before.before in
-    let one = done.before.before.before.before.before.before in
-    let a = (begin one).args in
-    let two = one.before.before.before in
-    let (l, v, e) = fronts one in
-    let (left, same) = done.swap-fit.ensures in
-    whole a.n a.m a.list.now a.v2e.now a.e2e.now a.b2e.now a.work.now a.code (within (past two.before)) (held two) l v e
-    (sized (past two.before), lengths (lent (begin one)) (held two).passed) left same cleared.clear.ensures
+    let a = c.args in
+    let (l, v, e) = fronts c.before.before.before.before.before.before.before.before.before.before.before.before.before.before.before.before.before.before.before.before in
+    let (left, same) = c.swap_fit-a.ensures in
+    whole a.n a.m a.list.now a.v2e.now a.e2e.now a.b2e.now a.work.now a.code (within c.before.before.before.before.before.before.before.before.before.before.before.before.before.before.before.before.before.before.before.before.before.before.before.before.before) (held c.before.before.before.before.before.before.before.before.before.before.before.before.before.before.before.before.before.before.before.before.before.before.before) l v e
+    (sized c.before.before.before.before.before.before.before.before.before.before.before.before.before.before.before.before.before.before.before.before.before.before.before.before.before, lengths (lent c.before.before.before.before.before.before.before.before.before.before.before.before.before.before.before.before.before.before.before.before.before.before.before.before.before.before.before.before.before.before.before.before) (held c.before.before.before.before.before.before.before.before.before.before.before.before.before.before.before.before.before.before.before.before.before.before.before).passed) left same c.clear.ensures
 
 pub swap_spec : {M : Type 1} → statement M
 swap_spec =

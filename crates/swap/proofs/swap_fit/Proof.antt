@@ -18,15 +18,6 @@ use borrow.Author.Rules.{rules}
 use Rattle.swap.proofs.swap_fit.Statement.{statement}
 use Rattle.swap.proofs.swap_fit.Tie as tie
 
-abbrev begun : tie.After-wide → tie.Start
-begun c = c.before.before.before.before.before.before
-
-abbrev tried_at : tie.After-slice-known6 → tie.After-try-old
-tried_at c = c.before.before
-
-abbrev start : tie.After-try-old → tie.Start
-start c = begun c.before.before.before
-
 -- what the edit makes of the list, and the room for B2e
 abbrev edit : tie.Start → Edited
 edit c = let a = c.args in swap a.n a.list.now a.code
@@ -38,151 +29,120 @@ known : (c : tie.Start) → let a = c.args in Checked a.n a.list.now a.v2e.now a
 known c = c.requires.0
 
 -- the old list is tried in the front of the work
-scratch : (c : tie.After-try-old) → let a = (start c).args in
-    Scratched a.n a.list.now (numbers c.try-old.result) a.work.now c.try-old.new.1.1.0
-scratch c = c.try-old.ensures
+scratch : (c : tie.After-try_old-t) → let a = c.args in
+    Scratched a.n a.list.now (numbers c.try_old-t.result) a.work.now c.try_old-t.new.work
+scratch c = c.try_old-t.ensures
 
--- and accepted
-abbrev done_at : tie.After-known-told → tie.After-try-old
-done_at c = tried_at c.before.before.before
-
-old : (c : tie.After-known-told) →
-    let d = done_at c in
-    let a = (start d).args in
+old : (c : tie.In-Gives) →
+    let a = c.args in
     Checked a.n a.list.now a.v2e.now a.e2e.now a.work.now
-    × Scratched a.n a.list.now (numbers d.try-old.result) a.work.now d.try-old.last.1.1.0
-    × (numbers d.try-old.result ≡ gives c.before.t.given.0.0 c.before.t.given.0.1.0)
-old c = let d = done_at c in (known (start d), scratch d, ap numbers c.before.t.given.1)
+    × Scratched a.n a.list.now (numbers c.try_old-t.result) a.work.now c.try_old-t.new.work
+    × (numbers c.try_old-t.result ≡ gives c.in-Gives.first c.in-Gives.second)
+old c = (known c.before.before.before.before.before.before.before.before.before.before.before, scratch c.before.before.before, ap numbers c.in-Gives.is)
 
--- the half-edge is there
-abbrev counted : tie.After-is-there → tie.After-known-told
-counted c = c.before.before
+there : (c : tie.Else-not-is_there) → let a = c.args in is_there a.list.now a.code ≡ true
+there c = sym c.is_there.ensures ∙ not-false _ c.if-not-is_there.false-raw
 
-abbrev begin : tie.After-is-there → tie.Start
-begin c = start (done_at (counted c))
-
-there : (c : tie.Else1) → let a = (begin c.before).args in is_there a.list.now a.code ≡ true
-there c = sym c.before.is-there.ensures ∙ not-false _ c.if1.false
-
-tables : (c : tie.Else1) →
-    let d = done_at (counted c.before) in
-    let a = (start d).args in Tabled d.before.before.before.wide.result a.list.now d.try-old.last.1.1.0
+tables : (c : tie.Else-not-is_there) →
+    let a = c.args in Tabled c.wide-vertices.result a.list.now c.try_old-t.new.work
 tables c =
-    let k = counted c.before in
-    let (x, y, g) = old k in tabled x y g (done_at k).before.before.before.wide.ensures
+    let (x, y, g) = old c.before.before in tabled x y g c.wide-vertices.ensures
 
--- and a diagonal's
-abbrev past : tie.After-is-swappable → tie.Else1
-past c = c.before.before.before
+fit : (c : tie.Else-not-is_swappable) → let a = c.args in is_swappable a.list.now a.code ≡ true
+fit c = sym c.is_swappable.ensures ∙ not-false _ c.if-not-is_swappable.false-raw
 
-fit : (c : tie.Else2) → let a = (begin (past c.before).before).args in is_swappable a.list.now a.code ≡ true
-fit c = sym c.before.is-swappable.ensures ∙ not-false _ c.if2.false
-
-wide_requires : tie.Need-wide-requires
+wide_requires : tie.Need-wide-vertices-requires
 wide_requires c κs = search rules
 
-try_old_requires : tie.Need-try-old-requires
+try_old_requires : tie.Need-try_old-t-requires
 try_old_requires c κs =
-    let s = begun c.before.before in record { vertices = s.args.v2e.now; opposites = s.args.e2e.now; checked = known s }
+    record { vertices = c.args.v2e.now; opposites = c.args.e2e.now; checked = known c.before.before.before.before.before.before.before }
 
-enum_known_t : tie.Need-enum-known-t
+enum_known_t : tie.Need-enum_known-t
 enum_known_t c = search rules
 
-enum_told : tie.Need-enum-told
+enum_told : tie.Need-enum_told-1
 enum_told c = search rules
 
-same_length : tie.Need-same-length
+same_length : tie.Need-shape_of-list-in_default
 same_length c = search rules
 
-same_length_2 : tie.Need-same-length-2
+same_length_2 : tie.Need-shape_of-work-in_default
 same_length_2 c = search rules
 
-returns : tie.Need-returns
+returns : tie.Need-returns-in_default
 returns c =
-    let done = tried_at c.before.before in
-    let a = (start done).args in
-    (old_refused a.n a.list.now (edit (start done)) (room (start done)) (scratch done).stated (ap numbers c.enum_told.given.1), (scratch done).long)
+    let a = c.args in
+    (old_refused a.n a.list.now (edit c.before.before.before.before.before.before.before.before.before.before.before) (room c.before.before.before.before.before.before.before.before.before.before.before) (scratch c.before.before.before).stated (ap numbers c.in_default.is), (scratch c.before.before.before).long)
 
-is_there_requires : tie.Need-is-there-requires
-is_there_requires c κs = let (x, y, g) = old c.before in number x y g
+is_there_requires : tie.Need-is_there-requires
+is_there_requires c κs = let (x, y, g) = old c in number x y g
 
 refuse_requires : tie.Need-refuse-requires
 refuse_requires c κs = search rules
 
-same_length_3 : tie.Need-same-length-3
+same_length_3 : tie.Need-shape_of-list-then-not-is_there
 same_length_3 c = search rules
 
-same_length_4 : tie.Need-same-length-4
+same_length_4 : tie.Need-shape_of-work-then-not-is_there
 same_length_4 c = search rules
 
-returns_2 : tie.Need-returns-2
+returns_2 : tie.Need-returns-then-not-is_there
 returns_2 c =
-    let asked = c.before.before in
-    let (x, y, g) = old (counted asked) in
-    let a = (begin asked).args in
-    (new_refused a.n a.list.now (edit (begin asked)) (room (begin asked)) y.stated g (gone a.n a.list.now a.code (sym asked.is-there.ensures ∙ not-true _ c.before.if1.true)) c.refuse.ensures, y.long)
+    let (x, y, g) = old c.before.before.before in
+    let a = c.args in
+    (new_refused a.n a.list.now (edit c.before.before.before.before.before.before.before.before.before.before.before.before.before.before) (room c.before.before.before.before.before.before.before.before.before.before.before.before.before.before) y.stated g (gone a.n a.list.now a.code (sym c.is_there.ensures ∙ not-true _ c.if-not-is_there.true-raw)) c.refuse.ensures, y.long)
 
-is_swappable_requires : tie.Need-is-swappable-requires
-is_swappable_requires c κs = tables c.before.before
+is_swappable_requires : tie.Need-is_swappable-requires
+is_swappable_requires c κs = tables c
 
-refuse_requires_2 : tie.Need-refuse-requires-2
+refuse_requires_2 : tie.Need-refuse-requires-then-not-is_swappable
 refuse_requires_2 c κs = search rules
 
-same_length_5 : tie.Need-same-length-5
+same_length_5 : tie.Need-shape_of-list-then-not-is_swappable
 same_length_5 c = search rules
 
-same_length_6 : tie.Need-same-length-6
+same_length_6 : tie.Need-shape_of-work-then-not-is_swappable
 same_length_6 c = search rules
 
-returns_3 : tie.Need-returns-3
+returns_3 : tie.Need-returns-then-not-is_swappable
 returns_3 c =
-    let asked = c.before.before in
-    let one = past asked in
-    let (x, y, g) = old (counted one.before) in
-    let a = (begin one.before).args in
-    let f = unfit a.n a.list.now a.code (there one) (sym asked.is-swappable.ensures ∙ not-true _ c.before.if2.true) in
-    (new_refused a.n a.list.now (edit (begin one.before)) (room (begin one.before)) y.stated g f c.refuse2.ensures, y.long)
+    let (x, y, g) = old c.before.before.before.before.before in
+    let a = c.args in
+    let f = unfit a.n a.list.now a.code (there c.before.before.before) (sym c.is_swappable.ensures ∙ not-true _ c.if-not-is_swappable.true-raw) in
+    (new_refused a.n a.list.now (edit c.before.before.before.before.before.before.before.before.before.before.before.before.before.before.before.before) (room c.before.before.before.before.before.before.before.before.before.before.before.before.before.before.before.before) y.stated g f c.refuse-then-not-is_swappable.ensures, y.long)
 
-entry_of_requires : tie.Need-entry-of-requires
+entry_of_requires : tie.Need-entry_of-partner-requires
 entry_of_requires c κs =
-    let two = c.before.before in
-    let a = (begin (past two.before).before).args in
-    (tables (past two.before), ((means_swappable a.list.now a.code).says (rw (fit two) tt)).side)
+    let a = c.args in
+    (tables c.before.before, ((means_swappable a.list.now a.code).says (rw (fit c) tt)).side)
 
-swap_rows_requires : tie.Need-swap-rows-requires
+swap_rows_requires : tie.Need-swap_rows-requires
 swap_rows_requires c κs =
-    let entry = c.before.before.before.before.before in
-    let two = entry.before.before.before in
-    let one = past two.before in
-    let (x, y, g) = old (counted one.before) in
-    (to_swap x y g (begin one.before).args.code (fit two) entry.entry-of.ensures, (begin one.before).requires.1)
+    let (x, y, g) = old c.before.before.before.before.before.before.before.before.before.before in
+    (to_swap x y g c.args.code (fit c.before.before.before.before.before.before) c.entry_of-partner.ensures, c.requires.1)
 
-same_length_7 : tie.Need-same-length-7
+same_length_7 : tie.Need-shape_of-list
 same_length_7 c = search rules
 
-same_length_8 : tie.Need-same-length-8
+same_length_8 : tie.Need-shape_of-v2e
 same_length_8 c = search rules
 
-same_length_9 : tie.Need-same-length-9
+same_length_9 : tie.Need-shape_of-e2e
 same_length_9 c = search rules
 
-same_length_10 : tie.Need-same-length-10
+same_length_10 : tie.Need-shape_of-b2e
 same_length_10 c = search rules
 
-same_length_11 : tie.Need-same-length-11
+same_length_11 : tie.Need-shape_of-work
 same_length_11 c = search rules
 
-returns_4 : tie.Need-returns-4
+returns_4 : tie.Need-returns
 returns_4 c =
-    let done = c.before.before.before.before.before.before.before.before.before.before in
-    let entry = done.before.before.before.before.before.before in
-    let two = entry.before.before.before in
-    let one = past two.before in
-    let (x, y, g) = old (counted one.before) in
-    let a = (begin one.before).args in
-    let (left, long) = done.swap-rows.ensures in
-    let b = begin one.before in
-    (new_tried a.n a.list.now (edit b) (room b) y.stated g (swaps a.n a.list.now a.code (there one) (fit two)) left, long ∙ y.long)
+    let (x, y, g) = old c.before.before.before.before.before.before.before.before.before.before.before.before.before.before.before.before.before.before.before.before.before in
+    let a = c.args in
+    let (left, long) = c.swap_rows.ensures in
+    (new_tried a.n a.list.now (edit c.before.before.before.before.before.before.before.before.before.before.before.before.before.before.before.before.before.before.before.before.before.before.before.before.before.before.before.before.before.before.before.before) (room c.before.before.before.before.before.before.before.before.before.before.before.before.before.before.before.before.before.before.before.before.before.before.before.before.before.before.before.before.before.before.before.before) y.stated g (swaps a.n a.list.now a.code (there c.before.before.before.before.before.before.before.before.before.before.before.before.before.before.before.before.before.before.before) (fit c.before.before.before.before.before.before.before.before.before.before.before.before.before.before.before.before.before)) left, long ∙ y.long)
 
 pub swap_fit_spec : {M : Type 1} → statement M
 swap_fit_spec =

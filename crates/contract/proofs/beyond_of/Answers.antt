@@ -1,0 +1,19 @@
+-- `contract::beyond_of` meets its contract.
+-- Assumes nothing.
+use Rattle.halfedge.specs.Codes.{of_border, of_side}
+use Rattle.contract.specs.Edges.{at_border, partner_there, at_inner}
+use Rattle.contract.proofs.beyond_of.Goals as goal
+
+pub returns-then-is_border : goal.returns-then-is_border
+returns-then-is_border c =
+    at_border c.args.list.now c.args.s c.requires.0 c.requires.1 (of_border _ c.is_border.ensures c.if-is_border.true)
+    c.third_of.ensures
+
+pub third_of-requires-2 : goal.third_of-requires-2
+third_of-requires-2 c =
+    partner_there c.args.list.now c.args.s c.requires.0 c.requires.1 (of_side _ c.is_border.ensures c.if-is_border.false)
+
+pub returns : goal.returns
+returns c =
+    at_inner c.args.list.now c.args.s c.requires.0 c.requires.1 (of_side _ c.is_border.ensures c.if-is_border.false)
+    c.third_of-2.ensures
