@@ -1,13 +1,11 @@
 // The text that the listing program reads, document 01, "The listing program".
 #![tactic(auto)]
 
-ghost use Rattle.std.specs.Prelude.{◌++◌, ◌≡◌, ◌+◌, ◌*◌, ◌≤◌, ◌<◌, length, drop};
-ghost use Rattle.lists.specs.Search.{tab};
-ghost use Rattle.digits.specs.Digits.{run, number};
+ghost use Rattle.std.specs.Prelude.{◌++◌, ◌≡◌, ◌+◌, ◌*◌, ◌-◌, ◌≤◌, ◌<◌, length, drop};
+ghost use Rattle.lists.specs.Search.{at, tab};
+ghost use Rattle.digits.specs.Digits.{digit, run, value, number};
 ghost use Rattle.text.specs.Form.{is_field, place, mark, first_bad_field, good_head, first_bad, the_n, the_m, line_of_field, the_number};
 ghost use Rattle.text.specs.Reading.{parsed, list_after};
-
-use digits::{byte, number_at};
 
 // What parse finds: a mesh's n and m; the first bad line; or rows that the list has no room for.
 #[derive(Clone, Copy)]
@@ -24,20 +22,74 @@ struct Reach {
     at: usize,
 }
 
+// Byte j; 0 past the end.
+fn byte(text: &[u8], j: usize) -> u8
+    ensures { result ≡ at text.now j }
+{
+    if j < text.len() {
+        return text[j];
+    }
+    0
+}
+
+fn is_digit_at(text: &[u8], j: usize) -> bool
+    ensures { result ≡ digit (at text.now j) }
+{
+    let b = byte(text, j);
+    if b < b'0' {
+        return false;
+    }
+    b <= b'9'
+}
+
 // How many digits stand from p on, at most 8.
 fn run(text: &[u8], p: usize) -> usize
+    requires { p < 10000 }
     ensures value { result ≡ run text.now p }
     ensures upper_bound { result ≤ 8 }
 {
-    let x = number_at(text, p);
-    x.digits
+    let mut i = 0;
+    while i < 8 {
+        if !is_digit_at(text, p + i) {
+            return i;
+        }
+        i += 1;
+    }
+    i
+}
+
+// What a byte counts as a digit.
+fn digit_of(b: u8) -> u32
+    ensures value { result ≡ b - 48 }
+    ensures upper_bound { result ≤ 207 }
+{
+    if b < b'0' {
+        return 0;
+    }
+    (b - b'0') as u32
+}
+
+// The number that the k digits from p on write.
+fn value(text: &[u8], p: usize, k: usize) -> u32
+    requires p_bound { p < 10000 }
+    requires k_bound { k ≤ 8 }
+    ensures { result ≡ value text.now p k }
+{
+    let mut x: u32 = 0;
+    let mut i = 0;
+    while i < k {
+        let d = digit_of(byte(text, p + i));
+        x = 10 * x + d;
+        i += 1;
+    }
+    x
 }
 
 fn number(text: &[u8], p: usize) -> u32
+    requires { p < 10000 }
     ensures { result ≡ number text.now p }
 {
-    let x = number_at(text, p);
-    x.value
+    value(text, p, run(text, p))
 }
 
 // The place after the field at p and its mark.

@@ -5,4 +5,4 @@ use Rattle.digits.specs.Digits.{value}
 use Rattle.text.proofs.number.Goals as goal
 
 pub returns : goal.returns
-returns c = let x = c.number_at-x.ensures.digits_value in x.1 ∙ ap (value _ _) x.0
+returns c = c.value.ensures ∙ ap (value _ _) c.run.ensures.value
