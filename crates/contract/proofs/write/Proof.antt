@@ -24,7 +24,7 @@ points c = c.args.points.now
 rows : (c : tie.After-wide-rows) → 4 * c.wide-rows.result - 0 ≡ 4 * (lends c.before.before.before.before.before.before.before.before.before.before).m
 rows c = omega (arith, c.wide-rows.ensures)
 
-gave : (c : tie.After-fewer) → let g = c.enum_told-1.given.0 in numbers c.try_new-a.result ≡ gives g.0 g.1.0
+gave : (c : tie.After-fewer) → numbers c.try_new-a.result ≡ gives c.in-Gives.first c.in-Gives.second
 gave c = ap numbers c.in-Gives.is
 
 element_copy_out_n : tie.Need-bounds-size-0
