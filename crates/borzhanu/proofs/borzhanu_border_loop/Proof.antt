@@ -6,22 +6,21 @@ use Rattle.borzhanu.proofs.Packed.{packs_listed}
 use Rattle.borzhanu.proofs.borzhanu_border_loop.Statement.{statement}
 use Rattle.borzhanu.proofs.borzhanu_border_loop.Tie as tie
 
-seen_requires : tie.Need-seen-requires
+seen_requires : tie.Need-seen-seen-requires
 seen_requires c κs = search rules
 
-border_loop_requires : tie.Need-border-loop-requires
+border_loop_requires : tie.Need-border_loop-requires
 border_loop_requires c κs = search rules
 
 pack_requires : tie.Need-pack-requires
 pack_requires c κs = search rules
 
-same_length : tie.Need-same-length
+same_length : tie.Need-shape_of-out
 same_length c = search rules
 
 returns : tie.Need-returns
 returns c =
-    let left = c.before.before.before in
-    packs_listed left.before.before.seen.ensures border_loop_answer border_loop_leaves left.border-loop.ensures c.pack.ensures
+    packs_listed c.seen-seen.ensures border_loop_answer border_loop_leaves c.border_loop.ensures c.pack.ensures
 
 pub borzhanu_border_loop_spec : {M : Type 1} → statement M
 borzhanu_border_loop_spec = tie.close (tie.spec seen_requires border_loop_requires pack_requires same_length returns)

@@ -7,16 +7,10 @@ use Rattle.borzhanu.proofs.Packed.{packs_left}
 use Rattle.borzhanu.proofs.borzhanu_holes.Statement.{statement}
 use Rattle.borzhanu.proofs.borzhanu_holes.Tie as tie
 
-abbrev looked : tie.After-holes → tie.After-seen
-looked c = c.before.before.before.before
-
-abbrev begun : tie.After-seen → tie.Start
-begun c = c.before.before.before.before.before.before.before.before
-
 abbrev buffers : tie.Start → HoleBuffers
 buffers s = lent_holes s.args.hole.now s.args.lengths.now s.args.work.now
 
-seen_requires : tie.Need-seen-requires
+seen_requires : tie.Need-seen-seen-requires
 seen_requires c κs = search rules
 
 holes_requires : tie.Need-holes-requires
@@ -25,20 +19,19 @@ holes_requires c κs = search rules
 pack_requires : tie.Need-pack-requires
 pack_requires c κs = search rules
 
-same_length : tie.Need-same-length
+same_length : tie.Need-shape_of-hole
 same_length c = search rules
 
-same_length_2 : tie.Need-same-length-2
+same_length_2 : tie.Need-shape_of-lengths
 same_length_2 c = search rules
 
-same_length_3 : tie.Need-same-length-3
+same_length_3 : tie.Need-shape_of-work
 same_length_3 c = search rules
 
 returns : tie.Need-returns
 returns c =
-    let found = c.before.before.before.before.before.before.before in
-    let w = buffers (begun (looked found)) in
-    packs_left (looked found).seen.ensures (λ M. holes_answer M w) (λ M. holes_leaves M w) found.holes.ensures c.pack.ensures
+    let w = buffers c.before.before.before.before.before.before.before.before.before.before.before.before.before.before.before.before.before.before.before in
+    packs_left c.seen-seen.ensures (λ M. holes_answer M w) (λ M. holes_leaves M w) c.holes.ensures c.pack.ensures
 
 pub borzhanu_holes_spec : {M : Type 1} → statement M
 borzhanu_holes_spec =

@@ -6,7 +6,7 @@ use Rattle.borzhanu.proofs.Packed.{packs_listed}
 use Rattle.borzhanu.proofs.borzhanu_neighbours.Statement.{statement}
 use Rattle.borzhanu.proofs.borzhanu_neighbours.Tie as tie
 
-seen_requires : tie.Need-seen-requires
+seen_requires : tie.Need-seen-seen-requires
 seen_requires c κs = search rules
 
 neighbours_requires : tie.Need-neighbours-requires
@@ -15,13 +15,12 @@ neighbours_requires c κs = search rules
 pack_requires : tie.Need-pack-requires
 pack_requires c κs = search rules
 
-same_length : tie.Need-same-length
+same_length : tie.Need-shape_of-out
 same_length c = search rules
 
 returns : tie.Need-returns
 returns c =
-    let left = c.before.before.before in
-    packs_listed left.before.before.seen.ensures neighbours_answer neighbours_leaves left.neighbours.ensures c.pack.ensures
+    packs_listed c.seen-seen.ensures neighbours_answer neighbours_leaves c.neighbours.ensures c.pack.ensures
 
 pub borzhanu_neighbours_spec : {M : Type 1} → statement M
 borzhanu_neighbours_spec = tie.close (tie.spec seen_requires neighbours_requires pack_requires same_length returns)

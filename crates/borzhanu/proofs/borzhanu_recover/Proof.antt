@@ -5,23 +5,20 @@ use Rattle.borzhanu.proofs.Packed.{packs_with}
 use Rattle.borzhanu.proofs.borzhanu_recover.Statement.{statement}
 use Rattle.borzhanu.proofs.borzhanu_recover.Tie as tie
 
-abbrev recovered : tie.After-pack → tie.After-recover
-recovered c = c.before.before.before.before.before
-
 recover_requires : tie.Need-recover-requires
 recover_requires c κs = search rules
 
 pack_requires : tie.Need-pack-requires
 pack_requires c κs = search rules
 
-same_length : tie.Need-same-length
+same_length : tie.Need-shape_of-elements
 same_length c = search rules
 
-same_length_2 : tie.Need-same-length-2
+same_length_2 : tie.Need-shape_of-work
 same_length_2 c = search rules
 
 returns : tie.Need-returns
-returns c = packs_with c.pack.ensures (recovered c).recover.ensures
+returns c = packs_with c.pack.ensures c.recover.ensures
 
 pub borzhanu_recover_spec : {M : Type 1} → statement M
 borzhanu_recover_spec =

@@ -6,7 +6,7 @@ use Rattle.borzhanu.proofs.Packed.{packs_listed}
 use Rattle.borzhanu.proofs.borzhanu_ring.Statement.{statement}
 use Rattle.borzhanu.proofs.borzhanu_ring.Tie as tie
 
-seen_requires : tie.Need-seen-requires
+seen_requires : tie.Need-seen-seen-requires
 seen_requires c κs = search rules
 
 ring_requires : tie.Need-ring-requires
@@ -15,13 +15,12 @@ ring_requires c κs = search rules
 pack_requires : tie.Need-pack-requires
 pack_requires c κs = search rules
 
-same_length : tie.Need-same-length
+same_length : tie.Need-shape_of-out
 same_length c = search rules
 
 returns : tie.Need-returns
 returns c =
-    let left = c.before.before.before in
-    packs_listed left.before.before.seen.ensures ring_answer ring_leaves left.ring.ensures c.pack.ensures
+    packs_listed c.seen-seen.ensures ring_answer ring_leaves c.ring.ensures c.pack.ensures
 
 pub borzhanu_ring_spec : {M : Type 1} → statement M
 borzhanu_ring_spec = tie.close (tie.spec seen_requires ring_requires pack_requires same_length returns)

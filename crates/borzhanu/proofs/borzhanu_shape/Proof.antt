@@ -5,20 +5,17 @@ use Rattle.borzhanu.proofs.Packed.{packs_with}
 use Rattle.borzhanu.proofs.borzhanu_shape.Statement.{statement}
 use Rattle.borzhanu.proofs.borzhanu_shape.Tie as tie
 
-abbrev asked : tie.After-pack → tie.After-shape
-asked c = c.before.before.before
-
 shape_requires : tie.Need-shape-requires
 shape_requires c κs = search rules
 
 pack_requires : tie.Need-pack-requires
 pack_requires c κs = search rules
 
-same_length : tie.Need-same-length
+same_length : tie.Need-shape_of-work
 same_length c = search rules
 
 returns : tie.Need-returns
-returns c = packs_with c.pack.ensures (asked c).shape.ensures
+returns c = packs_with c.pack.ensures c.shape.ensures
 
 pub borzhanu_shape_spec : {M : Type 1} → statement M
 borzhanu_shape_spec = tie.close (tie.spec shape_requires pack_requires same_length returns)

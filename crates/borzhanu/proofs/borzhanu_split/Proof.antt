@@ -5,35 +5,32 @@ use Rattle.borzhanu.proofs.Packed.{packs_with}
 use Rattle.borzhanu.proofs.borzhanu_split.Statement.{statement}
 use Rattle.borzhanu.proofs.borzhanu_split.Tie as tie
 
-abbrev done : tie.After-pack → tie.After-split
-done c = c.before.before.before.before.before.before.before.before.before.before.before.before.before
-
 split_requires : tie.Need-split-requires
 split_requires c κs = search rules
 
 pack_requires : tie.Need-pack-requires
 pack_requires c κs = search rules
 
-same_length : tie.Need-same-length
+same_length : tie.Need-shape_of-elements
 same_length c = search rules
 
-same_length_2 : tie.Need-same-length-2
+same_length_2 : tie.Need-shape_of-v2e
 same_length_2 c = search rules
 
-same_length_3 : tie.Need-same-length-3
+same_length_3 : tie.Need-shape_of-e2e
 same_length_3 c = search rules
 
-same_length_4 : tie.Need-same-length-4
+same_length_4 : tie.Need-shape_of-b2e
 same_length_4 c = search rules
 
-same_length_5 : tie.Need-same-length-5
+same_length_5 : tie.Need-shape_of-points
 same_length_5 c = search rules
 
-same_length_6 : tie.Need-same-length-6
+same_length_6 : tie.Need-shape_of-work
 same_length_6 c = search rules
 
 returns : tie.Need-returns
-returns c = packs_with c.pack.ensures (done c).split.ensures
+returns c = packs_with c.pack.ensures c.split.ensures
 
 pub borzhanu_split_spec : {M : Type 1} → statement M
 borzhanu_split_spec =

@@ -5,13 +5,10 @@ use Rattle.borzhanu.proofs.Packed.{packs_with}
 use Rattle.borzhanu.proofs.borzhanu_swap.Statement.{statement}
 use Rattle.borzhanu.proofs.borzhanu_swap.Tie as tie
 
-abbrev swapped : tie.After-pack → tie.After-swap
-swapped c = c.before.before.before.before.before.before.before.before.before.before.before
-
-element_copy_out_n : tie.Need-element-copy-out-n
+element_copy_out_n : tie.Need-bounds-size-0
 element_copy_out_n c = search rules
 
-element_copy_out_m : tie.Need-element-copy-out-m
+element_copy_out_m : tie.Need-bounds-size-1
 element_copy_out_m c = search rules
 
 swap_requires : tie.Need-swap-requires
@@ -20,23 +17,23 @@ swap_requires c κs = search rules
 pack_requires : tie.Need-pack-requires
 pack_requires c κs = search rules
 
-same_length : tie.Need-same-length
+same_length : tie.Need-shape_of-elements
 same_length c = search rules
 
-same_length_2 : tie.Need-same-length-2
+same_length_2 : tie.Need-shape_of-v2e
 same_length_2 c = search rules
 
-same_length_3 : tie.Need-same-length-3
+same_length_3 : tie.Need-shape_of-e2e
 same_length_3 c = search rules
 
-same_length_4 : tie.Need-same-length-4
+same_length_4 : tie.Need-shape_of-b2e
 same_length_4 c = search rules
 
-same_length_5 : tie.Need-same-length-5
+same_length_5 : tie.Need-shape_of-work
 same_length_5 c = search rules
 
 returns : tie.Need-returns
-returns c = packs_with c.pack.ensures (swapped c).swap.ensures
+returns c = packs_with c.pack.ensures c.swap.ensures
 
 pub borzhanu_swap_spec : {M : Type 1} → statement M
 borzhanu_swap_spec =
