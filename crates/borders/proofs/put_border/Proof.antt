@@ -69,10 +69,14 @@ put_vertex_requires c κs = simp length-set (omega (arith, ends c))
 same_length : tie.Need-shape_of-work
 same_length c = put_length c.put_vertex.ensures ∙ simp length-set
 
+-- states by how far they lie back
+abbrev border_border_of_slice_known_2_1 : tie.After-slice_known-2-1 → tie.After-border-border
+border_border_of_slice_known_2_1 c = c.before.before.before.before.before.before.before
+
 returns : tie.Need-returns
 returns c =
     let a = c.args in
-    put_read a.n a.list.now a.work.now a.p a.b (border c.before.before.before.before.before.before.before) c.wide.ensures
+    put_read a.n a.list.now a.work.now a.p a.b (border (border_border_of_slice_known_2_1 c)) c.wide.ensures
     c.code_at-s.ensures (ends c.before.before.before) c.put_vertex.ensures
 
 pub put_border_spec : {M : Type 1} → statement M

@@ -31,10 +31,20 @@ code_at_requires : tie.Need-code_at-requires invariant_loop decreases_loop
 code_at_requires c κs =
     let fit = c.requires.0.fit in omega (arith, fit.size, fit.fours)
 
+-- states by how far they lie back
+abbrev start_of_code_at : tie.After-code_at invariant_loop decreases_loop → tie.Start invariant_loop decreases_loop
+start_of_code_at c = c.before.before.before.before.before.before.before
+
+abbrev start_of_is_alike : tie.Else-is_alike invariant_loop decreases_loop → tie.Start invariant_loop decreases_loop
+start_of_is_alike c = c.before.before.before.before.before.before
+
+abbrev start_of_loop_p : tie.After-loop-p invariant_loop decreases_loop → tie.Start invariant_loop decreases_loop
+start_of_loop_p c = c.before.before.before.before
+
 returns : tie.Need-returns-then-is_alike invariant_loop decreases_loop
 returns c =
     let found = c.is_alike.ensures.says (rw c.if-is_alike.true tt) in
-    c.code_at.ensures ∙ alike_found _ (two c.before.before.before.before.before.before.before) c.loop-p.p c.loop-p.invariant.0 found
+    c.code_at.ensures ∙ alike_found _ (two (start_of_code_at c)) c.loop-p.p c.loop-p.invariant.0 found
 
 add_p : tie.Need-overflow_add-p invariant_loop decreases_loop
 add_p c = search rules
@@ -44,11 +54,11 @@ loop_less c = omega arith
 
 loop_again : tie.Need-loop-p-preserved invariant_loop decreases_loop
 loop_again c =
-    (alike_later _ (two c.before.before.before.before.before.before) c.loop-p.p c.loop-p.invariant.0 (λ x. T_not c.is_alike.result (rw c.if-is_alike.false tt) (c.is_alike.ensures.shows x)), omega arith)
+    (alike_later _ (two (start_of_is_alike c)) c.loop-p.p c.loop-p.invariant.0 (λ x. T_not c.is_alike.result (rw c.if-is_alike.false tt) (c.is_alike.ensures.shows x)), omega arith)
 
 returns_2 : tie.Need-returns invariant_loop decreases_loop
 returns_2 c =
-    alike_nowhere _ (two c.before.before.before.before) c.loop-p.p (omega arith) c.loop-p.invariant.0
+    alike_nowhere _ (two (start_of_loop_p c)) c.loop-p.p (omega arith) c.loop-p.invariant.0
 
 pub alike_side_spec : {M : Type 1} → statement M
 alike_side_spec =

@@ -19,11 +19,27 @@ start c = let p = c.requires in begins p.0 p.1 p.3
 from_4 : (c : tie.After-put_first) → Since c.before.before c.put_first.new.work 3
 from_4 c = goes_on (start c.before.before) c.put_first.ensures
 
-from_3 : (c : tie.After-put_first-2) → Since c.before.before.before.before.before.before c.put_first-2.new.work 2
-from_3 c = goes_on (from_4 c.before.before.before.before) c.put_first-2.ensures
+-- states by how far they lie back
+abbrev put_first_of_put_first_2 : tie.After-put_first-2 → tie.After-put_first
+put_first_of_put_first_2 c = c.before.before.before.before
 
-from_2 : (c : tie.After-put_first-3) → Since c.before.before.before.before.before.before.before.before.before.before c.put_first-3.new.work 1
-from_2 c = goes_on (from_3 c.before.before.before.before) c.put_first-3.ensures
+abbrev row_corners_of_put_first_2 : tie.After-put_first-2 → tie.After-row-corners
+row_corners_of_put_first_2 c = (put_first_of_put_first_2 c).before.before
+
+abbrev put_first_2_of_put_first_3 : tie.After-put_first-3 → tie.After-put_first-2
+put_first_2_of_put_first_3 c = c.before.before.before.before
+
+abbrev row_corners_of_put_first_3 : tie.After-put_first-3 → tie.After-row-corners
+row_corners_of_put_first_3 c = (put_first_2_of_put_first_3 c).before.before.before.before.before.before
+
+abbrev put_first_3_of_slice_known_5_1 : tie.After-slice_known-5-1 → tie.After-put_first-3
+put_first_3_of_slice_known_5_1 c = c.before.before.before.before.before.before
+
+from_3 : (c : tie.After-put_first-2) → Since (row_corners_of_put_first_2 c) c.put_first-2.new.work 2
+from_3 c = goes_on (from_4 (put_first_of_put_first_2 c)) c.put_first-2.ensures
+
+from_2 : (c : tie.After-put_first-3) → Since (row_corners_of_put_first_3 c) c.put_first-3.new.work 1
+from_2 c = goes_on (from_3 (put_first_2_of_put_first_3 c)) c.put_first-3.ensures
 
 add_e : tie.Need-overflow_add-e
 add_e c = search rules
@@ -89,7 +105,7 @@ same_length c = search rules
 
 returns : tie.Need-returns
 returns c =
-    let done = goes_on (from_2 c.before.before.before.before.before.before) c.put_first-4.ensures in (done.kept, done.firsts)
+    let done = goes_on (from_2 (put_first_3_of_slice_known_5_1 c)) c.put_first-4.ensures in (done.kept, done.firsts)
 
 pub put_row_spec : {M : Type 1} → statement M
 put_row_spec =

@@ -18,9 +18,13 @@ as_long c =
     let (fours, long) = s.requires.1 in
     omega (arith, long_by _ long (not_three s.requires.0 c.if-columns-eq3.false))
 
+-- states by how far they lie back
+abbrev start_of_narrow_arg_1 : tie.After-narrow-arg-1 → tie.Start
+start_of_narrow_arg_1 c = c.before.before.before.before
+
 narrow_requires : tie.Need-narrow-requires
 narrow_requires c κs =
-    let s = c.before.before.before.before in
+    let s = (start_of_narrow_arg_1 c) in
     let (fours, long) = s.requires.1 in (fours, long_by _ long c.if-columns-eq3.true)
 
 same_length : tie.Need-shape_of-out-then-columns-eq3

@@ -35,8 +35,12 @@ returns c =
     ∙ onto_full s.args.e2e.now s.args.out.now tested.if-e2e-out.true
     ∙ sym (widened_four s.args.m s.args.e2e.now (tested.if-e2e-out.true ∙ s.requires.1))
 
+-- states by how far they lie back
+abbrev start_of_widen_arg_1 : tie.After-widen-arg-1 → tie.Start
+start_of_widen_arg_1 c = c.before.before.before.before
+
 widen_requires : tie.Need-widen-requires
-widen_requires c κs = let s = c.before.before.before.before in omega (arith, three c.before, s.requires.1)
+widen_requires c κs = let s = (start_of_widen_arg_1 c) in omega (arith, three c.before, s.requires.1)
 
 same_length_2 : tie.Need-shape_of-out
 same_length_2 c = search rules

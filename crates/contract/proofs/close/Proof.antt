@@ -61,9 +61,16 @@ same_length_2 c = search rules
 same_length_3 : tie.Need-shape_of-points
 same_length_3 c = search rules
 
+-- states by how far they lie back
+abbrev wide_4_of_size_1 : tie.After-size-1 → tie.After-wide-4
+wide_4_of_size_1 c = c.before.before.before.before.before.before.before.before.before
+
+abbrev wide_3_of_size_1 : tie.After-size-1 → tie.After-wide-3
+wide_3_of_size_1 c = (wide_4_of_size_1 c).before
+
 returns : tie.Need-returns
 returns c =
-    closes c.requires (columned c.before.before.before.before.before.before.before.before.before.before) c.wide-3.ensures c.wide-4.ensures c.wide.ensures c.wide-2.ensures
+    closes c.requires (columned (wide_3_of_size_1 c)) c.wide-3.ensures c.wide-4.ensures c.wide.ensures c.wide-2.ensures
     c.clear_between.ensures
     c.clear_between-2.ensures c.close_point.ensures
 

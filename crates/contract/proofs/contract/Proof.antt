@@ -34,33 +34,109 @@ edit c = contract (lends c).n (held (lends c)) c.args.code
 abbrev new_points : tie.Start → List Float
 new_points c = closed (lends c) (points c) c.args.code
 
+-- states by how far they lie back
+abbrev slice_known_1_of_counts_fit : tie.After-counts_fit → tie.After-slice_known-1
+slice_known_1_of_counts_fit c = c.before.before.before.before.before.before.before.before.before
+
+abbrev start_of_counts_fit : tie.After-counts_fit → tie.Start
+start_of_counts_fit c = (slice_known_1_of_counts_fit c).before
+
+abbrev slice_known_2_1_of_not_counts_fit : tie.Else-not-counts_fit → tie.After-slice_known-2-1
+slice_known_2_1_of_not_counts_fit c = c.before.before.before.before.before.before.before.before.before
+
+abbrev start_of_not_counts_fit : tie.Else-not-counts_fit → tie.Start
+start_of_not_counts_fit c = (slice_known_2_1_of_not_counts_fit c).before.before
+
+abbrev slice_known_4_1_of_points_wide : tie.Then-points-wide → tie.After-slice_known-4-1
+slice_known_4_1_of_points_wide c = c.before.before.before.before.before.before.before.before.before
+
+abbrev start_of_points_wide : tie.Then-points-wide → tie.Start
+start_of_points_wide c = (slice_known_4_1_of_points_wide c).before.before.before.before
+
+abbrev not_counts_fit_of_columns_eq0 : tie.Else-columns-eq0 → tie.Else-not-counts_fit
+not_counts_fit_of_columns_eq0 c = c.before.before.before.before
+
+abbrev slice_known_2_1_of_columns_eq0 : tie.Else-columns-eq0 → tie.After-slice_known-2-1
+slice_known_2_1_of_columns_eq0 c = (not_counts_fit_of_columns_eq0 c).before.before.before.before.before.before.before.before.before
+
+abbrev start_of_columns_eq0 : tie.Else-columns-eq0 → tie.Start
+start_of_columns_eq0 c = (slice_known_2_1_of_columns_eq0 c).before.before
+
+abbrev slice_known_3_1_of_refuse : tie.After-refuse → tie.After-slice_known-3-1
+slice_known_3_1_of_refuse c = c.before.before.before.before.before.before.before.before.before
+
+abbrev start_of_refuse : tie.After-refuse → tie.Start
+start_of_refuse c = (slice_known_3_1_of_refuse c).before.before.before
+
+abbrev slice_known_5_1_of_refuse_then_points_wide : tie.After-refuse-then-points-wide → tie.After-slice_known-5-1
+slice_known_5_1_of_refuse_then_points_wide c = c.before.before.before.before.before.before.before.before.before
+
+abbrev start_of_refuse_then_points_wide : tie.After-refuse-then-points-wide → tie.Start
+start_of_refuse_then_points_wide c = (slice_known_5_1_of_refuse_then_points_wide c).before.before.before.before.before
+
+abbrev not_counts_fit_of_refuse_then_columns_eq0 : tie.After-refuse-then-columns-eq0 → tie.Else-not-counts_fit
+not_counts_fit_of_refuse_then_columns_eq0 c = c.before.before.before.before.before
+
+abbrev slice_known_2_1_of_refuse_then_columns_eq0 : tie.After-refuse-then-columns-eq0 → tie.After-slice_known-2-1
+slice_known_2_1_of_refuse_then_columns_eq0 c = (not_counts_fit_of_refuse_then_columns_eq0 c).before.before.before.before.before.before.before.before.before
+
+abbrev start_of_refuse_then_columns_eq0 : tie.After-refuse-then-columns-eq0 → tie.Start
+start_of_refuse_then_columns_eq0 c = (slice_known_2_1_of_refuse_then_columns_eq0 c).before.before
+
+abbrev columns_eq0_of_contract_fit_arg_7_1 : tie.After-contract_fit-arg-7-1 → tie.Else-columns-eq0
+columns_eq0_of_contract_fit_arg_7_1 c = c.before.before.before.before.before.before.before
+
+abbrev points_wide_of_contract_fit_arg_7_1 : tie.After-contract_fit-arg-7-1 → tie.Else-points-wide
+points_wide_of_contract_fit_arg_7_1 c = (columns_eq0_of_contract_fit_arg_7_1 c).before.before
+
+abbrev b2e_1_of_slice_known_13_1 : tie.After-slice_known-13-1 → tie.After-b2e-1
+b2e_1_of_slice_known_13_1 c = c.before.before.before.before.before.before.before.before.before
+
+abbrev contract_fit_arg_6_1_of_slice_known_13_1 : tie.After-slice_known-13-1 → tie.After-contract_fit-arg-6-1
+contract_fit_arg_6_1_of_slice_known_13_1 c = (b2e_1_of_slice_known_13_1 c).before.before.before.before.before.before.before.before.before
+
+abbrev columns_eq0_of_slice_known_13_1 : tie.After-slice_known-13-1 → tie.Else-columns-eq0
+columns_eq0_of_slice_known_13_1 c = (contract_fit_arg_6_1_of_slice_known_13_1 c).before.before.before.before.before.before
+
+abbrev points_wide_of_slice_known_13_1 : tie.After-slice_known-13-1 → tie.Else-points-wide
+points_wide_of_slice_known_13_1 c = (columns_eq0_of_slice_known_13_1 c).before.before
+
+abbrev not_counts_fit_of_slice_known_13_1 : tie.After-slice_known-13-1 → tie.Else-not-counts_fit
+not_counts_fit_of_slice_known_13_1 c = (points_wide_of_slice_known_13_1 c).before.before
+
+abbrev slice_known_2_1_of_slice_known_13_1 : tie.After-slice_known-13-1 → tie.After-slice_known-2-1
+slice_known_2_1_of_slice_known_13_1 c = (not_counts_fit_of_slice_known_13_1 c).before.before.before.before.before.before.before.before.before
+
+abbrev start_of_slice_known_13_1 : tie.After-slice_known-13-1 → tie.Start
+start_of_slice_known_13_1 c = (slice_known_2_1_of_slice_known_13_1 c).before.before
+
 -- check 1
-sizes : (c : tie.After-counts_fit) → edit_sizes (lends c.before.before.before.before.before.before.before.before.before.before) ≡ c.counts_fit.result
+sizes : (c : tie.After-counts_fit) → edit_sizes (lends (start_of_counts_fit c)) ≡ c.counts_fit.result
 unfolding edit_sizes
 sizes c = sym c.counts_fit.ensures
 
-sized : (c : tie.Else-not-counts_fit) → edit_sizes (lends c.before.before.before.before.before.before.before.before.before.before.before) ≡ true
+sized : (c : tie.Else-not-counts_fit) → edit_sizes (lends (start_of_not_counts_fit c)) ≡ true
 sized c = sizes c.before ∙ not-false _ c.if-not-counts_fit.false-raw
 
-within : (c : tie.Else-not-counts_fit) → let w = lends c.before.before.before.before.before.before.before.before.before.before.before in (w.n ≤ max_vertex) × (w.m ≤ max_element)
+within : (c : tie.Else-not-counts_fit) → let w = lends (start_of_not_counts_fit c) in (w.n ≤ max_vertex) × (w.m ≤ max_element)
 unfolding edit_sizes
-within c = let w = lends c.before.before.before.before.before.before.before.before.before.before.before in counts_say w.n w.m (sized c)
+within c = let w = lends (start_of_not_counts_fit c) in counts_say w.n w.m (sized c)
 
-few : (c : tie.Then-points-wide) → has_points (lends c.before.before.before.before.before.before.before.before.before.before.before.before.before).n (points c.before.before.before.before.before.before.before.before.before.before.before.before.before) ≡ false
+few : (c : tie.Then-points-wide) → has_points (lends (start_of_points_wide c)).n (points (start_of_points_wide c)) ≡ false
 unfolding has_points
-few c = lt-leb (3 * (lends c.before.before.before.before.before.before.before.before.before.before.before.before.before).n) (length (points c.before.before.before.before.before.before.before.before.before.before.before.before.before)) (omega (arith, c.if-points-wide.true, c.wide.ensures))
+few c = lt-leb (3 * (lends (start_of_points_wide c)).n) (length (points (start_of_points_wide c))) (omega (arith, c.if-points-wide.true, c.wide.ensures))
 
-many : (c : tie.Else-points-wide) → has_points (lends c.before.before.before.before.before.before.before.before.before.before.before.before.before).n (points c.before.before.before.before.before.before.before.before.before.before.before.before.before) ≡ true
+many : (c : tie.Else-points-wide) → has_points (lends (start_of_points_wide c)).n (points (start_of_points_wide c)) ≡ true
 unfolding has_points
-many c = le-leb (3 * (lends c.before.before.before.before.before.before.before.before.before.before.before.before.before).n) (length (points c.before.before.before.before.before.before.before.before.before.before.before.before.before)) (omega (arith, c.if-points-wide.false, c.wide.ensures))
+many c = le-leb (3 * (lends (start_of_points_wide c)).n) (length (points (start_of_points_wide c))) (omega (arith, c.if-points-wide.false, c.wide.ensures))
 
-enough : (c : tie.Else-points-wide) → 3 * (lends c.before.before.before.before.before.before.before.before.before.before.before.before.before).n ≤ length (points c.before.before.before.before.before.before.before.before.before.before.before.before.before)
+enough : (c : tie.Else-points-wide) → 3 * (lends (start_of_points_wide c)).n ≤ length (points (start_of_points_wide c))
 enough c = omega (arith, c.if-points-wide.false, c.wide.ensures)
 
-ready : (c : tie.Else-columns-eq0) → Ready (lends c.before.before.before.before.before.before.before.before.before.before.before.before.before.before.before) c.columns_held-columns.result
+ready : (c : tie.Else-columns-eq0) → Ready (lends (start_of_columns_eq0 c)) c.columns_held-columns.result
 ready c =
     record {
-      sizes = within c.before.before.before.before;
+      sizes = within (not_counts_fit_of_columns_eq0 c);
       long = found_long _ _ _ _ _ _ c.columns_held-columns.ensures c.if-columns-eq0.false;
     }
 
@@ -79,7 +155,7 @@ refuse_requires c κs = search rules
 returns : tie.Need-returns-then-not-counts_fit
 unfolding contract_points
 returns c =
-    refused_1 (lends c.before.before.before.before.before.before.before.before.before.before.before.before) (points c.before.before.before.before.before.before.before.before.before.before.before.before) (edit c.before.before.before.before.before.before.before.before.before.before.before.before) (new_points c.before.before.before.before.before.before.before.before.before.before.before.before) (sizes c.before.before ∙ not-true _ c.if-not-counts_fit.true-raw) c.refuse.ensures
+    refused_1 (lends (start_of_refuse c)) (points (start_of_refuse c)) (edit (start_of_refuse c)) (new_points (start_of_refuse c)) (sizes c.before.before ∙ not-true _ c.if-not-counts_fit.true-raw) c.refuse.ensures
 
 wide_requires : tie.Need-wide-requires
 wide_requires c κs = search rules
@@ -93,7 +169,7 @@ refuse_requires_2 c κs = search rules
 returns_2 : tie.Need-returns-then-points-wide
 unfolding contract_points
 returns_2 c =
-    refused_2 (lends c.before.before.before.before.before.before.before.before.before.before.before.before.before.before) (points c.before.before.before.before.before.before.before.before.before.before.before.before.before.before) (edit c.before.before.before.before.before.before.before.before.before.before.before.before.before.before) (new_points c.before.before.before.before.before.before.before.before.before.before.before.before.before.before) (sized c.before.before.before) (ap (edit_lengths (lends c.before.before.before.before.before.before.before.before.before.before.before.before.before.before)) (few c.before) ∙ without_points (lends c.before.before.before.before.before.before.before.before.before.before.before.before.before.before))
+    refused_2 (lends (start_of_refuse_then_points_wide c)) (points (start_of_refuse_then_points_wide c)) (edit (start_of_refuse_then_points_wide c)) (new_points (start_of_refuse_then_points_wide c)) (sized c.before.before.before) (ap (edit_lengths (lends (start_of_refuse_then_points_wide c))) (few c.before) ∙ without_points (lends (start_of_refuse_then_points_wide c)))
     c.refuse-then-points-wide.ensures
 
 columns_held_requires : tie.Need-columns_held-columns-requires
@@ -109,10 +185,10 @@ returns_3 : tie.Need-returns-then-columns-eq0
 unfolding contract_points
 returns_3 c =
     let none = found_short _ _ _ _ _ _ (sym c.columns_held-columns.ensures ∙ c.if-columns-eq0.true) in
-    refused_2 (lends c.before.before.before.before.before.before.before.before.before.before.before.before.before.before.before.before) (points c.before.before.before.before.before.before.before.before.before.before.before.before.before.before.before.before) (edit c.before.before.before.before.before.before.before.before.before.before.before.before.before.before.before.before) (new_points c.before.before.before.before.before.before.before.before.before.before.before.before.before.before.before.before) (sized c.before.before.before.before.before) (with_points (lends c.before.before.before.before.before.before.before.before.before.before.before.before.before.before.before.before) (many c.before.before.before) none) c.refuse-then-columns-eq0.ensures
+    refused_2 (lends (start_of_refuse_then_columns_eq0 c)) (points (start_of_refuse_then_columns_eq0 c)) (edit (start_of_refuse_then_columns_eq0 c)) (new_points (start_of_refuse_then_columns_eq0 c)) (sized (not_counts_fit_of_refuse_then_columns_eq0 c)) (with_points (lends (start_of_refuse_then_columns_eq0 c)) (many c.before.before.before) none) c.refuse-then-columns-eq0.ensures
 
 contract_fit_requires : tie.Need-contract_fit-a-requires
-contract_fit_requires c κs = (ready c.before.before.before.before.before.before.before, enough c.before.before.before.before.before.before.before.before.before)
+contract_fit_requires c κs = (ready (columns_eq0_of_contract_fit_arg_7_1 c), enough (points_wide_of_contract_fit_arg_7_1 c))
 
 clear_requires : tie.Need-clear-requires
 clear_requires c κs = search rules
@@ -138,7 +214,7 @@ same_length_7 c = search rules
 returns_4 : tie.Need-returns
 unfolding contract_points
 returns_4 c =
-    finished (lends c.before.before.before.before.before.before.before.before.before.before.before.before.before.before.before.before.before.before.before.before.before.before.before.before.before.before.before.before.before.before.before.before.before.before.before.before.before.before.before) (points c.before.before.before.before.before.before.before.before.before.before.before.before.before.before.before.before.before.before.before.before.before.before.before.before.before.before.before.before.before.before.before.before.before.before.before.before.before.before.before) (edit c.before.before.before.before.before.before.before.before.before.before.before.before.before.before.before.before.before.before.before.before.before.before.before.before.before.before.before.before.before.before.before.before.before.before.before.before.before.before.before) (new_points c.before.before.before.before.before.before.before.before.before.before.before.before.before.before.before.before.before.before.before.before.before.before.before.before.before.before.before.before.before.before.before.before.before.before.before.before.before.before.before) (sized c.before.before.before.before.before.before.before.before.before.before.before.before.before.before.before.before.before.before.before.before.before.before.before.before.before.before.before.before, with_points (lends c.before.before.before.before.before.before.before.before.before.before.before.before.before.before.before.before.before.before.before.before.before.before.before.before.before.before.before.before.before.before.before.before.before.before.before.before.before.before.before) (many c.before.before.before.before.before.before.before.before.before.before.before.before.before.before.before.before.before.before.before.before.before.before.before.before.before.before) (ready c.before.before.before.before.before.before.before.before.before.before.before.before.before.before.before.before.before.before.before.before.before.before.before.before).long.passed)
+    finished (lends (start_of_slice_known_13_1 c)) (points (start_of_slice_known_13_1 c)) (edit (start_of_slice_known_13_1 c)) (new_points (start_of_slice_known_13_1 c)) (sized (not_counts_fit_of_slice_known_13_1 c), with_points (lends (start_of_slice_known_13_1 c)) (many (points_wide_of_slice_known_13_1 c)) (ready (columns_eq0_of_slice_known_13_1 c)).long.passed)
     c.contract_fit-a.ensures c.clear.ensures
 
 pub contract_spec : {M : Type 1} → statement M

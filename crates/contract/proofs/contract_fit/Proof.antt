@@ -23,7 +23,86 @@ lends c = let a = c.args in lent_sized a.size.now a.list.now a.v2e.now a.e2e.now
 abbrev points : tie.Start → List Float
 points c = c.args.points.now
 
-rows : (c : tie.After-wide-rows) → 4 * c.wide-rows.result - 0 ≡ 4 * (lends c.before.before.before.before.before.before.before.before.before.before).m
+-- states by how far they lie back
+abbrev slice_known_1_of_wide_rows : tie.After-wide-rows → tie.After-slice_known-1
+slice_known_1_of_wide_rows c = c.before.before.before.before.before.before.before.before.before
+
+abbrev start_of_wide_rows : tie.After-wide-rows → tie.Start
+start_of_wide_rows c = (slice_known_1_of_wide_rows c).before
+
+abbrev slice_known_3_1_of_try_old_arg_2_1 : tie.After-try_old-arg-2-1 → tie.After-slice_known-3-1
+slice_known_3_1_of_try_old_arg_2_1 c = c.before.before.before.before.before.before.before.before.before
+
+abbrev start_of_try_old_arg_2_1 : tie.After-try_old-arg-2-1 → tie.Start
+start_of_try_old_arg_2_1 c = (slice_known_3_1_of_try_old_arg_2_1 c).before.before.before
+
+abbrev wide_rows_of_in_default : tie.In_default → tie.After-wide-rows
+wide_rows_of_in_default c = c.before.before.before.before.before.before
+
+abbrev slice_known_1_of_in_default : tie.In_default → tie.After-slice_known-1
+slice_known_1_of_in_default c = (wide_rows_of_in_default c).before.before.before.before.before.before.before.before.before
+
+abbrev start_of_in_default : tie.In_default → tie.Start
+start_of_in_default c = (slice_known_1_of_in_default c).before
+
+abbrev wide_rows_of_admit_arg_2_1 : tie.After-admit-arg-2-1 → tie.After-wide-rows
+wide_rows_of_admit_arg_2_1 c = c.before.before.before.before.before.before.before.before
+
+abbrev slice_known_1_of_admit_arg_2_1 : tie.After-admit-arg-2-1 → tie.After-slice_known-1
+slice_known_1_of_admit_arg_2_1 c = (wide_rows_of_admit_arg_2_1 c).before.before.before.before.before.before.before.before.before
+
+abbrev start_of_admit_arg_2_1 : tie.After-admit-arg-2-1 → tie.Start
+start_of_admit_arg_2_1 c = (slice_known_1_of_admit_arg_2_1 c).before
+
+abbrev gives_of_in_default_a : tie.In_default-a → tie.In-Gives
+gives_of_in_default_a c = c.before.before.before.before.before.before
+
+abbrev wide_rows_of_in_default_a : tie.In_default-a → tie.After-wide-rows
+wide_rows_of_in_default_a c = (gives_of_in_default_a c).before.before.before.before.before.before
+
+abbrev slice_known_1_of_in_default_a : tie.In_default-a → tie.After-slice_known-1
+slice_known_1_of_in_default_a c = (wide_rows_of_in_default_a c).before.before.before.before.before.before.before.before.before
+
+abbrev start_of_in_default_a : tie.In_default-a → tie.Start
+start_of_in_default_a c = (slice_known_1_of_in_default_a c).before
+
+abbrev work_2_1_of_write_arg_7_1 : tie.After-write-arg-7-1 → tie.After-work-2-1
+work_2_1_of_write_arg_7_1 c = c.before.before.before.before.before.before.before.before.before
+
+abbrev gives_of_write_arg_7_1 : tie.After-write-arg-7-1 → tie.In-Gives
+gives_of_write_arg_7_1 c = (work_2_1_of_write_arg_7_1 c).before.before.before.before
+
+abbrev wide_rows_of_write_arg_7_1 : tie.After-write-arg-7-1 → tie.After-wide-rows
+wide_rows_of_write_arg_7_1 c = (gives_of_write_arg_7_1 c).before.before.before.before.before.before
+
+abbrev slice_known_1_of_write_arg_7_1 : tie.After-write-arg-7-1 → tie.After-slice_known-1
+slice_known_1_of_write_arg_7_1 c = (wide_rows_of_write_arg_7_1 c).before.before.before.before.before.before.before.before.before
+
+abbrev start_of_write_arg_7_1 : tie.After-write-arg-7-1 → tie.Start
+start_of_write_arg_7_1 c = (slice_known_1_of_write_arg_7_1 c).before
+
+abbrev v2e_1_of_slice_known_14_1 : tie.After-slice_known-14-1 → tie.After-v2e-1
+v2e_1_of_slice_known_14_1 c = c.before.before.before.before.before.before.before.before.before
+
+abbrev write_of_slice_known_14_1 : tie.After-slice_known-14-1 → tie.After-write
+write_of_slice_known_14_1 c = (v2e_1_of_slice_known_14_1 c).before.before.before
+
+abbrev slice_known_8_1_of_slice_known_14_1 : tie.After-slice_known-14-1 → tie.After-slice_known-8-1
+slice_known_8_1_of_slice_known_14_1 c = (write_of_slice_known_14_1 c).before.before.before.before.before.before.before.before.before
+
+abbrev gives_of_slice_known_14_1 : tie.After-slice_known-14-1 → tie.In-Gives
+gives_of_slice_known_14_1 c = (slice_known_8_1_of_slice_known_14_1 c).before.before.before.before.before
+
+abbrev wide_rows_of_slice_known_14_1 : tie.After-slice_known-14-1 → tie.After-wide-rows
+wide_rows_of_slice_known_14_1 c = (gives_of_slice_known_14_1 c).before.before.before.before.before.before
+
+abbrev slice_known_1_of_slice_known_14_1 : tie.After-slice_known-14-1 → tie.After-slice_known-1
+slice_known_1_of_slice_known_14_1 c = (wide_rows_of_slice_known_14_1 c).before.before.before.before.before.before.before.before.before
+
+abbrev start_of_slice_known_14_1 : tie.After-slice_known-14-1 → tie.Start
+start_of_slice_known_14_1 c = (slice_known_1_of_slice_known_14_1 c).before
+
+rows : (c : tie.After-wide-rows) → 4 * c.wide-rows.result - 0 ≡ 4 * (lends (start_of_wide_rows c)).m
 rows c = omega (arith, c.wide-rows.ensures)
 
 counts : (c : tie.In-Gives) → numbers c.try_old-old.result ≡ gives c.in-Gives.first c.in-Gives.second
@@ -55,7 +134,7 @@ part_try_old_end : tie.Need-slice_bounds-try_old-end
 part_try_old_end c = search rules
 
 try_old_requires : tie.Need-try_old-old-requires
-try_old_requires c κs = to_try (lends c.before.before.before.before.before.before.before.before.before.before.before.before) (fitting (lends c.before.before.before.before.before.before.before.before.before.before.before.before) c.requires.0) (rows c.before.before)
+try_old_requires c κs = to_try (lends (start_of_try_old_arg_2_1 c)) (fitting (lends (start_of_try_old_arg_2_1 c)) c.requires.0) (rows c.before.before)
 
 enum_known_old : tie.Need-enum_known-old
 enum_known_old c = search rules
@@ -71,7 +150,7 @@ same_length_2 c = search rules
 
 returns : tie.Need-returns-in_default
 returns c =
-    old_denied (lends c.before.before.before.before.before.before.before.before.before.before.before.before.before.before.before.before) (points c.before.before.before.before.before.before.before.before.before.before.before.before.before.before.before.before) c.args.code c.requires (rows c.before.before.before.before.before.before) c.try_old-old.ensures (ap numbers c.in_default.is)
+    old_denied (lends (start_of_in_default c)) (points (start_of_in_default c)) c.args.code c.requires (rows (wide_rows_of_in_default c)) c.try_old-old.ensures (ap numbers c.in_default.is)
 
 sub_admit : tie.Need-slice_bounds-admit-count
 sub_admit c = search rules
@@ -84,7 +163,7 @@ part_admit_end c = search rules
 
 admit_requires : tie.Need-admit-a-requires
 admit_requires c κs =
-    admissible (lends c.before.before.before.before.before.before.before.before.before.before.before.before.before.before.before.before.before.before) (points c.before.before.before.before.before.before.before.before.before.before.before.before.before.before.before.before.before.before) c.args.code c.requires (rows c.before.before.before.before.before.before.before.before) c.try_old-old.ensures (counts c.before.before)
+    admissible (lends (start_of_admit_arg_2_1 c)) (points (start_of_admit_arg_2_1 c)) c.args.code c.requires (rows (wide_rows_of_admit_arg_2_1 c)) c.try_old-old.ensures (counts c.before.before)
 
 enum_known_a : tie.Need-enum_known-a
 enum_known_a c = search rules
@@ -100,12 +179,12 @@ same_length_4 c = search rules
 
 returns_2 : tie.Need-returns-in_default-a
 returns_2 c =
-    new_denied (lends c.before.before.before.before.before.before.before.before.before.before.before.before.before.before.before.before.before.before.before.before.before.before) (points c.before.before.before.before.before.before.before.before.before.before.before.before.before.before.before.before.before.before.before.before.before.before) c.args.code c.requires (rows c.before.before.before.before.before.before.before.before.before.before.before.before) c.try_old-old.ensures (counts c.before.before.before.before.before.before)
+    new_denied (lends (start_of_in_default_a c)) (points (start_of_in_default_a c)) c.args.code c.requires (rows (wide_rows_of_in_default_a c)) c.try_old-old.ensures (counts (gives_of_in_default_a c))
     c.admit-a.ensures.0 c.admit-a.ensures.1 (ap numbers c.in_default-a.is)
 
 write_requires : tie.Need-write-requires
 write_requires c κs =
-    new_allowed (lends c.before.before.before.before.before.before.before.before.before.before.before.before.before.before.before.before.before.before.before.before.before.before.before.before.before.before.before.before.before) (points c.before.before.before.before.before.before.before.before.before.before.before.before.before.before.before.before.before.before.before.before.before.before.before.before.before.before.before.before.before) c.args.code c.requires (rows c.before.before.before.before.before.before.before.before.before.before.before.before.before.before.before.before.before.before.before) c.try_old-old.ensures (counts c.before.before.before.before.before.before.before.before.before.before.before.before.before)
+    new_allowed (lends (start_of_write_arg_7_1 c)) (points (start_of_write_arg_7_1 c)) c.args.code c.requires (rows (wide_rows_of_write_arg_7_1 c)) c.try_old-old.ensures (counts (gives_of_write_arg_7_1 c))
     c.admit-a.ensures.0 c.admit-a.ensures.1 (ap numbers c.in-Gives-a.is) refl
 
 same_length_5 : tie.Need-shape_of-list
@@ -124,11 +203,11 @@ same_length_9 : tie.Need-shape_of-points
 same_length_9 c = search rules
 
 same_length_10 : tie.Need-shape_of-work
-same_length_10 c = long c.before.before.before.before.before.before.before.before.before.before.before.before
+same_length_10 c = long (write_of_slice_known_14_1 c)
 
 returns_3 : tie.Need-returns
 returns_3 c =
-    (all_done (lends c.before.before.before.before.before.before.before.before.before.before.before.before.before.before.before.before.before.before.before.before.before.before.before.before.before.before.before.before.before.before.before.before.before.before.before.before.before.before.before.before.before.before) (points c.before.before.before.before.before.before.before.before.before.before.before.before.before.before.before.before.before.before.before.before.before.before.before.before.before.before.before.before.before.before.before.before.before.before.before.before.before.before.before.before.before.before) c.args.code c.requires (rows c.before.before.before.before.before.before.before.before.before.before.before.before.before.before.before.before.before.before.before.before.before.before.before.before.before.before.before.before.before.before.before.before) c.try_old-old.ensures (counts c.before.before.before.before.before.before.before.before.before.before.before.before.before.before.before.before.before.before.before.before.before.before.before.before.before.before) c.write.ensures.0, long c.before.before.before.before.before.before.before.before.before.before.before.before)
+    (all_done (lends (start_of_slice_known_14_1 c)) (points (start_of_slice_known_14_1 c)) c.args.code c.requires (rows (wide_rows_of_slice_known_14_1 c)) c.try_old-old.ensures (counts (gives_of_slice_known_14_1 c)) c.write.ensures.0, long (write_of_slice_known_14_1 c))
 
 pub contract_fit_spec : {M : Type 1} → statement M
 contract_fit_spec =

@@ -31,9 +31,13 @@ clear_between_requires c κs =
 same_length : tie.Need-shape_of-list
 same_length c = search rules
 
+-- states by how far they lie back
+abbrev wide_rows_of_slice_known_3_1 : tie.After-slice_known-3-1 → tie.After-wide-rows
+wide_rows_of_slice_known_3_1 c = c.before.before.before.before
+
 returns : tie.Need-returns
 returns c =
-    merged_rows c.requires.0.0 c.requires.1 c.merge.new.list c.merge.ensures (rows c.before.before.before.before) c.clear_between.ensures
+    merged_rows c.requires.0.0 c.requires.1 c.merge.new.list c.merge.ensures (rows (wide_rows_of_slice_known_3_1 c)) c.clear_between.ensures
 
 pub merge_ends_spec : {M : Type 1} → statement M
 merge_ends_spec =

@@ -50,10 +50,29 @@ refuse_requires c κs = search rules
 same_length : tie.Need-shape_of-list-then-not-all_used
 same_length c = search rules
 
+-- states by how far they lie back
+abbrev wide_rows_of_refuse : tie.After-refuse → tie.After-wide-rows
+wide_rows_of_refuse c = c.before.before.before.before
+
+abbrev all_used_of_build_front_arg_4_1 : tie.After-build_front-arg-4-1 → tie.After-all_used
+all_used_of_build_front_arg_4_1 c = c.before.before.before.before.before.before.before.before.before
+
+abbrev wide_rows_of_build_front_arg_4_1 : tie.After-build_front-arg-4-1 → tie.After-wide-rows
+wide_rows_of_build_front_arg_4_1 c = (all_used_of_build_front_arg_4_1 c).before.before
+
+abbrev build_front_arg_4_1_of_slice_known_11_1 : tie.After-slice_known-11-1 → tie.After-build_front-arg-4-1
+build_front_arg_4_1_of_slice_known_11_1 c = c.before.before.before.before.before.before.before.before.before
+
+abbrev all_used_of_slice_known_11_1 : tie.After-slice_known-11-1 → tie.After-all_used
+all_used_of_slice_known_11_1 c = (build_front_arg_4_1_of_slice_known_11_1 c).before.before.before.before.before.before.before.before.before
+
+abbrev wide_rows_of_slice_known_11_1 : tie.After-slice_known-11-1 → tie.After-wide-rows
+wide_rows_of_slice_known_11_1 c = (all_used_of_slice_known_11_1 c).before.before
+
 returns : tie.Need-returns-then-not-all_used
 returns c =
     let p = c.requires.0 in (
-      left_unused p.0 p.1 p.2 c.merge_ends.ensures (rows c.before.before.before.before) c.all_used.ensures (not-true _ c.if-not-all_used.true-raw)
+      left_unused p.0 p.1 p.2 c.merge_ends.ensures (rows (wide_rows_of_refuse c)) c.all_used.ensures (not-true _ c.if-not-all_used.true-raw)
           c.refuse.ensures,
       refl,
     )
@@ -78,7 +97,7 @@ sub_build_front c =
 build_front_requires : tie.Need-build_front-requires
 build_front_requires c κs =
     let p = c.requires.0 in
-    fits p.0 p.1 p.2 c.merge_ends.ensures (rows c.before.before.before.before.before.before.before.before.before.before.before) c.rename.ensures c.fewer-left.ensures c.requires.1.0 c.requires.1.1
+    fits p.0 p.1 p.2 c.merge_ends.ensures (rows (wide_rows_of_build_front_arg_4_1 c)) c.rename.ensures c.fewer-left.ensures c.requires.1.0 c.requires.1.1
 
 same_length_2 : tie.Need-shape_of-list
 same_length_2 c = search rules
@@ -98,7 +117,7 @@ same_length_6 c = search rules
 returns_2 : tie.Need-returns
 returns_2 c =
     let p = c.requires.0 in (
-      made p.0 p.1 p.2 c.merge_ends.ensures (rows c.before.before.before.before.before.before.before.before.before.before.before.before.before.before.before.before.before.before.before.before) c.rename.ensures c.fewer-left.ensures c.all_used.ensures
+      made p.0 p.1 p.2 c.merge_ends.ensures (rows (wide_rows_of_slice_known_11_1 c)) c.rename.ensures c.fewer-left.ensures c.all_used.ensures
           (not-false _ c.if-not-all_used.false-raw) c.build_front.ensures.0,
       c.build_front.ensures.1,
     )

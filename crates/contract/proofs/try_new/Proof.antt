@@ -28,15 +28,55 @@ kept c = c.before.before.before.before.before.before.before.before
 abbrev before : tie.After-replace-a → List ℕ
 before c = c.replace-a.new.work
 
-front : (c : tie.After-replace-a) → length (before c) ≡ end c.before.before.before.before.before.before.before.before.before.before
+-- states by how far they lie back
+abbrev copy_arg_1_of_replace_a : tie.After-replace-a → tie.After-copy-arg-1
+copy_arg_1_of_replace_a c = c.before.before.before.before.before.before.before.before.before
+
+abbrev wide_2_of_replace_a : tie.After-replace-a → tie.After-wide-2
+wide_2_of_replace_a c = (copy_arg_1_of_replace_a c).before
+
+abbrev wide_2_of_replace_arg_5_1 : tie.After-replace-arg-5-1 → tie.After-wide-2
+wide_2_of_replace_arg_5_1 c = c.before.before.before.before.before.before.before.before.before
+
+abbrev slice_known_7_1_of_in_default : tie.In_default → tie.After-slice_known-7-1
+slice_known_7_1_of_in_default c = c.before.before.before.before.before.before.before.before.before
+
+abbrev replace_a_of_in_default : tie.In_default → tie.After-replace-a
+replace_a_of_in_default c = (slice_known_7_1_of_in_default c).before.before
+
+abbrev copy_arg_1_of_in_default : tie.In_default → tie.After-copy-arg-1
+copy_arg_1_of_in_default c = (replace_a_of_in_default c).before.before.before.before.before.before.before.before.before
+
+abbrev wide_2_of_in_default : tie.In_default → tie.After-wide-2
+wide_2_of_in_default c = (copy_arg_1_of_in_default c).before
+
+abbrev b2e_1_of_slice_known_in_default_1 : tie.After-slice_known-in_default-1 → tie.After-b2e-1
+b2e_1_of_slice_known_in_default_1 c = c.before.before.before.before.before.before.before.before.before
+
+abbrev replace_a_of_slice_known_in_default_1 : tie.After-slice_known-in_default-1 → tie.After-replace-a
+replace_a_of_slice_known_in_default_1 c = (b2e_1_of_slice_known_in_default_1 c).before.before.before.before.before.before.before
+
+abbrev copy_arg_1_of_slice_known_in_default_1 : tie.After-slice_known-in_default-1 → tie.After-copy-arg-1
+copy_arg_1_of_slice_known_in_default_1 c = (replace_a_of_slice_known_in_default_1 c).before.before.before.before.before.before.before.before.before
+
+abbrev wide_2_of_slice_known_in_default_1 : tie.After-slice_known-in_default-1 → tie.After-wide-2
+wide_2_of_slice_known_in_default_1 c = (copy_arg_1_of_slice_known_in_default_1 c).before
+
+abbrev slice_known_7_1_of_gives : tie.In-Gives → tie.After-slice_known-7-1
+slice_known_7_1_of_gives c = c.before.before.before.before.before.before.before.before.before
+
+abbrev replace_a_of_gives : tie.In-Gives → tie.After-replace-a
+replace_a_of_gives c = (slice_known_7_1_of_gives c).before.before
+
+front : (c : tie.After-replace-a) → length (before c) ≡ end (wide_2_of_replace_a c)
 front c =
-    c.replace-a.ensures.1 ∙ before_long (end c.before.before.before.before.before.before.before.before.before.before) c.args.list.now c.args.work.now (inside c.before.before.before.before.before.before.before.before.before.before) c.copy.ensures
+    c.replace-a.ensures.1 ∙ before_long (end (wide_2_of_replace_a c)) c.args.list.now c.args.work.now (inside (wide_2_of_replace_a c)) c.copy.ensures
 
 long : (c : tie.After-replace-a) → let a = c.args in
-    length (before c ++ drop (end c.before.before.before.before.before.before.before.before.before.before - 0) (keeping (end c.before.before.before.before.before.before.before.before.before.before) a.list.now a.work.now (inside c.before.before.before.before.before.before.before.before.before.before) c.copy.ensures))
+    length (before c ++ drop (end (wide_2_of_replace_a c) - 0) (keeping (end (wide_2_of_replace_a c)) a.list.now a.work.now (inside (wide_2_of_replace_a c)) c.copy.ensures))
     ≡ length a.work.now
 long c =
-    still_long (end c.before.before.before.before.before.before.before.before.before.before) c.args.list.now c.args.work.now (inside c.before.before.before.before.before.before.before.before.before.before) c.copy.ensures (before c) (front c)
+    still_long (end (wide_2_of_replace_a c)) c.args.list.now c.args.work.now (inside (wide_2_of_replace_a c)) c.copy.ensures (before c) (front c)
 
 wide_requires : tie.Need-wide-requires
 wide_requires c κs = search rules
@@ -79,7 +119,7 @@ part_replace_end c = search rules
 
 replace_requires : tie.Need-replace-a-requires
 replace_requires c κs =
-    let front = before_long (end c.before.before.before.before.before.before.before.before.before) c.args.list.now c.args.work.now (inside c.before.before.before.before.before.before.before.before.before) c.copy.ensures in
+    let front = before_long (end (wide_2_of_replace_arg_5_1 c)) c.args.list.now c.args.work.now (inside (wide_2_of_replace_arg_5_1 c)) c.copy.ensures in
     (c.requires.0, (c.requires.1.0, omega (arith, front, c.wide-2.ensures, c.wide.ensures)))
 
 enum_told : tie.Need-enum_told-1
@@ -99,8 +139,8 @@ part_copy_start_2 c = search rules
 
 part_copy_end_2 : tie.Need-slice_bounds-copy-end-in_default
 part_copy_end_2 c =
-    let h = long c.before.before.before.before.before.before.before.before.before.before.before in
-    let i = inside c.before.before.before.before.before.before.before.before.before.before.before.before.before.before.before.before.before.before.before.before.before in search rules
+    let h = long (replace_a_of_in_default c) in
+    let i = inside (wide_2_of_in_default c) in search rules
 
 copy_requires_2 : tie.Need-copy-requires-in_default
 copy_requires_2 c κs = search rules
@@ -124,11 +164,11 @@ returns : tie.Need-returns-in_default
 returns c =
     let L = c.args.list.now in
     let (tried, replaced) = c.replace-a.ensures.0 in
-    let count : end c.before.before.before.before.before.before.before.before.before.before.before.before.before.before.before.before.before.before.before.before.before.before.before.before.before.before + length L - end c.before.before.before.before.before.before.before.before.before.before.before.before.before.before.before.before.before.before.before.before.before.before.before.before.before.before ≡ length L = omega arith in
+    let count : end (wide_2_of_slice_known_in_default_1 c) + length L - end (wide_2_of_slice_known_in_default_1 c) ≡ length L = omega arith in
     let old =
-    put_back (end c.before.before.before.before.before.before.before.before.before.before.before.before.before.before.before.before.before.before.before.before.before.before.before.before.before.before) L c.args.work.now (inside c.before.before.before.before.before.before.before.before.before.before.before.before.before.before.before.before.before.before.before.before.before.before.before.before.before.before) c.copy.ensures (before c.before.before.before.before.before.before.before.before.before.before.before.before.before.before.before.before) (front c.before.before.before.before.before.before.before.before.before.before.before.before.before.before.before.before) count
+    put_back (end (wide_2_of_slice_known_in_default_1 c)) L c.args.work.now (inside (wide_2_of_slice_known_in_default_1 c)) c.copy.ensures (before (replace_a_of_slice_known_in_default_1 c)) (front (replace_a_of_slice_known_in_default_1 c)) count
     c.replace-a.new.list replaced.long c.copy-in_default.ensures in
-    ((tried, old ∙ sym (after_refusal _ L (ap numbers c.in_default.is))), long c.before.before.before.before.before.before.before.before.before.before.before.before.before.before.before.before)
+    ((tried, old ∙ sym (after_refusal _ L (ap numbers c.in_default.is))), long (replace_a_of_slice_known_in_default_1 c))
 
 same_length_6 : tie.Need-shape_of-list
 same_length_6 c = search rules
@@ -149,7 +189,7 @@ returns_2 : tie.Need-returns
 returns_2 c =
     let (tried, replaced) = c.replace-a.ensures.0 in
     let gave = ap numbers c.in-Gives.is in
-    ((tried, replaced.list gave ∙ sym (after_answer _ c.args.list.now gave)), long c.before.before.before.before.before.before.before.before.before.before.before)
+    ((tried, replaced.list gave ∙ sym (after_answer _ c.args.list.now gave)), long (replace_a_of_gives c))
 
 pub try_new_spec : {M : Type 1} → statement M
 try_new_spec =

@@ -21,7 +21,95 @@ lends c = let a = c.args in lent_sized a.size.now a.list.now a.v2e.now a.e2e.now
 abbrev points : tie.Start → List Float
 points c = c.args.points.now
 
-rows : (c : tie.After-wide-rows) → 4 * c.wide-rows.result - 0 ≡ 4 * (lends c.before.before.before.before.before.before.before.before.before.before).m
+-- states by how far they lie back
+abbrev slice_known_1_of_wide_rows : tie.After-wide-rows → tie.After-slice_known-1
+slice_known_1_of_wide_rows c = c.before.before.before.before.before.before.before.before.before
+
+abbrev start_of_wide_rows : tie.After-wide-rows → tie.Start
+start_of_wide_rows c = (slice_known_1_of_wide_rows c).before
+
+abbrev slice_known_2_1_of_edge_of_arg_1 : tie.After-edge_of-arg-1 → tie.After-slice_known-2-1
+slice_known_2_1_of_edge_of_arg_1 c = c.before.before.before.before.before.before.before.before.before
+
+abbrev start_of_edge_of_arg_1 : tie.After-edge_of-arg-1 → tie.Start
+start_of_edge_of_arg_1 c = (slice_known_2_1_of_edge_of_arg_1 c).before.before
+
+abbrev wide_rows_of_try_new_arg_5_1 : tie.After-try_new-arg-5-1 → tie.After-wide-rows
+wide_rows_of_try_new_arg_5_1 c = c.before.before.before.before.before.before.before
+
+abbrev slice_known_1_of_try_new_arg_5_1 : tie.After-try_new-arg-5-1 → tie.After-slice_known-1
+slice_known_1_of_try_new_arg_5_1 c = (wide_rows_of_try_new_arg_5_1 c).before.before.before.before.before.before.before.before.before
+
+abbrev start_of_try_new_arg_5_1 : tie.After-try_new-arg-5-1 → tie.Start
+start_of_try_new_arg_5_1 c = (slice_known_1_of_try_new_arg_5_1 c).before
+
+abbrev slice_known_7_1_of_in_default : tie.In_default → tie.After-slice_known-7-1
+slice_known_7_1_of_in_default c = c.before.before.before.before.before.before.before.before.before
+
+abbrev edge_of_arg_1_of_in_default : tie.In_default → tie.After-edge_of-arg-1
+edge_of_arg_1_of_in_default c = (slice_known_7_1_of_in_default c).before.before.before.before.before.before.before.before.before
+
+abbrev wide_rows_of_in_default : tie.In_default → tie.After-wide-rows
+wide_rows_of_in_default c = (edge_of_arg_1_of_in_default c).before
+
+abbrev slice_known_1_of_in_default : tie.In_default → tie.After-slice_known-1
+slice_known_1_of_in_default c = (wide_rows_of_in_default c).before.before.before.before.before.before.before.before.before
+
+abbrev start_of_in_default : tie.In_default → tie.Start
+start_of_in_default c = (slice_known_1_of_in_default c).before
+
+abbrev v2e_1_of_close_arg_1 : tie.After-close-arg-1 → tie.After-v2e-1
+v2e_1_of_close_arg_1 c = c.before.before.before.before.before.before.before.before.before
+
+abbrev edge_of_edge_of_close_arg_1 : tie.After-close-arg-1 → tie.After-edge_of-edge
+edge_of_edge_of_close_arg_1 c = (v2e_1_of_close_arg_1 c).before.before.before.before.before.before.before.before.before
+
+abbrev wide_rows_of_close_arg_1 : tie.After-close-arg-1 → tie.After-wide-rows
+wide_rows_of_close_arg_1 c = (edge_of_edge_of_close_arg_1 c).before.before
+
+abbrev slice_known_1_of_close_arg_1 : tie.After-close-arg-1 → tie.After-slice_known-1
+slice_known_1_of_close_arg_1 c = (wide_rows_of_close_arg_1 c).before.before.before.before.before.before.before.before.before
+
+abbrev start_of_close_arg_1 : tie.After-close-arg-1 → tie.Start
+start_of_close_arg_1 c = (slice_known_1_of_close_arg_1 c).before
+
+abbrev b2e_1_of_close_arg_4_1 : tie.After-close-arg-4-1 → tie.After-b2e-1
+b2e_1_of_close_arg_4_1 c = c.before.before.before.before.before.before.before.before.before
+
+abbrev try_new_arg_4_1_of_close_arg_4_1 : tie.After-close-arg-4-1 → tie.After-try_new-arg-4-1
+try_new_arg_4_1_of_close_arg_4_1 c = (b2e_1_of_close_arg_4_1 c).before.before.before.before.before.before.before.before.before
+
+abbrev wide_rows_of_close_arg_4_1 : tie.After-close-arg-4-1 → tie.After-wide-rows
+wide_rows_of_close_arg_4_1 c = (try_new_arg_4_1_of_close_arg_4_1 c).before.before.before.before.before.before
+
+abbrev slice_known_1_of_close_arg_4_1 : tie.After-close-arg-4-1 → tie.After-slice_known-1
+slice_known_1_of_close_arg_4_1 c = (wide_rows_of_close_arg_4_1 c).before.before.before.before.before.before.before.before.before
+
+abbrev start_of_close_arg_4_1 : tie.After-close-arg-4-1 → tie.Start
+start_of_close_arg_4_1 c = (slice_known_1_of_close_arg_4_1 c).before
+
+abbrev close_arg_2_1_of_slice_known_14_1 : tie.After-slice_known-14-1 → tie.After-close-arg-2-1
+close_arg_2_1_of_slice_known_14_1 c = c.before.before.before.before.before.before.before.before.before
+
+abbrev fewer_of_slice_known_14_1 : tie.After-slice_known-14-1 → tie.After-fewer
+fewer_of_slice_known_14_1 c = (close_arg_2_1_of_slice_known_14_1 c).before
+
+abbrev slice_known_8_1_of_slice_known_14_1 : tie.After-slice_known-14-1 → tie.After-slice_known-8-1
+slice_known_8_1_of_slice_known_14_1 c = (fewer_of_slice_known_14_1 c).before.before.before.before.before.before.before.before.before
+
+abbrev try_new_arg_1_of_slice_known_14_1 : tie.After-slice_known-14-1 → tie.After-try_new-arg-1
+try_new_arg_1_of_slice_known_14_1 c = (slice_known_8_1_of_slice_known_14_1 c).before.before.before.before.before.before.before.before.before
+
+abbrev wide_rows_of_slice_known_14_1 : tie.After-slice_known-14-1 → tie.After-wide-rows
+wide_rows_of_slice_known_14_1 c = (try_new_arg_1_of_slice_known_14_1 c).before.before.before
+
+abbrev slice_known_1_of_slice_known_14_1 : tie.After-slice_known-14-1 → tie.After-slice_known-1
+slice_known_1_of_slice_known_14_1 c = (wide_rows_of_slice_known_14_1 c).before.before.before.before.before.before.before.before.before
+
+abbrev start_of_slice_known_14_1 : tie.After-slice_known-14-1 → tie.Start
+start_of_slice_known_14_1 c = (slice_known_1_of_slice_known_14_1 c).before
+
+rows : (c : tie.After-wide-rows) → 4 * c.wide-rows.result - 0 ≡ 4 * (lends (start_of_wide_rows c)).m
 rows c = omega (arith, c.wide-rows.ensures)
 
 gave : (c : tie.After-fewer) → numbers c.try_new-a.result ≡ gives c.in-Gives.first c.in-Gives.second
@@ -49,7 +137,7 @@ part_edge_of_end : tie.Need-slice_bounds-edge_of-end
 part_edge_of_end c = search rules
 
 edge_of_requires : tie.Need-edge_of-edge-requires
-edge_of_requires c κs = edge_there (lends c.before.before.before.before.before.before.before.before.before.before.before) (points c.before.before.before.before.before.before.before.before.before.before.before) c.requires (rows c.before)
+edge_of_requires c κs = edge_there (lends (start_of_edge_of_arg_1 c)) (points (start_of_edge_of_arg_1 c)) c.requires (rows c.before)
 
 sub_try_new : tie.Need-slice_bounds-try_new-count
 sub_try_new c = search rules
@@ -62,7 +150,7 @@ part_try_new_end c = search rules
 
 try_new_requires : tie.Need-try_new-a-requires
 try_new_requires c κs =
-    to_try (lends c.before.before.before.before.before.before.before.before.before.before.before.before.before.before.before.before.before) (points c.before.before.before.before.before.before.before.before.before.before.before.before.before.before.before.before.before) c.requires (rows c.before.before.before.before.before.before.before) c.edge_of-edge.ensures
+    to_try (lends (start_of_try_new_arg_5_1 c)) (points (start_of_try_new_arg_5_1 c)) c.requires (rows (wide_rows_of_try_new_arg_5_1 c)) c.edge_of-edge.ensures
 
 enum_told : tie.Need-enum_told-1
 enum_told c = search rules
@@ -87,17 +175,17 @@ same_length_5 c = search rules
 
 returns : tie.Need-returns-in_default
 returns c = (
-  none_written (lends c.before.before.before.before.before.before.before.before.before.before.before.before.before.before.before.before.before.before.before.before.before.before.before.before.before.before.before.before.before) (points c.before.before.before.before.before.before.before.before.before.before.before.before.before.before.before.before.before.before.before.before.before.before.before.before.before.before.before.before.before) c.requires (rows c.before.before.before.before.before.before.before.before.before.before.before.before.before.before.before.before.before.before.before) c.edge_of-edge.ensures c.try_new-a.ensures.0 (ap numbers c.in_default.is),
+  none_written (lends (start_of_in_default c)) (points (start_of_in_default c)) c.requires (rows (wide_rows_of_in_default c)) c.edge_of-edge.ensures c.try_new-a.ensures.0 (ap numbers c.in_default.is),
   c.try_new-a.ensures.1,
 )
 
 fewer_requires : tie.Need-fewer-requires
 fewer_requires c κs =
-    fewer_there (lends c.before.before.before.before.before.before.before.before.before.before.before.before.before.before.before.before.before.before.before.before.before.before.before.before.before.before.before.before.before.before) (points c.before.before.before.before.before.before.before.before.before.before.before.before.before.before.before.before.before.before.before.before.before.before.before.before.before.before.before.before.before.before) c.requires (rows c.before.before.before.before.before.before.before.before.before.before.before.before.before.before.before.before.before.before.before.before)
+    fewer_there (lends (start_of_close_arg_1 c)) (points (start_of_close_arg_1 c)) c.requires (rows (wide_rows_of_close_arg_1 c))
 
 close_requires : tie.Need-close-requires
 close_requires c κs =
-    closable (lends c.before.before.before.before.before.before.before.before.before.before.before.before.before.before.before.before.before.before.before.before.before.before.before.before.before.before.before.before.before.before.before.before.before.before) (points c.before.before.before.before.before.before.before.before.before.before.before.before.before.before.before.before.before.before.before.before.before.before.before.before.before.before.before.before.before.before.before.before.before.before) c.requires (rows c.before.before.before.before.before.before.before.before.before.before.before.before.before.before.before.before.before.before.before.before.before.before.before.before) c.edge_of-edge.ensures c.try_new-a.ensures.0 (gave c.before.before.before) c.fewer.ensures
+    closable (lends (start_of_close_arg_4_1 c)) (points (start_of_close_arg_4_1 c)) c.requires (rows (wide_rows_of_close_arg_4_1 c)) c.edge_of-edge.ensures c.try_new-a.ensures.0 (gave c.before.before.before) c.fewer.ensures
 
 same_length_6 : tie.Need-shape_of-list
 same_length_6 c = search rules
@@ -119,7 +207,7 @@ same_length_11 c = search rules
 
 returns_2 : tie.Need-returns
 returns_2 c = (
-  all_written (lends c.before.before.before.before.before.before.before.before.before.before.before.before.before.before.before.before.before.before.before.before.before.before.before.before.before.before.before.before.before.before.before.before.before.before.before.before.before.before.before.before.before) (points c.before.before.before.before.before.before.before.before.before.before.before.before.before.before.before.before.before.before.before.before.before.before.before.before.before.before.before.before.before.before.before.before.before.before.before.before.before.before.before.before.before) c.requires (rows c.before.before.before.before.before.before.before.before.before.before.before.before.before.before.before.before.before.before.before.before.before.before.before.before.before.before.before.before.before.before.before) c.edge_of-edge.ensures c.try_new-a.ensures.0 (gave c.before.before.before.before.before.before.before.before.before.before) c.fewer.ensures
+  all_written (lends (start_of_slice_known_14_1 c)) (points (start_of_slice_known_14_1 c)) c.requires (rows (wide_rows_of_slice_known_14_1 c)) c.edge_of-edge.ensures c.try_new-a.ensures.0 (gave (fewer_of_slice_known_14_1 c)) c.fewer.ensures
       c.close.ensures,
   c.try_new-a.ensures.1,
 )

@@ -74,9 +74,25 @@ part_build_fit_end_3 c =
     let h : c.wide.result * c.wide-elements.result ≤ length c.args.e2e.now = omega (arith, product c.before.before, c.requires.opposites) in
     search rules
 
+-- states by how far they lie back
+abbrev wide_of_build_fit_arg_5_1 : tie.After-build_fit-arg-5-1 → tie.After-wide
+wide_of_build_fit_arg_5_1 c = c.before.before.before.before.before
+
+abbrev start_of_build_fit_arg_5_1 : tie.After-build_fit-arg-5-1 → tie.Start
+start_of_build_fit_arg_5_1 c = (wide_of_build_fit_arg_5_1 c).before.before.before.before.before.before.before.before
+
+abbrev build_fit_arg_5_1_of_slice_known_8_1 : tie.After-slice_known-8-1 → tie.After-build_fit-arg-5-1
+build_fit_arg_5_1_of_slice_known_8_1 c = c.before.before.before.before.before.before.before.before.before
+
+abbrev wide_of_slice_known_8_1 : tie.After-slice_known-8-1 → tie.After-wide
+wide_of_slice_known_8_1 c = (build_fit_arg_5_1_of_slice_known_8_1 c).before.before.before.before.before
+
+abbrev start_of_slice_known_8_1 : tie.After-slice_known-8-1 → tie.Start
+start_of_slice_known_8_1 c = (wide_of_slice_known_8_1 c).before.before.before.before.before.before.before.before
+
 build_fit_requires : tie.Need-build_fit-requires
 build_fit_requires c κs =
-    checked_at (lends c.before.before.before.before.before.before.before.before.before.before.before.before.before) c.requires (rows c.before.before.before.before.before) (vertices c.before.before.before.before.before) (entries c.before.before.before.before.before)
+    checked_at (lends (start_of_build_fit_arg_5_1 c)) c.requires (rows (wide_of_build_fit_arg_5_1 c)) (vertices (wide_of_build_fit_arg_5_1 c)) (entries (wide_of_build_fit_arg_5_1 c))
 
 same_length : tie.Need-shape_of-v2e
 same_length c = search rules
@@ -92,7 +108,7 @@ same_length_4 c = search rules
 
 returns : tie.Need-returns
 returns c =
-    (fronted (lends c.before.before.before.before.before.before.before.before.before.before.before.before.before.before.before.before.before.before.before.before.before.before) c.requires (rows c.before.before.before.before.before.before.before.before.before.before.before.before.before.before) (vertices c.before.before.before.before.before.before.before.before.before.before.before.before.before.before) (entries c.before.before.before.before.before.before.before.before.before.before.before.before.before.before) c.build_fit.ensures.0, c.build_fit.ensures.1)
+    (fronted (lends (start_of_slice_known_8_1 c)) c.requires (rows (wide_of_slice_known_8_1 c)) (vertices (wide_of_slice_known_8_1 c)) (entries (wide_of_slice_known_8_1 c)) c.build_fit.ensures.0, c.build_fit.ensures.1)
 
 pub build_front_spec : {M : Type 1} → statement M
 build_front_spec =

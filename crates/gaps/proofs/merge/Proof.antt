@@ -45,11 +45,15 @@ rename_requires c κs = search rules
 same_length : tie.Need-shape_of-list
 same_length c = search rules
 
+-- states by how far they lie back
+abbrev wide_rows_of_slice_known_3_1 : tie.After-slice_known-3-1 → tie.After-wide-rows
+wide_rows_of_slice_known_3_1 c = c.before.before.before.before
+
 returns : tie.Need-returns
 returns c =
     let (x, from, to) = c.requires in
     let (long, is) = c.without_edge.ensures in
-    front_renamed x from to (list c.before.before.before.before) long is (end c.before.before.before.before) c.rename.ensures
+    front_renamed x from to (list (wide_rows_of_slice_known_3_1 c)) long is (end (wide_rows_of_slice_known_3_1 c)) c.rename.ensures
 
 pub merge_spec : {M : Type 1} → statement M
 merge_spec =

@@ -40,12 +40,19 @@ enum_told c = search rules
 same_length : tie.Need-shape_of-work-in_default invariant_loop decreases_loop
 same_length c = search rules
 
+-- states by how far they lie back
+abbrev loop_b_of_in_default : tie.In_default invariant_loop decreases_loop → tie.In-loop-b invariant_loop decreases_loop
+loop_b_of_in_default c = c.before.before.before.before.before
+
+abbrev loop_b_of_value : tie.In-Value invariant_loop decreases_loop → tie.In-loop-b invariant_loop decreases_loop
+loop_b_of_value c = c.before.before.before.before.before
+
 returns : tie.Need-returns-in_default invariant_loop decreases_loop
 returns c =
     let (found, long) = c.mark_next-counted.ensures in (
       (λ M size m.
           let (b, i, e) =
-          (found M size (one_more c.before.before.before.before.before M size) (c.loop-b.invariant.1 M size m)).broken (broken_of refl c.in_default.is) in
+          (found M size (one_more (loop_b_of_in_default c) M size) (c.loop-b.invariant.1 M size m)).broken (broken_of refl c.in_default.is) in
           unnumbered M _ b _ i e),
       long ∙ c.loop-b.invariant.2,
     )
@@ -61,7 +68,7 @@ loop_again c =
     let (found, long) = c.mark_next-counted.ensures in (
       omega (arith, c.loop-b-test.true),
       (λ M size m.
-          (found M size (one_more c.before.before.before.before.before M size) (c.loop-b.invariant.1 M size m)).counted _ (value_of refl c.in-Value.is)),
+          (found M size (one_more (loop_b_of_value c) M size) (c.loop-b.invariant.1 M size m)).counted _ (value_of refl c.in-Value.is)),
       long ∙ c.loop-b.invariant.2,
     )
 

@@ -63,14 +63,27 @@ slice_read_if1 c = below c.before.before c.wide.ensures
 wide_requires_2 : tie.Need-wide-p-requires invariant_loop decreases_loop
 wide_requires_2 c κs = search rules
 
+-- states by how far they lie back
+abbrev loop_work_of_wide_p : tie.After-wide-p invariant_loop decreases_loop → tie.At-loop-work invariant_loop decreases_loop
+loop_work_of_wide_p c = c.before.before.before.before
+
+abbrev loop_work_of_slice_known_in_loop_work_2_1_unread : tie.After-slice_known-in-loop-work-2-1-unread invariant_loop decreases_loop → tie.At-loop-work invariant_loop decreases_loop
+loop_work_of_slice_known_in_loop_work_2_1_unread c = c.before.before.before.before.before
+
+abbrev loop_work_of_slice_known_in_loop_work_2_1 : tie.After-slice_known-in-loop-work-2-1 invariant_loop decreases_loop → tie.At-loop-work invariant_loop decreases_loop
+loop_work_of_slice_known_in_loop_work_2_1 c = c.before.before.before.before.before
+
+abbrev loop_work_of_x_b : tie.Then-x-b invariant_loop decreases_loop → tie.At-loop-work invariant_loop decreases_loop
+loop_work_of_x_b c = c.before.before.before.before
+
 sub_p : tie.Need-overflow_sub-p invariant_loop decreases_loop
-sub_p c = omega (arith, c.wide-p.ensures, inside c.before.before.before.before)
+sub_p c = omega (arith, c.wide-p.ensures, inside (loop_work_of_wide_p c))
 
 mul_x : tie.Need-offset_bounds-work-p invariant_loop decreases_loop
-mul_x c = let h = first c.before.before.before.before c.wide-p.ensures in search rules
+mul_x c = let h = first (loop_work_of_wide_p c) c.wide-p.ensures in search rules
 
 slice_read_x : tie.Need-bounds-work-p invariant_loop decreases_loop
-slice_read_x c = below c.before.before.before.before.before c.wide-p.ensures
+slice_read_x c = below (loop_work_of_slice_known_in_loop_work_2_1_unread c) c.wide-p.ensures
 
 sub_x : tie.Need-overflow_sub-x invariant_loop decreases_loop
 sub_x c = omega (arith, next c.before)
@@ -79,7 +92,7 @@ mul_work : tie.Need-offset_bounds-work-p-in-loop-work invariant_loop decreases_l
 mul_work c = mul_x c.before
 
 slice_write_work : tie.Need-bounds-work-p-in-loop-work invariant_loop decreases_loop
-slice_write_work c = below c.before.before.before.before.before c.wide-p.ensures
+slice_write_work c = below (loop_work_of_slice_known_in_loop_work_2_1 c) c.wide-p.ensures
 
 loop_again : tie.Need-loop-work-preserved invariant_loop decreases_loop
 loop_again c M size o =
@@ -98,7 +111,7 @@ loop_less : tie.Need-loop-work-smaller invariant_loop decreases_loop
 loop_less c = omega (arith, shorter c)
 
 same_length : tie.Need-shape_of-work-then-x-b invariant_loop decreases_loop
-same_length c = long c.before.before.before.before
+same_length c = long (loop_work_of_x_b c)
 
 returns : tie.Need-returns-then-x-b invariant_loop decreases_loop
 returns c M size o =
@@ -106,7 +119,7 @@ returns c M size o =
     lost_there M _ _ _ o _ _ _ w (is_marked M _ _ _ o _ _ _ w size (place c.before.before.before) c.loop-work-test.false) c.if-x-b.true
 
 same_length_2 : tie.Need-shape_of-work invariant_loop decreases_loop
-same_length_2 c = long c.before.before.before.before
+same_length_2 c = long (loop_work_of_x_b c)
 
 returns_2 : tie.Need-returns invariant_loop decreases_loop
 returns_2 c M size o =

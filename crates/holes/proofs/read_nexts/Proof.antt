@@ -53,20 +53,36 @@ enum_told c = search rules
 same_length : tie.Need-shape_of-work-in_default invariant_loop decreases_loop
 same_length c = c.loop-b.invariant.2
 
+-- states by how far they lie back
+abbrev start_of_in_default : tie.In_default invariant_loop decreases_loop → tie.Start invariant_loop decreases_loop
+start_of_in_default c = c.before.before.before.before.before.before.before.before.before
+
+abbrev start_of_value : tie.In-Value invariant_loop decreases_loop → tie.Start invariant_loop decreases_loop
+start_of_value c = c.before.before.before.before.before.before.before.before.before
+
+abbrev shared_slice_known_1_of_wide : tie.After-wide invariant_loop decreases_loop → tie.After-shared_slice_known-1 invariant_loop decreases_loop
+shared_slice_known_1_of_wide c = c.before.before.before.before.before.before.before.before.before
+
+abbrev start_of_wide : tie.After-wide invariant_loop decreases_loop → tie.Start invariant_loop decreases_loop
+start_of_wide c = (shared_slice_known_1_of_wide c).before
+
+abbrev start_of_loop_b : tie.After-loop-b invariant_loop decreases_loop → tie.Start invariant_loop decreases_loop
+start_of_loop_b c = c.before.before.before.before.before.before.before
+
 returns : tie.Need-returns-in_default invariant_loop decreases_loop
 returns c = (
-  one_unread (mesh_of c.before.before.before.before.before.before.before.before.before) _ _ (omega arith, omega (arith, small c.before.before))
+  one_unread (mesh_of (start_of_in_default c)) _ _ (omega arith, omega (arith, small c.before.before))
       (broken_of c.next_border-following.ensures c.in_default.is),
   c.loop-b.invariant.2,
 )
 
 -- what was read
 next_read : (c : tie.In-Value invariant_loop decreases_loop) →
-    next_border (mesh_of c.before.before.before.before.before.before.before.before.before) (c.loop-b.b + 1) ≡ some c.in-Value.y
+    next_border (mesh_of (start_of_value c)) (c.loop-b.b + 1) ≡ some c.in-Value.y
 next_read c = value_of c.next_border-following.ensures c.in-Value.is
 
 add_work : tie.Need-overflow_add-work invariant_loop decreases_loop
-add_work c = omega (arith, small c.before.before, next_in (mesh_of c.before.before.before.before.before.before.before.before.before) _ _ (next_read c))
+add_work c = omega (arith, small c.before.before, next_in (mesh_of (start_of_value c)) _ _ (next_read c))
 
 wide_requires : tie.Need-wide-requires invariant_loop decreases_loop
 wide_requires c κs = search rules
@@ -88,7 +104,7 @@ loop_again : tie.Need-loop-b-preserved invariant_loop decreases_loop
 loop_again c =
     let (most, pending, long) = c.loop-b.invariant in (
       omega (arith, small c.before.before.before),
-      put_next (mesh_of c.before.before.before.before.before.before.before.before.before.before) _ _ _ refl c.wide.ensures (omega (arith, small c.before.before.before)) (next_read c.before) pending,
+      put_next (mesh_of (start_of_wide c)) _ _ _ refl c.wide.ensures (omega (arith, small c.before.before.before)) (next_read c.before) pending,
       length-set c.loop-b.work _ _ ∙ long,
     )
 
@@ -99,7 +115,7 @@ returns_2 : tie.Need-returns invariant_loop decreases_loop
 returns_2 c =
     let (most, pending, long) = c.loop-b.invariant in
     let all : c.loop-b.b ≡ length c.args.b2e.now = omega (arith, c.loop-b-test.false) in
-    (all_read (mesh_of c.before.before.before.before.before.before.before) _ (rw all at pending), long)
+    (all_read (mesh_of (start_of_loop_b c)) _ (rw all at pending), long)
 
 pub read_nexts_spec : {M : Type 1} → statement M
 read_nexts_spec =

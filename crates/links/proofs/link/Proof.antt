@@ -48,9 +48,13 @@ link_places_requires c κs = (wiped c.before.before.before).done
 same_length : tie.Need-shape_of-work
 same_length c = search rules
 
+-- states by how far they lie back
+abbrev clear_of_slice_known_3_1 : tie.After-slice_known-3-1 → tie.After-clear
+clear_of_slice_known_3_1 c = c.before.before.before.before.before.before
+
 returns : tie.Need-returns
 returns c =
-    linking_all (linking_on (wiped c.before.before.before.before.before.before) c.link_places.ensures)
+    linking_all (linking_on (wiped (clear_of_slice_known_3_1 c)) c.link_places.ensures)
 
 pub link_spec : {M : Type 1} → statement M
 link_spec =

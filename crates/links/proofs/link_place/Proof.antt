@@ -70,9 +70,13 @@ slice_write_work c = search rules
 same_length : tie.Need-shape_of-work
 same_length c = search rules
 
+-- states by how far they lie back
+abbrev is_border_of_code_at : tie.After-code_at → tie.After-is_border
+is_border_of_code_at c = c.before.before.before.before.before.before
+
 returns_4 : tie.Need-returns
 returns_4 c =
-    let border = of_border (entry c.before.before.before.before.before.before) c.is_border.ensures (not-false _ c.if-not-is_border.false-raw) in
+    let border = of_border (entry (is_border_of_code_at c)) c.is_border.ensures (not-false _ c.if-not-is_border.false-raw) in
     link_put c.requires.0 c.requires.1 c.wide-b.result _ (omega arith) (omega arith) (omega arith) (omega arith) c.code_at.ensures
 
 pub link_place_spec : {M : Type 1} → statement M

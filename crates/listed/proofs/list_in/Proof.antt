@@ -81,11 +81,24 @@ slice_aggregate_list_mesh_3 : tie.Need-slice_bounds-list_mesh-end-in-Mesh-5
 slice_aggregate_list_mesh_3 c =
     sym (length-take-le (c.wide.result * c.wide-rows.result) c.args.e2e.now (omega (arith, few c.before.before, c.requires)))
 
+-- states by how far they lie back
+abbrev wide_of_list_mesh_arg_in_Mesh_4_1 : tie.After-list_mesh-arg-in-Mesh-4-1 → tie.After-wide
+wide_of_list_mesh_arg_in_Mesh_4_1 c = c.before.before.before.before.before
+
+abbrev wide_rows_of_list_mesh_arg_in_Mesh_4_1 : tie.After-list_mesh-arg-in-Mesh-4-1 → tie.After-wide-rows
+wide_rows_of_list_mesh_arg_in_Mesh_4_1 c = (wide_of_list_mesh_arg_in_Mesh_4_1 c).before.before
+
+abbrev v2e_1_of_slice_known_in_Mesh_5_1 : tie.After-slice_known-in-Mesh-5-1 → tie.After-v2e-1
+v2e_1_of_slice_known_in_Mesh_5_1 c = c.before.before.before.before.before.before.before.before.before
+
+abbrev wide_rows_of_slice_known_in_Mesh_5_1 : tie.After-slice_known-in-Mesh-5-1 → tie.After-wide-rows
+wide_rows_of_slice_known_in_Mesh_5_1 c = (v2e_1_of_slice_known_in_Mesh_5_1 c).before.before.before.before.before.before.before.before.before
+
 list_mesh_requires : tie.Need-list_mesh-requires
 list_mesh_requires c κs =
     let (_, v, e, b, k) = c.requires.0 in
     let a = c.args in
-    ((fits (read c.before.before.before.before.before.before.before) a.v2e.now a.e2e.now a.b2e.now a.work.now c.wide-rows.result v e b k (columned c.before.before.before.before.before) refl refl, c.columns_of-columns.ensures), c.requires.1)
+    ((fits (read (wide_rows_of_list_mesh_arg_in_Mesh_4_1 c)) a.v2e.now a.e2e.now a.b2e.now a.work.now c.wide-rows.result v e b k (columned (wide_of_list_mesh_arg_in_Mesh_4_1 c)) refl refl, c.columns_of-columns.ensures), c.requires.1)
 
 enum_known_p_2 : tie.Need-enum_known-p-in-Bad-1
 enum_known_p_2 c = search rules
@@ -116,7 +129,7 @@ same_length_6 c = search rules
 
 returns : tie.Need-returns-in-Mesh
 returns c =
-    (written_as c.args.out.now (mesh_is (read c.before.before.before.before.before.before.before.before.before.before.before.before.before.before.before.before.before.before)) c.list_mesh.ensures.0, c.list_mesh.ensures.1)
+    (written_as c.args.out.now (mesh_is (read (wide_rows_of_slice_known_in_Mesh_5_1 c))) c.list_mesh.ensures.0, c.list_mesh.ensures.1)
 
 same_length_7 : tie.Need-shape_of-list-in-Bad
 same_length_7 c = search rules

@@ -14,13 +14,35 @@ use Rattle.listed.proofs.list_mesh.Tie as tie
 abbrev lent_to : tie.Start → Buffers
 lent_to s = lent s.args.v2e.now s.args.e2e.now s.args.b2e.now s.args.work.now
 
-abbrev answer : tie.After-build-a → Answer
-answer c = build_answer c.args.n c.args.list.now (lent_to c.before.before.before.before.before.before.before.before.before.before.before)
+-- states by how far they lie back
+abbrev slice_known_1_of_build_a : tie.After-build-a → tie.After-slice_known-1
+slice_known_1_of_build_a c = c.before.before.before.before.before.before.before.before.before
 
-given : (c : tie.After-wide-k) → gives c.wide-k.result c.in-Gives.second ≡ answer c.before.before.before.before.before.before.before.before.before.before
+abbrev start_of_build_a : tie.After-build-a → tie.Start
+start_of_build_a c = (slice_known_1_of_build_a c).before.before
+
+abbrev v2e_1_of_wide_k : tie.After-wide-k → tie.After-v2e-1
+v2e_1_of_wide_k c = c.before.before.before.before.before.before.before.before.before
+
+abbrev build_a_of_wide_k : tie.After-wide-k → tie.After-build-a
+build_a_of_wide_k c = (v2e_1_of_wide_k c).before
+
+abbrev build_a_of_refused : tie.In-Refused → tie.After-build-a
+build_a_of_refused c = c.before.before.before.before.before.before.before.before.before
+
+abbrev wide_k_of_slice_known_in_Gives_1 : tie.After-slice_known-in-Gives-1 → tie.After-wide-k
+wide_k_of_slice_known_in_Gives_1 c = c.before.before.before.before
+
+abbrev refused_of_slice_known_in_Refused_1 : tie.After-slice_known-in-Refused-1 → tie.In-Refused
+refused_of_slice_known_in_Refused_1 c = c.before.before.before.before
+
+abbrev answer : tie.After-build-a → Answer
+answer c = build_answer c.args.n c.args.list.now (lent_to (start_of_build_a c))
+
+given : (c : tie.After-wide-k) → gives c.wide-k.result c.in-Gives.second ≡ answer (build_a_of_wide_k c)
 given c = ap (λ (i : ℕ). gives i c.in-Gives.second) c.wide-k.ensures ∙ sym (ap numbers c.in-Gives.is) ∙ c.build-a.ensures.0
 
-no_tables : (c : tie.In-Refused) → refused c.in-Refused.number c.in-Refused.first c.in-Refused.second ≡ answer c.before.before.before.before.before.before.before.before.before
+no_tables : (c : tie.In-Refused) → refused c.in-Refused.number c.in-Refused.first c.in-Refused.second ≡ answer (build_a_of_refused c)
 no_tables c = sym (ap numbers c.in-Refused.is) ∙ c.build-a.ensures.0
 
 build_requires : tie.Need-build-a-requires
@@ -66,7 +88,7 @@ same_length_5 c = search rules
 
 returns : tie.Need-returns-in-Gives
 returns c =
-    let e = tables_shown c.requires.0.0 (given c.before.before.before.before) c.build-a.ensures.1 c.requires.1 c.requires.0.1 in
+    let e = tables_shown c.requires.0.0 (given (wide_k_of_slice_known_in_Gives_1 c)) c.build-a.ensures.1 c.requires.1 c.requires.0.1 in
     (written_as c.args.out.now e c.print_tables.ensures.0, c.print_tables.ensures.1)
 
 same_length_6 : tie.Need-shape_of-v2e-in-Refused
@@ -86,7 +108,7 @@ same_length_10 c = search rules
 
 returns_2 : tie.Need-returns-in-Refused
 returns_2 c =
-    let e = refusal_shown c.requires.0.0 c.requires.1 (no_tables c.before.before.before.before) in
+    let e = refusal_shown c.requires.0.0 c.requires.1 (no_tables (refused_of_slice_known_in_Refused_1 c)) in
     (written_as c.args.out.now e c.print_refusal.ensures.0, c.print_refusal.ensures.1)
 
 pub list_mesh_spec : {M : Type 1} → statement M

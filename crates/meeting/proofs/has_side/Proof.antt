@@ -37,9 +37,13 @@ its_side c =
     rw c.side_code.ensures
     (at_corner a.list.now a.g (c.loop-j.j + 1) p.0 p.1 (omega arith) (omega (arith, few_sides c.before.before.before)) (omega (arith, counted c.before.before.before))).is_side_lem
 
+-- states by how far they lie back
+abbrev side_count_k_of_is_joined : tie.After-is_joined invariant_loop decreases_loop → tie.After-side_count-k invariant_loop decreases_loop
+side_count_k_of_is_joined c = c.before.before.before.before
+
 -- what the test said of it
 said : (c : tie.After-is_joined invariant_loop decreases_loop) →
-    let l = c.loop-j in c.is_joined.result ≡ is_it c.before.before.before.before (l.j + 1)
+    let l = c.loop-j in c.is_joined.result ≡ is_it (side_count_k_of_is_joined c) (l.j + 1)
 said c =
     let a = c.args in
     c.is_joined.ensures ∙ ap (joins a.list.now a.s) c.side_code.ensures
@@ -69,7 +73,7 @@ returns : tie.Need-returns-then-is_joined invariant_loop decreases_loop
 returns c =
     let l = c.loop-j in
     let h = c.loop-j-test.true in
-    found_some (is_it c.before.before.before.before.before) (sides c.args.list.now c.args.g) l.j l.invariant.0 (omega (arith, counted c.before.before.before.before.before))
+    found_some (is_it (side_count_k_of_is_joined c)) (sides c.args.list.now c.args.g) l.j l.invariant.0 (omega (arith, counted (side_count_k_of_is_joined c)))
     (sym (said c.before) ∙ c.if-is_joined.true)
 
 loop_less : tie.Need-loop-j-smaller invariant_loop decreases_loop
@@ -79,7 +83,7 @@ loop_again : tie.Need-loop-j-preserved invariant_loop decreases_loop
 loop_again c =
     let l = c.loop-j in
     let h = c.loop-j-test.true in
-    (nobody_more (is_it c.before.before.before.before.before) l.j l.invariant.0 (sym (said c.before) ∙ c.if-is_joined.false), omega arith)
+    (nobody_more (is_it (side_count_k_of_is_joined c)) l.j l.invariant.0 (sym (said c.before) ∙ c.if-is_joined.false), omega arith)
 
 returns_2 : tie.Need-returns invariant_loop decreases_loop
 returns_2 c =

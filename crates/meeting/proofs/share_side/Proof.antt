@@ -37,9 +37,13 @@ its_side c =
     rw c.side_code.ensures
     (at_corner a.list.now a.f (c.loop-i.i + 1) p.0 p.1 (omega arith) (omega (arith, few_sides c.before.before.before)) (omega (arith, counted c.before.before.before))).is_side_lem
 
+-- states by how far they lie back
+abbrev side_count_k_of_has_side : tie.After-has_side invariant_loop decreases_loop → tie.After-side_count-k invariant_loop decreases_loop
+side_count_k_of_has_side c = c.before.before.before.before
+
 -- what the test said of it
 said : (c : tie.After-has_side invariant_loop decreases_loop) →
-    let l = c.loop-i in c.has_side.result ≡ is_it c.before.before.before.before (l.i + 1)
+    let l = c.loop-i in c.has_side.result ≡ is_it (side_count_k_of_has_side c) (l.i + 1)
 said c =
     let a = c.args in
     c.has_side.ensures ∙ ap (λ (s : ℕ). some_number (sides a.list.now a.g) (λ j. joins a.list.now s (8 * a.g + j))) c.side_code.ensures
@@ -70,7 +74,7 @@ unfolding share_side
 returns c =
     let l = c.loop-i in
     let h = c.loop-i-test.true in
-    found_some (is_it c.before.before.before.before.before) (sides c.args.list.now c.args.f) l.i l.invariant.0 (omega (arith, counted c.before.before.before.before.before))
+    found_some (is_it (side_count_k_of_has_side c)) (sides c.args.list.now c.args.f) l.i l.invariant.0 (omega (arith, counted (side_count_k_of_has_side c)))
     (sym (said c.before) ∙ c.if-has_side.true)
 
 loop_less : tie.Need-loop-i-smaller invariant_loop decreases_loop
@@ -80,7 +84,7 @@ loop_again : tie.Need-loop-i-preserved invariant_loop decreases_loop
 loop_again c =
     let l = c.loop-i in
     let h = c.loop-i-test.true in
-    (nobody_more (is_it c.before.before.before.before.before) l.i l.invariant.0 (sym (said c.before) ∙ c.if-has_side.false), omega arith)
+    (nobody_more (is_it (side_count_k_of_has_side c)) l.i l.invariant.0 (sym (said c.before) ∙ c.if-has_side.false), omega arith)
 
 returns_2 : tie.Need-returns invariant_loop decreases_loop
 unfolding share_side

@@ -29,13 +29,17 @@ counted c = let a = c.args in sides_read a.list.now a.f c.row_at-row.ensures c.s
 few_sides : (c : tie.After-side_count-k invariant_loop decreases_loop) → c.side_count-k.result ≤ 4
 few_sides c = let a = c.args in omega (arith, counted c, few a.list.now a.f)
 
+-- states by how far they lie back
+abbrev side_count_k_of_is_corner : tie.After-is_corner invariant_loop decreases_loop → tie.After-side_count-k invariant_loop decreases_loop
+side_count_k_of_is_corner c = c.before.before.before.before
+
 -- what the test said of corner i + 1
 said : (c : tie.After-is_corner invariant_loop decreases_loop) →
-    let l = c.loop-i in c.is_corner.result ≡ is_it c.before.before.before.before l.i
+    let l = c.loop-i in c.is_corner.result ≡ is_it (side_count_k_of_is_corner c) l.i
 said c =
     let a = c.args in
     let h = c.loop-i-test.true in
-    let x = corner_read a.list.now a.f c.row_at-row.ensures (omega arith) (omega (arith, counted c.before.before.before.before)) c.corner.ensures in
+    let x = corner_read a.list.now a.f c.row_at-row.ensures (omega arith) (omega (arith, counted (side_count_k_of_is_corner c))) c.corner.ensures in
     c.is_corner.ensures ∙ ap (is_corner a.list.now a.g) x
 
 row_at_requires : tie.Need-row_at-row-requires invariant_loop decreases_loop
@@ -62,7 +66,7 @@ add_shared : tie.Need-overflow_add-shared invariant_loop decreases_loop
 add_shared c =
     let l = c.loop-i in
     let h = c.loop-i-test.true in
-    omega (arith, l.invariant.0, count_bound (is_it c.before.before.before.before.before) l.i, few_sides c.before.before.before.before.before)
+    omega (arith, l.invariant.0, count_bound (is_it (side_count_k_of_is_corner c)) l.i, few_sides (side_count_k_of_is_corner c))
 
 loop_less : tie.Need-loop-i-smaller-then-is_corner invariant_loop decreases_loop
 loop_less c = let h = c.loop-i-test.true in omega arith
@@ -72,8 +76,8 @@ loop_again c =
     let l = c.loop-i in
     let h = c.loop-i-test.true in
     let e : suc l.i ≡ l.i + 1 = omega arith in
-    let more = count_pass (is_it c.before.before.before.before.before) l.i (rw (sym (said c.before) ∙ c.if-is_corner.true) tt) in
-    (omega (arith, l.invariant.0, ap (count (is_it c.before.before.before.before.before)) e), omega arith)
+    let more = count_pass (is_it (side_count_k_of_is_corner c)) l.i (rw (sym (said c.before) ∙ c.if-is_corner.true) tt) in
+    (omega (arith, l.invariant.0, ap (count (is_it (side_count_k_of_is_corner c))) e), omega arith)
 
 loop_less_2 : tie.Need-loop-i-smaller invariant_loop decreases_loop
 loop_less_2 c = let h = c.loop-i-test.true in omega arith
@@ -83,8 +87,8 @@ loop_again_2 c =
     let l = c.loop-i in
     let h = c.loop-i-test.true in
     let e : suc l.i ≡ l.i + 1 = omega arith in
-    let same = count_fail (is_it c.before.before.before.before.before) l.i (rw (sym (said c.before) ∙ c.if-is_corner.false) tt) in
-    (omega (arith, l.invariant.0, ap (count (is_it c.before.before.before.before.before)) e), omega arith)
+    let same = count_fail (is_it (side_count_k_of_is_corner c)) l.i (rw (sym (said c.before) ∙ c.if-is_corner.false) tt) in
+    (omega (arith, l.invariant.0, ap (count (is_it (side_count_k_of_is_corner c))) e), omega arith)
 
 returns : tie.Need-returns invariant_loop decreases_loop
 unfolding shared_corners

@@ -45,10 +45,20 @@ pass_requires c κs = (c.read_head-h.ensures.read (good_head_lem c)).inside
 bad_text_requires_2 : tie.Need-bad_text-requires-then-not-vertices
 bad_text_requires_2 c κs = search rules
 
+-- states by how far they lie back
+abbrev struct_known_2_1_of_bad_text_then_not_vertices : tie.After-bad_text-then-not-vertices → tie.After-struct_known-2-1
+struct_known_2_1_of_bad_text_then_not_vertices c = c.before.before.before.before
+
+abbrev not_vertices_of_end_text : tie.Else-end-text → tie.Else-not-vertices
+not_vertices_of_end_text c = c.before.before.before.before.before
+
+abbrev struct_known_2_1_of_end_text : tie.Else-end-text → tie.After-struct_known-2-1
+struct_known_2_1_of_end_text c = (not_vertices_of_end_text c).before.before.before
+
 returns_2 : tie.Need-returns-then-not-vertices
 returns_2 c =
     let h = c.read_head-h.ensures in
-    let g = good_head_lem c.before.before.before.before in
+    let g = good_head_lem (struct_known_2_1_of_bad_text_then_not_vertices c) in
     judged_bad (vertices_bad (h.read g) (h.n g).0 c.pass-vertices.ensures (not-true _ c.if-not-vertices.true)) c.bad_text-then-not-vertices.ensures
 
 pass_faces_requires : tie.Need-pass_faces-faces-requires
@@ -78,11 +88,11 @@ returns_5 c =
     judged_form
     (record {
       form = text_ends (past_faces c.before.before) c.item_from-end.ensures c.if-end-text.false;
-      n = (h.n (good_head_lem c.before.before.before.before.before.before.before.before)).0;
-      m = h.m (good_head_lem c.before.before.before.before.before.before.before.before);
+      n = (h.n (good_head_lem (struct_known_2_1_of_end_text c))).0;
+      m = h.m (good_head_lem (struct_known_2_1_of_end_text c));
       unfit = c.pass_faces-faces.ensures.unfit (not-false _ c.if-not-faces.false);
-      inside = (past_vertices c.before.before.before.before.before).inside;
-      left = (past_vertices c.before.before.before.before.before).left;
+      inside = (past_vertices (not_vertices_of_end_text c)).inside;
+      left = (past_vertices (not_vertices_of_end_text c)).left;
     })
 
 pub judge_spec : {M : Type 1} → statement M

@@ -45,14 +45,18 @@ add_f c = search rules
 loop_less : tie.Need-loop-f-smaller invariant_loop decreases_loop
 loop_less c = search rules
 
+-- states by how far they lie back
+abbrev loop_f_of_slice_known_in_loop_f_1 : tie.After-slice_known-in-loop-f-1 invariant_loop decreases_loop → tie.In-loop-f invariant_loop decreases_loop
+loop_f_of_slice_known_in_loop_f_1 c = c.before.before.before.before.before.before
+
 loop_again : tie.Need-loop-f-preserved invariant_loop decreases_loop
 loop_again c =
     let (sound, count, room, first) = c.requires in
     let here = c.loop-f.invariant.3 in (
       omega arith,
       ap length c.put_four.ensures ∙ simp length-sets c.loop-f.invariant.1,
-      rows_more sound (more c.before.before.before.before.before.before) here c.read_row-r.ensures _ (omega arith) c.loop-f.invariant.2 c.put_four.ensures,
-      at_next sound (more c.before.before.before.before.before.before) here c.read_row-r.ensures,
+      rows_more sound (more (loop_f_of_slice_known_in_loop_f_1 c)) here c.read_row-r.ensures _ (omega arith) c.loop-f.invariant.2 c.put_four.ensures,
+      at_next sound (more (loop_f_of_slice_known_in_loop_f_1 c)) here c.read_row-r.ensures,
     )
 
 same_length : tie.Need-shape_of-list invariant_loop decreases_loop

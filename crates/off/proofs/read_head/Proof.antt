@@ -29,12 +29,16 @@ next_requires_2 c κs = c.next-word.ensures.inside
 next_requires_3 : tie.Need-next-m-requires
 next_requires_3 c κs = c.next-n.ensures.inside
 
+-- states by how far they lie back
+abbrev pass_counts_of_next_m : tie.After-next-m → tie.After-pass-counts
+pass_counts_of_next_m c = c.before.before.before.before
+
 returns_3 : tie.Need-returns
 returns_3 c =
     let good = not-false _ c.if-not-counts.false in
-    head_read (counts_read (begun c.before.before.before.before) c.pass-counts.ensures good)
-    (n_read (begun c.before.before.before.before) c.pass-counts.ensures good c.next-n.ensures)
-    (m_read (begun c.before.before.before.before) c.pass-counts.ensures good c.next-n.ensures c.next-m.ensures)
+    head_read (counts_read (begun (pass_counts_of_next_m c)) c.pass-counts.ensures good)
+    (n_read (begun (pass_counts_of_next_m c)) c.pass-counts.ensures good c.next-n.ensures)
+    (m_read (begun (pass_counts_of_next_m c)) c.pass-counts.ensures good c.next-n.ensures c.next-m.ensures)
 
 pub read_head_spec : {M : Type 1} → statement M
 read_head_spec =

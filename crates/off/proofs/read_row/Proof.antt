@@ -45,15 +45,22 @@ more : (c : tie.After-next-corner invariant_loop decreases_loop) →
     let a = c.args in c.loop-i.i < number_of (word (rest a.text.now a.p) 0)
 more c = omega (arith, corners_are c.before.before.before)
 
+-- states by how far they lie back
+abbrev start_of_struct_known_1 : tie.After-struct_known-1 invariant_loop decreases_loop → tie.Start invariant_loop decreases_loop
+start_of_struct_known_1 c = c.before.before.before.before.before.before.before
+
+abbrev start_of_loop_i : tie.After-loop-i invariant_loop decreases_loop → tie.Start invariant_loop decreases_loop
+start_of_loop_i c = c.before.before.before.before.before
+
 add_row : tie.Need-overflow_add-row invariant_loop decreases_loop
 add_row c =
-    omega (arith, (corner_value c.args.text.now c.args.p (fits c.before.before.before.before.before.before.before) c.loop-i.invariant.1 (more c.before) c.next-corner.ensures).1)
+    omega (arith, (corner_value c.args.text.now c.args.p (fits (start_of_struct_known_1 c)) c.loop-i.invariant.1 (more c.before) c.next-corner.ensures).1)
 
 mul_row : tie.Need-offset_bounds-row-i invariant_loop decreases_loop
 mul_row c = search rules
 
 array_write_row : tie.Need-bounds-row-i invariant_loop decreases_loop
-array_write_row c = omega (arith, more c.before, (fits c.before.before.before.before.before.before.before).few)
+array_write_row c = omega (arith, more c.before, (fits (start_of_struct_known_1 c)).few)
 
 add_i : tie.Need-overflow_add-i invariant_loop decreases_loop
 add_i c = search rules
@@ -63,11 +70,11 @@ loop_less c = search rules
 
 loop_again : tie.Need-loop-i-preserved invariant_loop decreases_loop
 loop_again c =
-    (omega arith, one_more c.args.text.now c.args.p (fits c.before.before.before.before.before.before.before) c.loop-i.invariant.1 (more c.before) c.next-corner.ensures refl)
+    (omega arith, one_more c.args.text.now c.args.p (fits (start_of_struct_known_1 c)) c.loop-i.invariant.1 (more c.before) c.next-corner.ensures refl)
 
 returns : tie.Need-returns invariant_loop decreases_loop
 returns c =
-    row_read c.args.text.now c.args.p (fits c.before.before.before.before.before) c.loop-i.invariant.1 (omega (arith, c.loop-i.invariant.0, corners_are c.before.before))
+    row_read c.args.text.now c.args.p (fits (start_of_loop_i c)) c.loop-i.invariant.1 (omega (arith, c.loop-i.invariant.0, corners_are c.before.before))
 
 pub read_row_spec : {M : Type 1} → statement M
 read_row_spec =

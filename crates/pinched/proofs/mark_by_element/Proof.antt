@@ -51,9 +51,22 @@ mark_requires c κs =
     let able = c.requires.0 in
     omega (arith, other_fits able.fit (on c.before.before) c.other_corner.ensures, able.room, c.loop-i.invariant.0.long)
 
+-- states by how far they lie back
+abbrev loop_i_of_slice_known_in_loop_i_1 : tie.After-slice_known-in-loop-i-1 invariant_loop decreases_loop → tie.In-loop-i invariant_loop decreases_loop
+loop_i_of_slice_known_in_loop_i_1 c = c.before.before.before.before.before
+
+abbrev side_count_k_of_slice_known_in_loop_i_1 : tie.After-slice_known-in-loop-i-1 invariant_loop decreases_loop → tie.After-side_count-k invariant_loop decreases_loop
+side_count_k_of_slice_known_in_loop_i_1 c = (loop_i_of_slice_known_in_loop_i_1 c).before.before
+
+abbrev side_count_k_of_mark_arg_2_1 : tie.After-mark-arg-2-1 invariant_loop decreases_loop → tie.After-side_count-k invariant_loop decreases_loop
+side_count_k_of_mark_arg_2_1 c = c.before.before.before.before
+
+abbrev side_count_k_of_slice_known_2_1 : tie.After-slice_known-2-1 invariant_loop decreases_loop → tie.After-side_count-k invariant_loop decreases_loop
+side_count_k_of_slice_known_2_1 c = c.before.before.before.before.before.before.before
+
 add_i : tie.Need-overflow_add-i-in-loop-i invariant_loop decreases_loop
 add_i c =
-    let h = c.loop-i-test.true in omega (arith, (told c.before.before.before.before.before.before.before).to)
+    let h = c.loop-i-test.true in omega (arith, (told (side_count_k_of_slice_known_in_loop_i_1 c)).to)
 
 loop_less : tie.Need-loop-i-smaller invariant_loop decreases_loop
 loop_less c = let h = c.loop-i-test.true in omega arith
@@ -63,7 +76,7 @@ loop_again c =
     let l = c.loop-i in
     let fit = c.requires.0.fit in
     let h = c.loop-i-test.true in
-    (marked_next fit (on c.before.before.before.before.before) c.other_corner.ensures l.invariant.0 c.mark.ensures (omega arith) (omega arith), omega arith, omega arith)
+    (marked_next fit (on (loop_i_of_slice_known_in_loop_i_1 c)) c.other_corner.ensures l.invariant.0 c.mark.ensures (omega arith) (omega arith), omega arith, omega arith)
 
 other_corner_requires_2 : tie.Need-other_corner-requires-2 invariant_loop decreases_loop
 other_corner_requires_2 c κs = search rules
@@ -71,7 +84,7 @@ other_corner_requires_2 c κs = search rules
 mark_requires_2 : tie.Need-mark-requires-2 invariant_loop decreases_loop
 mark_requires_2 c κs =
     let able = c.requires.0 in
-    omega (arith, other_fits able.fit (told c.before.before.before.before).runs_back c.other_corner-2.ensures, able.room, c.loop-i.invariant.0.long)
+    omega (arith, other_fits able.fit (told (side_count_k_of_mark_arg_2_1 c)).runs_back c.other_corner-2.ensures, able.room, c.loop-i.invariant.0.long)
 
 same_length : tie.Need-shape_of-marks invariant_loop decreases_loop
 same_length c = c.mark-2.ensures.long ∙ c.loop-i.invariant.0.long
@@ -83,8 +96,8 @@ returns c =
     let k = c.side_count-k.result in
     let e : c.loop-i.i ≡ k = omega (arith, c.loop-i.invariant.2) in
     let before = rw e at c.loop-i.invariant.0 in
-    let last = marked_next c.requires.0.fit (told c.before.before.before.before.before.before.before).runs_back c.other_corner-2.ensures before c.mark-2.ensures (omega arith) refl in
-    marked_by last (λ v j. joined_to j (omega arith) (omega (arith, (told c.before.before.before.before.before.before.before).to))) (λ v j. in_element args.f k (told c.before.before.before.before.before.before.before).counted j)
+    let last = marked_next c.requires.0.fit (told (side_count_k_of_slice_known_2_1 c)).runs_back c.other_corner-2.ensures before c.mark-2.ensures (omega arith) refl in
+    marked_by last (λ v j. joined_to j (omega arith) (omega (arith, (told (side_count_k_of_slice_known_2_1 c)).to))) (λ v j. in_element args.f k (told (side_count_k_of_slice_known_2_1 c)).counted j)
 
 pub mark_by_element_spec : {M : Type 1} → statement M
 mark_by_element_spec =

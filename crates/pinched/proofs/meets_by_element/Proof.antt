@@ -51,15 +51,22 @@ counts_requires c κs =
     let able = c.requires.0 in
     omega (arith, other_fits able.fit (on c.before) c.other_corner.ensures, able.room)
 
+-- states by how far they lie back
+abbrev side_count_k_of_counts : tie.Then-counts invariant_loop decreases_loop → tie.After-side_count-k invariant_loop decreases_loop
+side_count_k_of_counts c = c.before.before.before.before.before
+
+abbrev side_count_k_of_counts_2 : tie.After-counts-2 invariant_loop decreases_loop → tie.After-side_count-k invariant_loop decreases_loop
+side_count_k_of_counts_2 c = c.before.before.before.before
+
 returns : tie.Need-returns-then-counts invariant_loop decreases_loop
 returns c =
     let h = c.loop-i-test.true in
     let met = met_next c.requires.0.fit (on c.before.before.before) c.other_corner.ensures (passed c.counts.ensures c.if-counts.true) in
-    means_true (met_in met (omega arith) (omega (arith, (told c.before.before.before.before.before).to)))
+    means_true (met_in met (omega arith) (omega (arith, (told (side_count_k_of_counts c)).to)))
 
 add_i : tie.Need-overflow_add-i-in-loop-i invariant_loop decreases_loop
 add_i c =
-    let h = c.loop-i-test.true in omega (arith, (told c.before.before.before.before.before).to)
+    let h = c.loop-i-test.true in omega (arith, (told (side_count_k_of_counts c)).to)
 
 loop_less : tie.Need-loop-i-smaller invariant_loop decreases_loop
 loop_less c = let h = c.loop-i-test.true in omega arith
@@ -86,8 +93,8 @@ returns_2 c =
     let h = c.loop-i-test.false in
     let e : c.loop-i.i ≡ k = omega (arith, c.loop-i.invariant.2) in
     let unmet = rw e at c.loop-i.invariant.0 in
-    let last = means_last c.requires.0.fit (told c.before.before.before.before).runs_back c.other_corner-2.ensures (omega arith) unmet c.counts-2.ensures in
-    means_by last (λ x. met_in x (omega arith) (omega (arith, (told c.before.before.before.before).to))) (λ (v, j, x). (v, in_element f k (told c.before.before.before.before).counted j, x))
+    let last = means_last c.requires.0.fit (told (side_count_k_of_counts_2 c)).runs_back c.other_corner-2.ensures (omega arith) unmet c.counts-2.ensures in
+    means_by last (λ x. met_in x (omega arith) (omega (arith, (told (side_count_k_of_counts_2 c)).to))) (λ (v, j, x). (v, in_element f k (told (side_count_k_of_counts_2 c)).counted j, x))
 
 pub meets_by_element_spec : {M : Type 1} → statement M
 meets_by_element_spec =

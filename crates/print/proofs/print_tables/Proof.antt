@@ -52,9 +52,13 @@ put_line_requires c κs = search rules
 width_requires : tie.Need-width-requires
 width_requires c κs = search rules
 
+-- states by how far they lie back
+abbrev put_line_p_of_width : tie.After-width → tie.After-put_line-p
+put_line_p_of_width c = c.before.before.before.before
+
 put_rows_requires : tie.Need-put_rows-q-requires
 put_rows_requires c κs =
-    let first = c.before.before.before.before in
+    let first = (put_line_p_of_width c) in
     let tested = first.before.before in
     let a = (counted tested.before).args in
     let rows = tested.before.row_count-m.ensures.0 in

@@ -12,9 +12,13 @@ use Rattle.reads.proofs.read_destination.Tie as tie
 next_code_requires : tie.Need-next_code-requires
 next_code_requires c κs = search rules
 
+-- states by how far they lie back
+abbrev start_of_next_code : tie.After-next_code → tie.Start
+start_of_next_code c = c.before.before.before.before.before
+
 origin_of_requires : tie.Need-origin_of-v-requires
 origin_of_requires c κs =
-    let s = c.before.before.before.before.before in rw c.next_code.ensures (next_side_lem s.args.list.now s.args.s s.requires)
+    let s = (start_of_next_code c) in rw c.next_code.ensures (next_side_lem s.args.list.now s.args.s s.requires)
 
 is_vertex_requires : tie.Need-is_vertex-valid-requires
 is_vertex_requires c κs = search rules

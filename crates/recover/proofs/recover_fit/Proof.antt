@@ -20,11 +20,39 @@ proposed : (c : tie.After-propose)
     → let s = c.args in Proposed s.n s.m s.v2e.now s.e2e.now s.list.now s.work.now (list₁ c) (work₁ c)
 proposed c = rw c.wide.ensures at c.propose.ensures
 
+-- states by how far they lie back
+abbrev propose_of_has_tables : tie.After-has_tables → tie.After-propose
+propose_of_has_tables c = c.before.before.before.before.before.before
+
+abbrev propose_of_has_tables_arg_1 : tie.After-has_tables-arg-1 → tie.After-propose
+propose_of_has_tables_arg_1 c = c.before.before.before.before.before
+
+abbrev has_tables_of_give : tie.After-give → tie.After-has_tables
+has_tables_of_give c = c.before.before.before.before
+
+abbrev propose_of_give : tie.After-give → tie.After-propose
+propose_of_give c = (has_tables_of_give c).before.before.before.before.before.before
+
+abbrev has_tables_of_wide_2 : tie.After-wide-2 → tie.After-has_tables
+has_tables_of_wide_2 c = c.before.before.before.before
+
+abbrev propose_of_wide_2 : tie.After-wide-2 → tie.After-propose
+propose_of_wide_2 c = (has_tables_of_wide_2 c).before.before.before.before.before.before
+
+abbrev work_2_1_of_refuse : tie.After-refuse → tie.After-work-2-1
+work_2_1_of_refuse c = c.before.before.before.before.before.before.before.before.before
+
+abbrev has_tables_of_refuse : tie.After-refuse → tie.After-has_tables
+has_tables_of_refuse c = (work_2_1_of_refuse c).before
+
+abbrev propose_of_refuse : tie.After-refuse → tie.After-propose
+propose_of_refuse c = (has_tables_of_refuse c).before.before.before.before.before.before
+
 -- ... and tried
 attempted : (c : tie.After-has_tables)
-    → let s = c.args in Tried s.n s.m s.v2e.now s.e2e.now c.has_tables.result (work₁ c.before.before.before.before.before.before) c.has_tables.new.work
+    → let s = c.args in Tried s.n s.m s.v2e.now s.e2e.now c.has_tables.result (work₁ (propose_of_has_tables c)) c.has_tables.new.work
 attempted c =
-    rw (as_many c.requires (proposed c.before.before.before.before.before.before)) at c.has_tables.ensures
+    rw (as_many c.requires (proposed (propose_of_has_tables c))) at c.has_tables.ensures
 
 -- past the trial
 abbrev tried : tie.After-slice_known-5-1 → tie.After-has_tables
@@ -37,7 +65,7 @@ propose_requires : tie.Need-propose-requires
 propose_requires c κs = rw c.wide.ensures (roomy c.requires)
 
 has_tables_requires : tie.Need-has_tables-requires
-has_tables_requires c κs = to_try c.requires (proposed c.before.before.before.before.before)
+has_tables_requires c κs = to_try c.requires (proposed (propose_of_has_tables_arg_1 c))
 
 give_requires : tie.Need-give-requires
 give_requires c κs = search rules
@@ -50,7 +78,7 @@ same_length_2 c = search rules
 
 returns : tie.Need-returns-then-has_tables
 returns c =
-    recovered_list c.requires (proposed c.before.before.before.before.before.before.before.before.before.before) (attempted c.before.before.before.before) c.if-has_tables.true c.give.ensures
+    recovered_list c.requires (proposed (propose_of_give c)) (attempted (has_tables_of_give c)) c.if-has_tables.true c.give.ensures
 
 wide_requires_2 : tie.Need-wide-requires-2
 wide_requires_2 c κs = search rules
@@ -80,7 +108,7 @@ part_copy_start c = search rules
 part_copy_end : tie.Need-slice_bounds-copy-end
 part_copy_end c =
     let h : c.wide-2.result + 12 * c.args.m + 4 * c.args.m ≤ length c.has_tables.new.work =
-    rw c.wide-2.ensures (kept_inside c.requires (proposed c.before.before.before.before.before.before.before.before.before.before) (attempted c.before.before.before.before)) in
+    rw c.wide-2.ensures (kept_inside c.requires (proposed (propose_of_wide_2 c)) (attempted (has_tables_of_wide_2 c))) in
     search rules
 
 copy_requires : tie.Need-copy-requires
@@ -97,7 +125,7 @@ same_length_4 c = search rules
 
 returns_2 : tie.Need-returns
 returns_2 c =
-    recovered_none c.requires (proposed c.before.before.before.before.before.before.before.before.before.before.before.before.before.before.before.before) (attempted c.before.before.before.before.before.before.before.before.before.before) c.if-has_tables.false c.refuse.ensures
+    recovered_none c.requires (proposed (propose_of_refuse c)) (attempted (has_tables_of_refuse c)) c.if-has_tables.false c.refuse.ensures
     (rw c.wide-2.ensures at c.copy.ensures)
 
 pub recover_fit_spec : {M : Type 1} → statement M

@@ -42,10 +42,14 @@ side_code_requires c κs =
       step_four _ _ s.requires split.element_of-f.ensures next_number (stepped c) (next_numbered _ _ s.requires),
     )
 
+-- states by how far they lie back
+abbrev element_of_f_of_side_code : tie.After-side_code → tie.After-element_of-f
+element_of_f_of_side_code c = c.before.before.before.before
+
 returns : tie.Need-returns
 unfolding next
 returns c =
-    let split = c.before.before.before.before in
+    let split = (element_of_f_of_side_code c) in
     step_read _ _ (begun split).requires split.element_of-f.ensures next_number (stepped c.before) c.side_code.ensures
 
 pub next_by_row_spec : {M : Type 1} → statement M

@@ -24,15 +24,88 @@ lends c = let a = c.args in lent_sized a.size.now a.list.now a.v2e.now a.e2e.now
 abbrev points : tie.Start → List Float
 points c = c.args.points.now
 
-rows : (c : tie.After-wide-rows) → 4 * c.wide-rows.result - 0 ≡ 4 * (lends c.before.before.before.before.before.before.before.before.before.before).m
+-- states by how far they lie back
+abbrev slice_known_1_of_wide_rows : tie.After-wide-rows → tie.After-slice_known-1
+slice_known_1_of_wide_rows c = c.before.before.before.before.before.before.before.before.before
+
+abbrev start_of_wide_rows : tie.After-wide-rows → tie.Start
+start_of_wide_rows c = (slice_known_1_of_wide_rows c).before
+
+abbrev wide_rows_of_gives_a : tie.In-Gives-a → tie.After-wide-rows
+wide_rows_of_gives_a c = c.before.before.before.before.before.before.before.before
+
+abbrev slice_known_1_of_gives_a : tie.In-Gives-a → tie.After-slice_known-1
+slice_known_1_of_gives_a c = (wide_rows_of_gives_a c).before.before.before.before.before.before.before.before.before
+
+abbrev start_of_gives_a : tie.In-Gives-a → tie.Start
+start_of_gives_a c = (slice_known_1_of_gives_a c).before
+
+abbrev slice_known_3_1_of_try_old_arg_2_1 : tie.After-try_old-arg-2-1 → tie.After-slice_known-3-1
+slice_known_3_1_of_try_old_arg_2_1 c = c.before.before.before.before.before.before.before.before.before
+
+abbrev start_of_try_old_arg_2_1 : tie.After-try_old-arg-2-1 → tie.Start
+start_of_try_old_arg_2_1 c = (slice_known_3_1_of_try_old_arg_2_1 c).before.before.before
+
+abbrev wide_rows_of_in_default : tie.In_default → tie.After-wide-rows
+wide_rows_of_in_default c = c.before.before.before.before.before.before
+
+abbrev slice_known_1_of_in_default : tie.In_default → tie.After-slice_known-1
+slice_known_1_of_in_default c = (wide_rows_of_in_default c).before.before.before.before.before.before.before.before.before
+
+abbrev start_of_in_default : tie.In_default → tie.Start
+start_of_in_default c = (slice_known_1_of_in_default c).before
+
+abbrev wide_rows_of_gives : tie.In-Gives → tie.After-wide-rows
+wide_rows_of_gives c = c.before.before.before.before.before.before
+
+abbrev slice_known_1_of_gives : tie.In-Gives → tie.After-slice_known-1
+slice_known_1_of_gives c = (wide_rows_of_gives c).before.before.before.before.before.before.before.before.before
+
+abbrev start_of_gives : tie.In-Gives → tie.Start
+start_of_gives c = (slice_known_1_of_gives c).before
+
+abbrev wide_rows_of_in_default_a : tie.In_default-a → tie.After-wide-rows
+wide_rows_of_in_default_a c = c.before.before.before.before.before.before.before.before
+
+abbrev slice_known_1_of_in_default_a : tie.In_default-a → tie.After-slice_known-1
+slice_known_1_of_in_default_a c = (wide_rows_of_in_default_a c).before.before.before.before.before.before.before.before.before
+
+abbrev start_of_in_default_a : tie.In_default-a → tie.Start
+start_of_in_default_a c = (slice_known_1_of_in_default_a c).before
+
+abbrev gives_a_of_write_arg_7_1 : tie.After-write-arg-7-1 → tie.In-Gives-a
+gives_a_of_write_arg_7_1 c = c.before.before.before.before.before.before.before
+
+abbrev v2e_1_of_slice_known_13_1 : tie.After-slice_known-13-1 → tie.After-v2e-1
+v2e_1_of_slice_known_13_1 c = c.before.before.before.before.before.before.before.before.before
+
+abbrev write_of_slice_known_13_1 : tie.After-slice_known-13-1 → tie.After-write
+write_of_slice_known_13_1 c = (v2e_1_of_slice_known_13_1 c).before.before.before
+
+abbrev gives_a_of_slice_known_13_1 : tie.After-slice_known-13-1 → tie.In-Gives-a
+gives_a_of_slice_known_13_1 c = (write_of_slice_known_13_1 c).before.before.before.before.before.before.before.before
+
+abbrev gives_of_slice_known_13_1 : tie.After-slice_known-13-1 → tie.In-Gives
+gives_of_slice_known_13_1 c = (gives_a_of_slice_known_13_1 c).before.before
+
+abbrev wide_rows_of_slice_known_13_1 : tie.After-slice_known-13-1 → tie.After-wide-rows
+wide_rows_of_slice_known_13_1 c = (gives_of_slice_known_13_1 c).before.before.before.before.before.before
+
+abbrev slice_known_1_of_slice_known_13_1 : tie.After-slice_known-13-1 → tie.After-slice_known-1
+slice_known_1_of_slice_known_13_1 c = (wide_rows_of_slice_known_13_1 c).before.before.before.before.before.before.before.before.before
+
+abbrev start_of_slice_known_13_1 : tie.After-slice_known-13-1 → tie.Start
+start_of_slice_known_13_1 c = (slice_known_1_of_slice_known_13_1 c).before
+
+rows : (c : tie.After-wide-rows) → 4 * c.wide-rows.result - 0 ≡ 4 * (lends (start_of_wide_rows c)).m
 rows c = omega (arith, c.wide-rows.ensures)
 
 counts : (c : tie.In-Gives) → numbers c.try_old-old.result ≡ gives c.in-Gives.first c.in-Gives.second
 counts c = ap numbers c.in-Gives.is
 
-may : (c : tie.In-Gives-a) → ToWrite (with_work (lends c.before.before.before.before.before.before.before.before.before.before.before.before.before.before.before.before.before.before) c.try_old-old.new.work) (points c.before.before.before.before.before.before.before.before.before.before.before.before.before.before.before.before.before.before) c.args.code c.in-Gives-a.t c.in-Gives-a.elements
+may : (c : tie.In-Gives-a) → ToWrite (with_work (lends (start_of_gives_a c)) c.try_old-old.new.work) (points (start_of_gives_a c)) c.args.code c.in-Gives-a.t c.in-Gives-a.elements
 may c =
-    new_allowed (lends c.before.before.before.before.before.before.before.before.before.before.before.before.before.before.before.before.before.before) (points c.before.before.before.before.before.before.before.before.before.before.before.before.before.before.before.before.before.before) c.args.code c.requires (rows c.before.before.before.before.before.before.before.before) c.try_old-old.ensures (counts c.before.before)
+    new_allowed (lends (start_of_gives_a c)) (points (start_of_gives_a c)) c.args.code c.requires (rows (wide_rows_of_gives_a c)) c.try_old-old.ensures (counts c.before.before)
     (ap numbers c.in-Gives-a.is) c.admit-a.ensures
 
 long : (c : tie.After-write) → length c.write.new.work ≡ length c.args.work.now
@@ -60,7 +133,7 @@ part_try_old_end : tie.Need-slice_bounds-try_old-end
 part_try_old_end c = search rules
 
 try_old_requires : tie.Need-try_old-old-requires
-try_old_requires c κs = to_try (lends c.before.before.before.before.before.before.before.before.before.before.before.before) (fitting (lends c.before.before.before.before.before.before.before.before.before.before.before.before) c.requires) (rows c.before.before)
+try_old_requires c κs = to_try (lends (start_of_try_old_arg_2_1 c)) (fitting (lends (start_of_try_old_arg_2_1 c)) c.requires) (rows c.before.before)
 
 enum_known_old : tie.Need-enum_known-old
 enum_known_old c = search rules
@@ -76,11 +149,11 @@ same_length_2 c = search rules
 
 returns : tie.Need-returns-in_default
 returns c =
-    old_denied (lends c.before.before.before.before.before.before.before.before.before.before.before.before.before.before.before.before) (points c.before.before.before.before.before.before.before.before.before.before.before.before.before.before.before.before) c.args.code c.requires (rows c.before.before.before.before.before.before) c.try_old-old.ensures (ap numbers c.in_default.is)
+    old_denied (lends (start_of_in_default c)) (points (start_of_in_default c)) c.args.code c.requires (rows (wide_rows_of_in_default c)) c.try_old-old.ensures (ap numbers c.in_default.is)
 
 admit_requires : tie.Need-admit-a-requires
 admit_requires c κs =
-    admissible (lends c.before.before.before.before.before.before.before.before.before.before.before.before.before.before.before.before) (points c.before.before.before.before.before.before.before.before.before.before.before.before.before.before.before.before) c.args.code c.requires (rows c.before.before.before.before.before.before) c.try_old-old.ensures (counts c)
+    admissible (lends (start_of_gives c)) (points (start_of_gives c)) c.args.code c.requires (rows (wide_rows_of_gives c)) c.try_old-old.ensures (counts c)
 
 enum_known_a : tie.Need-enum_known-a
 enum_known_a c = search rules
@@ -108,12 +181,12 @@ same_length_8 c = search rules
 
 returns_2 : tie.Need-returns-in_default-a
 returns_2 c =
-    new_denied (lends c.before.before.before.before.before.before.before.before.before.before.before.before.before.before.before.before.before.before) (points c.before.before.before.before.before.before.before.before.before.before.before.before.before.before.before.before.before.before) c.args.code c.requires (rows c.before.before.before.before.before.before.before.before) c.try_old-old.ensures (counts c.before.before)
+    new_denied (lends (start_of_in_default_a c)) (points (start_of_in_default_a c)) c.args.code c.requires (rows (wide_rows_of_in_default_a c)) c.try_old-old.ensures (counts c.before.before)
     (ap numbers c.in_default-a.is) c.admit-a.ensures
 
 write_requires : tie.Need-write-requires
 write_requires c κs =
-    (may c.before.before.before.before.before.before.before, c.requires.long.columned)
+    (may (gives_a_of_write_arg_7_1 c), c.requires.long.columned)
 
 same_length_9 : tie.Need-shape_of-list
 same_length_9 c = search rules
@@ -131,12 +204,12 @@ same_length_13 : tie.Need-shape_of-points
 same_length_13 c = search rules
 
 same_length_14 : tie.Need-shape_of-work
-same_length_14 c = long c.before.before.before.before.before.before.before.before.before.before.before.before
+same_length_14 c = long (write_of_slice_known_13_1 c)
 
 returns_3 : tie.Need-returns
 returns_3 c = (
-  all_done (lends c.before.before.before.before.before.before.before.before.before.before.before.before.before.before.before.before.before.before.before.before.before.before.before.before.before.before.before.before.before.before.before.before.before.before.before.before.before.before) (points c.before.before.before.before.before.before.before.before.before.before.before.before.before.before.before.before.before.before.before.before.before.before.before.before.before.before.before.before.before.before.before.before.before.before.before.before.before.before) c.args.code c.requires (rows c.before.before.before.before.before.before.before.before.before.before.before.before.before.before.before.before.before.before.before.before.before.before.before.before.before.before.before.before) c.try_old-old.ensures (counts c.before.before.before.before.before.before.before.before.before.before.before.before.before.before.before.before.before.before.before.before.before.before) (may c.before.before.before.before.before.before.before.before.before.before.before.before.before.before.before.before.before.before.before.before) c.write.ensures.0,
-  long c.before.before.before.before.before.before.before.before.before.before.before.before,
+  all_done (lends (start_of_slice_known_13_1 c)) (points (start_of_slice_known_13_1 c)) c.args.code c.requires (rows (wide_rows_of_slice_known_13_1 c)) c.try_old-old.ensures (counts (gives_of_slice_known_13_1 c)) (may (gives_a_of_slice_known_13_1 c)) c.write.ensures.0,
+  long (write_of_slice_known_13_1 c),
 )
 
 pub split_fit_spec : {M : Type 1} → statement M

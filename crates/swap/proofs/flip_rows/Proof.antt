@@ -44,9 +44,25 @@ third_requires_2 c κs = search rules
 flip_requires : tie.Need-flip-requires
 flip_requires c κs = search rules
 
+-- states by how far they lie back
+abbrev number_of_j_of_put_row_arg_1 : tie.After-put_row-arg-1 → tie.After-number_of-j
+number_of_j_of_put_row_arg_1 c = c.before.before.before.before.before.before
+
+abbrev row_at_other_of_put_row_arg_2_1 : tie.After-put_row-arg-2-1 → tie.After-row_at-other
+row_at_other_of_put_row_arg_2_1 c = c.before.before.before.before.before.before.before.before.before
+
+abbrev number_of_j_of_put_row_arg_2_1 : tie.After-put_row-arg-2-1 → tie.After-number_of-j
+number_of_j_of_put_row_arg_2_1 c = (row_at_other_of_put_row_arg_2_1 c).before.before
+
+abbrev flip_of_slice_known_3_1 : tie.After-slice_known-3-1 → tie.After-flip
+flip_of_slice_known_3_1 c = c.before.before.before.before.before.before.before.before.before
+
+abbrev number_of_j_of_slice_known_3_1 : tie.After-slice_known-3-1 → tie.After-number_of-j
+number_of_j_of_slice_known_3_1 c = (flip_of_slice_known_3_1 c).before.before.before.before.before
+
 put_row_requires : tie.Need-put_row-requires
 put_row_requires c κs =
-    omega (arith, inside c.requires, split c.before.before.before.before.before.before)
+    omega (arith, inside c.requires, split (number_of_j_of_put_row_arg_1 c))
 
 flip_requires_2 : tie.Need-flip-requires-2
 flip_requires_2 c κs = search rules
@@ -54,14 +70,14 @@ flip_requires_2 c κs = search rules
 put_row_requires_2 : tie.Need-put_row-requires-2
 put_row_requires_2 c κs =
     let same : length c.put_row.new.list ≡ length c.args.list.now = search rules in
-    omega (arith, inside c.requires, split c.before.before.before.before.before.before.before.before.before.before.before)
+    omega (arith, inside c.requires, split (number_of_j_of_put_row_arg_2_1 c))
 
 same_length : tie.Need-shape_of-list
 same_length c = search rules
 
 returns : tie.Need-returns
 returns c =
-    let (f, i, g, j) = split c.before.before.before.before.before.before.before.before.before.before.before.before.before.before in
+    let (f, i, g, j) = split (number_of_j_of_slice_known_3_1 c) in
     flips c.requires f i g j c.row_at-row.ensures c.row_at-other.ensures c.third-c.ensures c.third-d.ensures
     c.flip.ensures c.flip-2.ensures c.put_row.ensures c.put_row-2.ensures
 

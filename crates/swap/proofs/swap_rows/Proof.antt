@@ -42,13 +42,32 @@ enum_told c = search rules
 enum_told_2 : tie.Need-enum_told-in_default
 enum_told_2 c = search rules
 
+-- states by how far they lie back
+abbrev v2e_1_of_put_row_arg_1 : tie.After-put_row-arg-1 → tie.After-v2e-1
+v2e_1_of_put_row_arg_1 c = c.before.before.before.before.before.before.before.before.before
+
+abbrev flip_rows_arg_1_of_put_row_arg_1 : tie.After-put_row-arg-1 → tie.After-flip_rows-arg-1
+flip_rows_arg_1_of_put_row_arg_1 c = (v2e_1_of_put_row_arg_1 c).before.before.before.before.before.before.before.before.before
+
+abbrev element_of_g_of_put_row_arg_1 : tie.After-put_row-arg-1 → tie.After-element_of-g
+element_of_g_of_put_row_arg_1 c = (flip_rows_arg_1_of_put_row_arg_1 c).before.before.before
+
+abbrev b2e_1_of_put_row_arg_in_default_1 : tie.After-put_row-arg-in_default-1 → tie.After-b2e-1
+b2e_1_of_put_row_arg_in_default_1 c = c.before.before.before.before.before.before.before.before.before
+
+abbrev build_fit_arg_1_of_put_row_arg_in_default_1 : tie.After-put_row-arg-in_default-1 → tie.After-build_fit-arg-1
+build_fit_arg_1_of_put_row_arg_in_default_1 c = (b2e_1_of_put_row_arg_in_default_1 c).before.before.before.before.before.before.before.before.before
+
+abbrev element_of_g_of_put_row_arg_in_default_1 : tie.After-put_row-arg-in_default-1 → tie.After-element_of-g
+element_of_g_of_put_row_arg_in_default_1 c = (build_fit_arg_1_of_put_row_arg_in_default_1 c).before.before.before.before.before.before.before
+
 put_row_requires : tie.Need-put_row-requires
 put_row_requires c κs =
-    let same : length c.flip_rows.new.list ≡ length c.args.list.now = search rules in omega (arith, rows_there c.before.before.before.before.before.before.before.before.before.before.before.before.before.before.before.before.before.before.before.before.before)
+    let same : length c.flip_rows.new.list ≡ length c.args.list.now = search rules in omega (arith, rows_there (element_of_g_of_put_row_arg_1 c))
 
 put_row_requires_2 : tie.Need-put_row-requires-in_default
 put_row_requires_2 c κs =
-    let same : length c.put_row.new.list ≡ length c.args.list.now = search rules in omega (arith, rows_there c.before.before.before.before.before.before.before.before.before.before.before.before.before.before.before.before.before.before.before.before.before.before.before.before.before)
+    let same : length c.put_row.new.list ≡ length c.args.list.now = search rules in omega (arith, rows_there (element_of_g_of_put_row_arg_in_default_1 c))
 
 same_length : tie.Need-shape_of-list-in_default
 same_length c = search rules

@@ -31,17 +31,33 @@ enum_told_2 c = search rules
 same_length : tie.Need-shape_of-work-in_default
 same_length c = search rules
 
+-- states by how far they lie back
+abbrev siblings_found_of_in_default : tie.In_default → tie.After-siblings-found
+siblings_found_of_in_default c = c.before.before.before.before
+
+abbrev siblings_found_of_gives : tie.In-Gives → tie.After-siblings-found
+siblings_found_of_gives c = c.before.before.before.before
+
+abbrev siblings_found_of_first_sides_arg_1 : tie.After-first_sides-arg-1 → tie.After-siblings-found
+siblings_found_of_first_sides_arg_1 c = c.before.before.before.before.before.before
+
+abbrev work_1_of_give : tie.After-give → tie.After-work-1
+work_1_of_give c = c.before.before.before.before.before.before.before.before.before
+
+abbrev siblings_found_of_give : tie.After-give → tie.After-siblings-found
+siblings_found_of_give c = (work_1_of_give c).before
+
 returns : tie.Need-returns-in_default
 returns c =
-    pairs_refuse (mapped c.before.before.before.before) c.check_pairs-pairs.ensures (ap numbers c.in_default.is)
+    pairs_refuse (mapped (siblings_found_of_in_default c)) c.check_pairs-pairs.ensures (ap numbers c.in_default.is)
 
 clashing_element_requires : tie.Need-clashing_element-f-requires
 clashing_element_requires c κs =
-    ((mapped c.before.before.before.before).mapped, (none_found (mapped c.before.before.before.before) c.check_pairs-pairs.ensures (ap numbers c.in-Gives.is)).0, c.siblings-found.ensures.1)
+    ((mapped (siblings_found_of_gives c)).mapped, (none_found (mapped (siblings_found_of_gives c)) c.check_pairs-pairs.ensures (ap numbers c.in-Gives.is)).0, c.siblings-found.ensures.1)
 
 first_sides_requires : tie.Need-first_sides-requires
 first_sides_requires c κs =
-    still (mapped c.before.before.before.before.before.before) c.check_pairs-pairs.ensures (ap numbers c.in-Gives.is)
+    still (mapped (siblings_found_of_first_sides_arg_1 c)) c.check_pairs-pairs.ensures (ap numbers c.in-Gives.is)
 
 give_requires : tie.Need-give-requires
 give_requires c κs = search rules
@@ -51,7 +67,7 @@ same_length_2 c = search rules
 
 returns_2 : tie.Need-returns
 returns_2 c =
-    gives_pairs (mapped c.before.before.before.before.before.before.before.before.before.before) c.check_pairs-pairs.ensures (ap numbers c.in-Gives.is) c.first_sides.ensures
+    gives_pairs (mapped (siblings_found_of_give c)) c.check_pairs-pairs.ensures (ap numbers c.in-Gives.is) c.first_sides.ensures
     c.clashing_element-f.ensures c.give.ensures
 
 pub pair_fit_spec : {M : Type 1} → statement M

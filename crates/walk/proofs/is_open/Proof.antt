@@ -26,7 +26,17 @@ E2e s = e2e_in s.args.n s.args.m s.args.work.now
 tested : (c : tie.After-is_side) → c.is_side.result ≡ is_side (E2e c.before.before.before) (asked c.before.before.before)
 tested c = rw lent at c.is_side.ensures
 
-a_side : (c : tie.Else-not-is_side) → is_side (E2e c.before.before.before.before) (asked c.before.before.before.before) ≡ true
+-- states by how far they lie back
+abbrev start_of_not_is_side : tie.Else-not-is_side → tie.Start
+start_of_not_is_side c = c.before.before.before.before
+
+abbrev start_of_slot_of : tie.After-slot_of → tie.Start
+start_of_slot_of c = c.before.before.before.before.before
+
+abbrev start_of_work_n_ne0 : tie.Then-work-n-ne0 → tie.Start
+start_of_work_n_ne0 c = c.before.before.before.before.before.before.before
+
+a_side : (c : tie.Else-not-is_side) → is_side (E2e (start_of_not_is_side c)) (asked (start_of_not_is_side c)) ≡ true
 a_side c = sym (tested c.before) ∙ not-false _ c.if-not-is_side.false-raw
 
 abbrev places : tie.Start → List ℕ
@@ -39,7 +49,7 @@ place c =
 abbrev entry : tie.After-slot_of → ℕ
 entry c = at c.args.work.now (c.args.n + 8 * c.args.m + c.slot_of.result)
 
-read : (c : tie.After-slot_of) → entry c ≡ at (places c.before.before.before.before.before) (slot (asked c.before.before.before.before.before))
+read : (c : tie.After-slot_of) → entry c ≡ at (places (start_of_slot_of c)) (slot (asked (start_of_slot_of c)))
 read c = written_at c.args.n c.args.m c.args.work.now c.args.s c.slot_of.ensures
 
 mul_e : tie.Need-overflow_mul-e
@@ -64,7 +74,7 @@ is_side_requires : tie.Need-is_side-requires
 is_side_requires c κs = search rules
 
 returns : tie.Need-returns-then-not-is_side
-returns c = shut_side _ (places c.before.before.before.before) _ (sym (tested c.before) ∙ not-true _ c.if-not-is_side.true-raw)
+returns c = shut_side _ (places (start_of_not_is_side c)) _ (sym (tested c.before) ∙ not-true _ c.if-not-is_side.true-raw)
 
 mul_if2 : tie.Need-overflow_mul-m
 mul_if2 c = search rules
@@ -73,7 +83,7 @@ add_if2 : tie.Need-overflow_add-n
 add_if2 c = search rules
 
 slot_of_requires : tie.Need-slot_of-requires
-slot_of_requires c κs = side_from (E2e c.before.before.before.before) _ (rw (a_side c) tt)
+slot_of_requires c κs = side_from (E2e (start_of_not_is_side c)) _ (rw (a_side c) tt)
 
 add_if2_2 : tie.Need-overflow_add-n-2
 add_if2_2 c = omega (arith, place c)
@@ -86,11 +96,11 @@ shared_slice_read_if2 c = omega (arith, place c.before)
 
 returns_2 : tie.Need-returns-then-work-n-ne0
 returns_2 c =
-    shut_place _ (places c.before.before.before.before.before.before.before) _ (read c.before.before) c.if-work-n-ne0.true
+    shut_place _ (places (start_of_work_n_ne0 c)) _ (read c.before.before) c.if-work-n-ne0.true
 
 returns_3 : tie.Need-returns
 returns_3 c =
-    open_place _ (places c.before.before.before.before.before.before.before) _ (read c.before.before) (a_side c.before.before.before) c.if-work-n-ne0.false
+    open_place _ (places (start_of_work_n_ne0 c)) _ (read c.before.before) (a_side c.before.before.before) c.if-work-n-ne0.false
 
 pub is_open_spec : {M : Type 1} → statement M
 is_open_spec =

@@ -71,8 +71,18 @@ mul_s c = search rules
 shared_slice_read_s : tie.Need-bounds-work-e
 shared_slice_read_s c = search rules
 
+-- states by how far they lie back
+abbrev wide_b_of_s_eq0 : tie.Then-s-eq0 → tie.After-wide-b
+wide_b_of_s_eq0 c = c.before.before.before.before
+
+abbrev wide_b_of_next_code_arg_1 : tie.After-next_code-arg-1 → tie.After-wide-b
+wide_b_of_next_code_arg_1 c = c.before.before.before.before.before
+
+abbrev wide_b_of_next_code : tie.After-next_code → tie.After-wide-b
+wide_b_of_next_code c = c.before.before.before.before.before.before
+
 returns_4 : tie.Need-returns-then-s-eq0
-returns_4 c = start_unlinked (bordered c.before.before.before.before) (omega arith) (omega arith) c.if-s-eq0.true
+returns_4 c = start_unlinked (bordered (wide_b_of_s_eq0 c)) (omega arith) (omega arith) c.if-s-eq0.true
 
 mul_next_code : tie.Need-offset_bounds-work-n
 mul_next_code c = search rules
@@ -88,11 +98,11 @@ part_next_code_end c = search rules
 
 next_code_requires : tie.Need-next_code-requires
 next_code_requires c κs =
-    rw lent (linked_side (bordered c.before.before.before.before.before) (omega arith) (omega arith) c.if-s-eq0.false)
+    rw lent (linked_side (bordered (wide_b_of_next_code_arg_1 c)) (omega arith) (omega arith) c.if-s-eq0.false)
 
 returns_5 : tie.Need-returns
 returns_5 c =
-    start_linked (bordered c.before.before.before.before.before.before) (omega arith) (omega arith) c.if-s-eq0.false
+    start_linked (bordered (wide_b_of_next_code c)) (omega arith) (omega arith) c.if-s-eq0.false
     (rw lent at c.next_code.ensures)
 
 pub start_spec : {M : Type 1} → statement M

@@ -44,9 +44,13 @@ walk_empty_requires c κs = walks_start (emptied c.before.before.before)
 same_length : tie.Need-shape_of-work
 same_length c = search rules
 
+-- states by how far they lie back
+abbrev clear_of_slice_known_3_1 : tie.After-slice_known-3-1 → tie.After-clear
+clear_of_slice_known_3_1 c = c.before.before.before.before.before.before
+
 returns : tie.Need-returns
 returns c =
-    walked_from (emptied c.before.before.before.before.before.before) c.walk_empty.ensures
+    walked_from (emptied (clear_of_slice_known_3_1 c)) c.walk_empty.ensures
 
 pub walk_spec : {M : Type 1} → statement M
 walk_spec =
