@@ -1,6 +1,6 @@
 -- The packed number, taken apart by the header's three formulas, is the answer again, where its numbers have room.
 -- Assumes nothing.
-use Rattle.std.specs.Prelude.{◌≡◌, true, false, ℕ, ◌-◌, ◌%◌, ◌≤◌, ◌<◌, ltb, eqb, ℤ, pos, negsuc}
+use Rattle.std.specs.Prelude.{◌≡◌, false, ℕ, ◌-◌, ◌%◌, ◌≤◌, ◌<◌, ltb, eqb, ℤ, pos, negsuc}
 use Rattle.std.proofs.Common.{ap, ◌∙◌, arith}
 use Rattle.std.specs.Int.Signed.{mag}
 use Rattle.lists.specs.TestLaws.{true_of, false_of, means_not, means_eq, means_lt}

@@ -2,20 +2,17 @@
 -- Assumes nothing.
 use Rattle.std.specs.Prelude.{Bool, false, List, [], ◌∷◌, ◌++◌, ℕ, zero, suc, ◌+◌, ◌*◌, ◌-◌, eqb, Float, ℤ, pos, negsuc, neg_ℤ, length, take, drop, replicate}
 use Rattle.std.specs.Float.{binary64}
-use Rattle.std.specs.Float.Ieee.{sum, of_int, of_bits, to_bits}
+use Rattle.std.specs.Float.Ieee.{of_int, of_bits, to_bits}
 use Rattle.lists.specs.Tests.{both, same}
-use Rattle.lists.specs.Search.{least, zeros}
 use Rattle.rules.specs.Elements.{elements}
-use Rattle.rules.specs.Pairing.{alike}
-use Rattle.rules.specs.Tables.{partner, columns, edges}
+use Rattle.rules.specs.Tables.{columns}
 use Rattle.rules.specs.Refusals.{Answer, gives, refused}
-use Rattle.rules.specs.Refusals.{after}
 use Rattle.rules.specs.Cases.{three, quad, tri, blank, left, same_answer, listing, tetrahedron, mixed, diagonal, three_corners, apart}
 use Rattle.edit_rules.specs.Edits.{Edited, Lent, becomes, refuses}
-use Rattle.edit_rules.specs.Swap.{third, swapped, swap, swap_answer, swap_leaves}
+use Rattle.edit_rules.specs.Swap.{swap, swap_answer, swap_leaves}
 use Rattle.edit_rules.specs.Split.{split, midway, split_points}
 use Rattle.edit_rules.specs.Split.{split_answer, split_leaves}
-use Rattle.edit_rules.specs.Contract.{contracted, contract}
+use Rattle.edit_rules.specs.Contract.{contract}
 use Rattle.edit_rules.specs.Contract.{contract_answer, contract_leaves, contract_points}
 use Rattle.edit_rules.specs.Shape.{shape, signed, shape_answer, shape_work}
 

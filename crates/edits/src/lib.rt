@@ -17,7 +17,7 @@ ghost use Rattle.edits.specs.Trying.{Tabled};
 ghost use Rattle.edits.specs.Fronts.{Fitting, ToTry, Fronted};
 
 use answer::Answer;
-use buffers::put_four;
+use buffers::copy;
 use build::build_fit;
 use columns::columns_of;
 use halfedge::{HalfEdge, element_of, is_border, side_count, slot_of, wide};
@@ -144,7 +144,8 @@ pub fn put_row(f: u32, row: [u32; 4], list: &mut [u32])
     ensures { list.new ≡ with_row f (row_of row) list.old }
 {
     let a = 4 * wide(f - 1);
-    put_four(list, a, row);
+    let e = a + 4;
+    copy(&row, &mut list[a..e]);
 }
 
 // The tables of the first m rows of the list, in buffers that may be longer than these.

@@ -3,11 +3,9 @@
 use Rattle.std.specs.Prelude.{Bool, List, [], ◌∷◌, ◌++◌, ℕ, ◌*◌, replicate}
 use Prim.Native.String.{String}
 use Rattle.lists.specs.Tests.{both, same}
-use Rattle.lists.specs.Search.{tab}
 use Rattle.print.specs.Cases.{bytes}
-use Rattle.rules.specs.Refusals.{Answer, gives, refused, after}
-use Rattle.rules.specs.Cases.{tri, quad, same_answer, every}
-use Rattle.off_rules.specs.Off.{items, item}
+use Rattle.rules.specs.Refusals.{Answer, gives, refused}
+use Rattle.rules.specs.Cases.{tri, quad, same_answer}
 use Rattle.off_rules.specs.Off.{off_answer, off_leaves}
 
 pub data Case : Type 0 where

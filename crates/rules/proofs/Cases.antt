@@ -1,6 +1,6 @@
 -- The rules give every row of the table of cases (specs/Cases).
 -- Assumes nothing.
-use Rattle.std.specs.Prelude.{◌-◌, T}
+use Rattle.std.specs.Prelude.{T}
 use Rattle.lists.specs.Tests.{same, has}
 use Rattle.lists.specs.Search.{least, count, upto, tab, zeros}
 use Rattle.rules.specs.Elements.{sides_by, is_side, slot, origin, next_number, next, side_at, first_side, count_sides, first_number}

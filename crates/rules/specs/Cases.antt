@@ -4,19 +4,17 @@
 -- Assumes nothing.
 use Rattle.std.specs.Prelude.{Bool, true, false, List, [], ◌∷◌, ◌++◌, ℕ, ◌+◌, ◌*◌, ◌-◌, eqb, length, take, replicate}
 use Rattle.std.proofs.Math.Option.{Option, none, some}
-use Rattle.lists.specs.Tests.{both, same, has}
-use Rattle.lists.specs.Search.{least, count, tab}
-use Rattle.rules.specs.Elements.{elements, next}
-use Rattle.rules.specs.Pairing.{joins}
-use Rattle.rules.specs.Tables.{borders, columns, edges}
+use Rattle.lists.specs.Tests.{both, same}
+use Rattle.lists.specs.Search.{tab}
+use Rattle.rules.specs.Elements.{elements}
+use Rattle.rules.specs.Tables.{borders, columns}
 use Rattle.rules.specs.Refusals.{Answer, gives, refused}
-use Rattle.rules.specs.Refusals.{Buffers, build_answer, after, build_leaves, recover_answer, recover_list}
+use Rattle.rules.specs.Refusals.{Buffers, build_answer, build_leaves, recover_answer, recover_list}
 use Rattle.rules.specs.Siblings.{SiblingBuffers, siblings_answer, siblings_leaves}
-use Rattle.rules.specs.Queries.{Mesh, told, columns_answer, asked, follow, over}
-use Rattle.rules.specs.Queries.{opposite, opposite_answer, vertex_border_answer}
-use Rattle.rules.specs.Queries.{ring, neighbours}
+use Rattle.rules.specs.Queries.{Mesh, told, columns_answer}
+use Rattle.rules.specs.Queries.{opposite_answer, vertex_border_answer}
 use Rattle.rules.specs.Queries.{ring_answer, ring_leaves, neighbours_answer, neighbours_leaves, border_loop_answer, border_loop_leaves}
-use Rattle.rules.specs.Holes.{lists, HoleBuffers, holes}
+use Rattle.rules.specs.Holes.{HoleBuffers}
 use Rattle.rules.specs.Holes.{holes_answer, holes_leaves}
 
 -- an element's row, or a row of E2e, in three columns or in four; lists are rows joined by ++

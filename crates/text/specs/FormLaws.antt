@@ -3,7 +3,6 @@
 use Rattle.std.specs.Prelude.{Bool, true, false, List, ◌≡◌, refl, ℕ, zero, suc, ◌+◌, ◌*◌, ◌-◌, ◌%◌, ◌≤◌, ◌<◌, length}
 use Rattle.std.proofs.Common.{add-one, arith}
 use borrow.Author.Tests.{eq-eqb, ne_eqb}
-use Rattle.lists.specs.Search.{at}
 use Rattle.lists.specs.TestLaws.{Test, pass, fail, test, means_both, means_eq, means_le}
 use Rattle.digits.specs.Digits.{run}
 use Rattle.digits.specs.Counting.{run_le}

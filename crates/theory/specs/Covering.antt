@@ -6,7 +6,7 @@ use Rattle.std.proofs.Common.{ap, sym, ◌∙◌, inl, inr, arith, T_not, ext_ge
 use Rattle.lists.specs.TestLaws.{Test, pass, fail, test}
 use Rattle.lists.specs.Search.{at}
 use Rattle.lists.specs.SearchLaws.{Met, lt_or_eq}
-use Rattle.rules.specs.Elements.{elements, sides, is_side, Side, slot, origin, next, side_at}
+use Rattle.rules.specs.Elements.{elements, is_side, Side, slot, origin, next, side_at}
 use Rattle.rules.specs.Pairing.{Pairing, Turn, SideAt, TurnOrder}
 use Rattle.rules.specs.Tables.{partner, wide, v2e}
 use Rattle.rules.specs.Recovery.{walk}

@@ -6,7 +6,7 @@ use Rattle.std.proofs.Common.{ap, sym, subst, ◌∙◌, inl, inr, arith, T_not}
 use Prim.Native.Nat.{ℕ, ◌+◌, ◌-◌, ◌≤◌, ◌<◌}
 use Rattle.std.proofs.Math.Dec.{not_T, nltb→le}
 use Rattle.lists.specs.TestLaws.{Test, pass, fail, test, Means, passes, both_pass, means_not, means_eq, means_lt}
-use Rattle.lists.specs.Search.{at, least}
+use Rattle.lists.specs.Search.{least}
 use Rattle.lists.specs.SearchLaws.{Least, least_is, lt_or_eq, le_not_lt}
 use Rattle.rules.specs.Elements.{is_side, Side, slot, side_at, side_with, first_side, first_number}
 use Rattle.theory.specs.Sides.{slot_side_at, side_positive, side_at_slot, slot_below, slot_less}

@@ -1,3 +1,2 @@
 // Theorems about the rules; they stand in specs/.
 #![tactic(auto)]
-

@@ -26,4 +26,4 @@ module _ (n : ℕ) (w part : List ℕ) (h : n ≤ length w) (e : part ≡ replic
 pub returns : goal.returns
 returns c = let done = c.before.before in
     let begun = done.before.before.before in
-    record { kept = (cleared begun.args.n begun.args.out.now done.clear.new.out begun.requires done.clear.ensures).0; by_index = (cleared begun.args.n begun.args.out.now done.clear.new.out begun.requires done.clear.ensures).1; }
+    record { kept = (cleared begun.args.n begun.args.out.now done.clear.new.out begun.requires done.clear.ensures).0; by_index = (cleared begun.args.n begun.args.out.now done.clear.new.out begun.requires done.clear.ensures).1 }

@@ -34,23 +34,23 @@ shared_slice_known_1_of_lengths_fit c = c.before.before.before.before.before.bef
 abbrev start_of_lengths_fit : tie.After-lengths_fit → tie.Start
 start_of_lengths_fit c = (shared_slice_known_1_of_lengths_fit c).before
 
-abbrev not_sizes_fit_of_not_lengths_fit : tie.Else-not-lengths_fit → tie.Else-not-sizes_fit
-not_sizes_fit_of_not_lengths_fit c = c.before.before.before.before
+abbrev else_not_sizes_fit_of_else_not_lengths_fit : tie.Else-not-lengths_fit → tie.Else-not-sizes_fit
+else_not_sizes_fit_of_else_not_lengths_fit c = c.before.before.before.before
 
-abbrev start_of_not_lengths_fit : tie.Else-not-lengths_fit → tie.Start
-start_of_not_lengths_fit c = (not_sizes_fit_of_not_lengths_fit c).before.before.before.before.before.before.before
+abbrev start_of_else_not_lengths_fit : tie.Else-not-lengths_fit → tie.Start
+start_of_else_not_lengths_fit c = (else_not_sizes_fit_of_else_not_lengths_fit c).before.before.before.before.before.before.before
 
-abbrev not_sizes_fit_of_refuse_then_not_lengths_fit : tie.After-refuse-then-not-lengths_fit → tie.Else-not-sizes_fit
-not_sizes_fit_of_refuse_then_not_lengths_fit c = c.before.before.before.before.before
+abbrev else_not_sizes_fit_of_refuse_then_not_lengths_fit : tie.After-refuse-then-not-lengths_fit → tie.Else-not-sizes_fit
+else_not_sizes_fit_of_refuse_then_not_lengths_fit c = c.before.before.before.before.before
 
-abbrev not_lengths_fit_of_build_fit_arg_4_1 : tie.After-build_fit-arg-4-1 → tie.Else-not-lengths_fit
-not_lengths_fit_of_build_fit_arg_4_1 c = c.before.before.before.before
+abbrev else_not_lengths_fit_of_build_fit_arg_4_1 : tie.After-build_fit-arg-4-1 → tie.Else-not-lengths_fit
+else_not_lengths_fit_of_build_fit_arg_4_1 c = c.before.before.before.before
 
 abbrev e2e_1_of_slice_known_9_1 : tie.After-slice_known-9-1 → tie.After-e2e-1
 e2e_1_of_slice_known_9_1 c = c.before.before.before.before.before.before.before.before.before
 
-abbrev not_lengths_fit_of_slice_known_9_1 : tie.After-slice_known-9-1 → tie.Else-not-lengths_fit
-not_lengths_fit_of_slice_known_9_1 c = (e2e_1_of_slice_known_9_1 c).before.before.before.before.before.before.before.before
+abbrev else_not_lengths_fit_of_slice_known_9_1 : tie.After-slice_known-9-1 → tie.Else-not-lengths_fit
+else_not_lengths_fit_of_slice_known_9_1 c = (e2e_1_of_slice_known_9_1 c).before.before.before.before.before.before.before.before
 
 lengths : (c : tie.After-lengths_fit) →
     c.lengths_fit.result ≡ build_lengths c.args.n c.args.list.now (buffers (start_of_lengths_fit c))
@@ -66,8 +66,8 @@ are_sized : (c : tie.Else-not-sizes_fit) → let a = c.args in sizes_fit a.n a.l
 are_sized c = sym (sizes c.before) ∙ not-false _ c.if-not-sizes_fit.false-raw
 
 fit : (c : tie.Else-not-lengths_fit) →
-    (sizes_fit c.args.n c.args.list.now ≡ true) × (build_lengths c.args.n c.args.list.now (buffers (start_of_not_lengths_fit c)) ≡ true)
-fit c = (are_sized (not_sizes_fit_of_not_lengths_fit c), sym (lengths c.before) ∙ not-false _ c.if-not-lengths_fit.false-raw)
+    (sizes_fit c.args.n c.args.list.now ≡ true) × (build_lengths c.args.n c.args.list.now (buffers (start_of_else_not_lengths_fit c)) ≡ true)
+fit c = (are_sized (else_not_sizes_fit_of_else_not_lengths_fit c), sym (lengths c.before) ∙ not-false _ c.if-not-lengths_fit.false-raw)
 
 sizes_fit_requires : tie.Need-sizes_fit-requires
 sizes_fit_requires c κs = search rules
@@ -105,13 +105,13 @@ refuse_requires_2 c κs = search rules
 returns_2 : tie.Need-returns-then-not-lengths_fit
 returns_2 c =
     let a = c.args in
-    unlengthened a.n a.list.now a.v2e.now a.e2e.now a.b2e.now a.work.now (are_sized (not_sizes_fit_of_refuse_then_not_lengths_fit c))
+    unlengthened a.n a.list.now a.v2e.now a.e2e.now a.b2e.now a.work.now (are_sized (else_not_sizes_fit_of_refuse_then_not_lengths_fit c))
     (sym (lengths c.before.before) ∙ not-true _ c.if-not-lengths_fit.true-raw) c.refuse-then-not-lengths_fit.ensures
 
 build_fit_requires : tie.Need-build_fit-a-requires
 build_fit_requires c κs =
     let a = c.args in
-    let (s, l) = fit (not_lengths_fit_of_build_fit_arg_4_1 c) in
+    let (s, l) = fit (else_not_lengths_fit_of_build_fit_arg_4_1 c) in
     (checked a.n a.list.now a.v2e.now a.e2e.now a.b2e.now a.work.now s l, c.columns_of-columns.ensures)
 
 clear_requires : tie.Need-clear-requires
@@ -132,7 +132,7 @@ same_length_4 c = search rules
 returns_3 : tie.Need-returns
 returns_3 c =
     let a = c.args in
-    built a.n a.list.now a.v2e.now a.e2e.now a.b2e.now a.work.now (fit (not_lengths_fit_of_slice_known_9_1 c)) c.build_fit-a.ensures c.clear.ensures
+    built a.n a.list.now a.v2e.now a.e2e.now a.b2e.now a.work.now (fit (else_not_lengths_fit_of_slice_known_9_1 c)) c.build_fit-a.ensures c.clear.ensures
 
 pub build_spec : {M : Type 1} → statement M
 build_spec =

@@ -1,6 +1,5 @@
 -- `cases::find` answers a place from `at` on within the text: the measure is what is left of it.
 -- Assumes nothing.
-use Prim.Native.Nat.{◌-◌}
 use native.Mathlib.Omega.{arith}
 use Rattle.cases.proofs.find.Goals as goal
 

@@ -1,6 +1,5 @@
 -- `cases::is_all` is safe and ends: the measure is what is left of the slice.
 -- Assumes nothing.
-use Prim.Native.Nat.{◌-◌}
 use native.Mathlib.Omega.{arith}
 use Rattle.cases.proofs.is_all.Goals as goal
 

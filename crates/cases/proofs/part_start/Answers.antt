@@ -1,6 +1,5 @@
 -- `cases::part_start` answers a place within the numbers: the measure is how many parts are left.
 -- Assumes nothing.
-use Prim.Native.Nat.{◌-◌}
 use native.Mathlib.Omega.{arith}
 use Rattle.cases.proofs.part_start.Goals as goal
 

@@ -1,6 +1,5 @@
 -- `cases::put_bits` is safe and ends: the measure is what is left of the points.
 -- Assumes nothing.
-use Prim.Native.Nat.{◌-◌}
 use native.Mathlib.Omega.{arith}
 use Rattle.cases.proofs.put_bits.Goals as goal
 

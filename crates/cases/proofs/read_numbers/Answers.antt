@@ -1,6 +1,5 @@
 -- `cases::read_numbers` is safe and ends: the measure is what is left of the text.
 -- Assumes nothing.
-use Prim.Native.Nat.{◌-◌}
 use native.Mathlib.Omega.{arith}
 use Rattle.cases.proofs.read_numbers.Goals as goal
 

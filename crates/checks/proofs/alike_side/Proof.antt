@@ -35,8 +35,8 @@ code_at_requires c κs =
 abbrev start_of_code_at : tie.After-code_at invariant_loop decreases_loop → tie.Start invariant_loop decreases_loop
 start_of_code_at c = c.before.before.before.before.before.before.before
 
-abbrev start_of_is_alike : tie.Else-is_alike invariant_loop decreases_loop → tie.Start invariant_loop decreases_loop
-start_of_is_alike c = c.before.before.before.before.before.before
+abbrev start_of_else_is_alike : tie.Else-is_alike invariant_loop decreases_loop → tie.Start invariant_loop decreases_loop
+start_of_else_is_alike c = c.before.before.before.before.before.before
 
 abbrev start_of_loop_p : tie.After-loop-p invariant_loop decreases_loop → tie.Start invariant_loop decreases_loop
 start_of_loop_p c = c.before.before.before.before
@@ -54,7 +54,7 @@ loop_less c = omega arith
 
 loop_again : tie.Need-loop-p-preserved invariant_loop decreases_loop
 loop_again c =
-    (alike_later _ (two (start_of_is_alike c)) c.loop-p.p c.loop-p.invariant.0 (λ x. T_not c.is_alike.result (rw c.if-is_alike.false tt) (c.is_alike.ensures.shows x)), omega arith)
+    (alike_later _ (two (start_of_else_is_alike c)) c.loop-p.p c.loop-p.invariant.0 (λ x. T_not c.is_alike.result (rw c.if-is_alike.false tt) (c.is_alike.ensures.shows x)), omega arith)
 
 returns_2 : tie.Need-returns invariant_loop decreases_loop
 returns_2 c =

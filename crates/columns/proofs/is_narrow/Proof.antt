@@ -70,12 +70,12 @@ shared_slice_read_if2_2 : tie.Need-bounds-table-p invariant_loop decreases_loop
 shared_slice_read_if2_2 c = omega arith
 
 -- states by how far they lie back
-abbrev loop_p_of_e2e_p : tie.Then-e2e-p invariant_loop decreases_loop → tie.At-loop-p invariant_loop decreases_loop
-loop_p_of_e2e_p c = c.before.before.before.before
+abbrev loop_p_of_then_e2e_p : tie.Then-e2e-p invariant_loop decreases_loop → tie.At-loop-p invariant_loop decreases_loop
+loop_p_of_then_e2e_p c = c.before.before.before.before
 
 returns_2 : tie.Need-returns-then-e2e-p invariant_loop decreases_loop
 returns_2 c =
-    let at_turn = (loop_p_of_e2e_p c) in
+    let at_turn = (loop_p_of_then_e2e_p c) in
     let a = at_turn.args in
     differ a.table.now a.e2e.now (λ e. c.if-e2e-p.true (entry a.table.now a.e2e.now e at_turn.loop-p.p (omega arith)))
 

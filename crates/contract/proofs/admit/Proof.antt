@@ -59,23 +59,23 @@ returns_2 c =
     )
 
 -- states by how far they lie back
-abbrev wide_vertices_of_not_is_splittable : tie.Else-not-is_splittable → tie.After-wide-vertices
-wide_vertices_of_not_is_splittable c = c.before.before.before.before
+abbrev wide_vertices_of_else_not_is_splittable : tie.Else-not-is_splittable → tie.After-wide-vertices
+wide_vertices_of_else_not_is_splittable c = c.before.before.before.before
 
-abbrev not_is_splittable_of_refuse_then_is_pinched : tie.After-refuse-then-is_pinched → tie.Else-not-is_splittable
-not_is_splittable_of_refuse_then_is_pinched c = c.before.before.before.before.before.before.before.before
+abbrev else_not_is_splittable_of_refuse_then_is_pinched : tie.After-refuse-then-is_pinched → tie.Else-not-is_splittable
+else_not_is_splittable_of_refuse_then_is_pinched c = c.before.before.before.before.before.before.before.before
 
-abbrev not_is_there_of_refuse_then_is_pinched : tie.After-refuse-then-is_pinched → tie.Else-not-is_there
-not_is_there_of_refuse_then_is_pinched c = (not_is_splittable_of_refuse_then_is_pinched c).before.before
+abbrev else_not_is_there_of_refuse_then_is_pinched : tie.After-refuse-then-is_pinched → tie.Else-not-is_there
+else_not_is_there_of_refuse_then_is_pinched c = (else_not_is_splittable_of_refuse_then_is_pinched c).before.before
 
-abbrev not_is_splittable_of_give : tie.After-give → tie.Else-not-is_splittable
-not_is_splittable_of_give c = c.before.before.before.before.before.before.before.before
+abbrev else_not_is_splittable_of_give : tie.After-give → tie.Else-not-is_splittable
+else_not_is_splittable_of_give c = c.before.before.before.before.before.before.before.before
 
-abbrev not_is_there_of_give : tie.After-give → tie.Else-not-is_there
-not_is_there_of_give c = (not_is_splittable_of_give c).before.before
+abbrev else_not_is_there_of_give : tie.After-give → tie.Else-not-is_there
+else_not_is_there_of_give c = (else_not_is_splittable_of_give c).before.before
 
 entry_of_requires : tie.Need-entry_of-t-requires
-entry_of_requires c κs = (tables (wide_vertices_of_not_is_splittable c), side c)
+entry_of_requires c κs = (tables (wide_vertices_of_else_not_is_splittable c), side c)
 
 edge_of_requires : tie.Need-edge_of-edge-requires
 edge_of_requires c κs = (side c.before, c.entry_of-t.ensures)
@@ -93,7 +93,7 @@ same_length_2 c = search rules
 returns_3 : tie.Need-returns-then-is_pinched
 returns_3 c =
     let a = c.args in (
-      pinched a.n a.list.now a.code (there (not_is_there_of_refuse_then_is_pinched c)) (fit (not_is_splittable_of_refuse_then_is_pinched c)) c.edge_of-edge.ensures c.is_pinched.ensures.0 c.if-is_pinched.true
+      pinched a.n a.list.now a.code (there (else_not_is_there_of_refuse_then_is_pinched c)) (fit (else_not_is_splittable_of_refuse_then_is_pinched c)) c.edge_of-edge.ensures c.is_pinched.ensures.0 c.if-is_pinched.true
           c.refuse-then-is_pinched.ensures,
       c.is_pinched.ensures.1,
     )
@@ -107,7 +107,7 @@ same_length_3 c = search rules
 returns_4 : tie.Need-returns
 returns_4 c =
     let a = c.args in (
-      admitted a.n a.list.now a.code (there (not_is_there_of_give c)) (fit (not_is_splittable_of_give c)) c.edge_of-edge.ensures c.is_pinched.ensures.0 c.requires.accepted
+      admitted a.n a.list.now a.code (there (else_not_is_there_of_give c)) (fit (else_not_is_splittable_of_give c)) c.edge_of-edge.ensures c.is_pinched.ensures.0 c.requires.accepted
           c.entry_of-t.ensures c.if-is_pinched.false c.give.ensures,
       c.is_pinched.ensures.1,
     )

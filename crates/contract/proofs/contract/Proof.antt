@@ -41,26 +41,32 @@ slice_known_1_of_counts_fit c = c.before.before.before.before.before.before.befo
 abbrev start_of_counts_fit : tie.After-counts_fit → tie.Start
 start_of_counts_fit c = (slice_known_1_of_counts_fit c).before
 
-abbrev slice_known_2_1_of_not_counts_fit : tie.Else-not-counts_fit → tie.After-slice_known-2-1
-slice_known_2_1_of_not_counts_fit c = c.before.before.before.before.before.before.before.before.before
+abbrev slice_known_2_1_of_else_not_counts_fit : tie.Else-not-counts_fit → tie.After-slice_known-2-1
+slice_known_2_1_of_else_not_counts_fit c = c.before.before.before.before.before.before.before.before.before
 
-abbrev start_of_not_counts_fit : tie.Else-not-counts_fit → tie.Start
-start_of_not_counts_fit c = (slice_known_2_1_of_not_counts_fit c).before.before
+abbrev start_of_else_not_counts_fit : tie.Else-not-counts_fit → tie.Start
+start_of_else_not_counts_fit c = (slice_known_2_1_of_else_not_counts_fit c).before.before
 
-abbrev slice_known_4_1_of_points_wide : tie.Then-points-wide → tie.After-slice_known-4-1
-slice_known_4_1_of_points_wide c = c.before.before.before.before.before.before.before.before.before
+abbrev slice_known_4_1_of_then_points_wide : tie.Then-points-wide → tie.After-slice_known-4-1
+slice_known_4_1_of_then_points_wide c = c.before.before.before.before.before.before.before.before.before
 
-abbrev start_of_points_wide : tie.Then-points-wide → tie.Start
-start_of_points_wide c = (slice_known_4_1_of_points_wide c).before.before.before.before
+abbrev start_of_then_points_wide : tie.Then-points-wide → tie.Start
+start_of_then_points_wide c = (slice_known_4_1_of_then_points_wide c).before.before.before.before
 
-abbrev not_counts_fit_of_columns_eq0 : tie.Else-columns-eq0 → tie.Else-not-counts_fit
-not_counts_fit_of_columns_eq0 c = c.before.before.before.before
+abbrev slice_known_4_1_of_else_points_wide : tie.Else-points-wide → tie.After-slice_known-4-1
+slice_known_4_1_of_else_points_wide c = c.before.before.before.before.before.before.before.before.before
 
-abbrev slice_known_2_1_of_columns_eq0 : tie.Else-columns-eq0 → tie.After-slice_known-2-1
-slice_known_2_1_of_columns_eq0 c = (not_counts_fit_of_columns_eq0 c).before.before.before.before.before.before.before.before.before
+abbrev start_of_else_points_wide : tie.Else-points-wide → tie.Start
+start_of_else_points_wide c = (slice_known_4_1_of_else_points_wide c).before.before.before.before
 
-abbrev start_of_columns_eq0 : tie.Else-columns-eq0 → tie.Start
-start_of_columns_eq0 c = (slice_known_2_1_of_columns_eq0 c).before.before
+abbrev else_not_counts_fit_of_else_columns_eq0 : tie.Else-columns-eq0 → tie.Else-not-counts_fit
+else_not_counts_fit_of_else_columns_eq0 c = c.before.before.before.before
+
+abbrev slice_known_2_1_of_else_columns_eq0 : tie.Else-columns-eq0 → tie.After-slice_known-2-1
+slice_known_2_1_of_else_columns_eq0 c = (else_not_counts_fit_of_else_columns_eq0 c).before.before.before.before.before.before.before.before.before
+
+abbrev start_of_else_columns_eq0 : tie.Else-columns-eq0 → tie.Start
+start_of_else_columns_eq0 c = (slice_known_2_1_of_else_columns_eq0 c).before.before
 
 abbrev slice_known_3_1_of_refuse : tie.After-refuse → tie.After-slice_known-3-1
 slice_known_3_1_of_refuse c = c.before.before.before.before.before.before.before.before.before
@@ -74,20 +80,20 @@ slice_known_5_1_of_refuse_then_points_wide c = c.before.before.before.before.bef
 abbrev start_of_refuse_then_points_wide : tie.After-refuse-then-points-wide → tie.Start
 start_of_refuse_then_points_wide c = (slice_known_5_1_of_refuse_then_points_wide c).before.before.before.before.before
 
-abbrev not_counts_fit_of_refuse_then_columns_eq0 : tie.After-refuse-then-columns-eq0 → tie.Else-not-counts_fit
-not_counts_fit_of_refuse_then_columns_eq0 c = c.before.before.before.before.before
+abbrev else_not_counts_fit_of_refuse_then_columns_eq0 : tie.After-refuse-then-columns-eq0 → tie.Else-not-counts_fit
+else_not_counts_fit_of_refuse_then_columns_eq0 c = c.before.before.before.before.before
 
 abbrev slice_known_2_1_of_refuse_then_columns_eq0 : tie.After-refuse-then-columns-eq0 → tie.After-slice_known-2-1
-slice_known_2_1_of_refuse_then_columns_eq0 c = (not_counts_fit_of_refuse_then_columns_eq0 c).before.before.before.before.before.before.before.before.before
+slice_known_2_1_of_refuse_then_columns_eq0 c = (else_not_counts_fit_of_refuse_then_columns_eq0 c).before.before.before.before.before.before.before.before.before
 
 abbrev start_of_refuse_then_columns_eq0 : tie.After-refuse-then-columns-eq0 → tie.Start
 start_of_refuse_then_columns_eq0 c = (slice_known_2_1_of_refuse_then_columns_eq0 c).before.before
 
-abbrev columns_eq0_of_contract_fit_arg_7_1 : tie.After-contract_fit-arg-7-1 → tie.Else-columns-eq0
-columns_eq0_of_contract_fit_arg_7_1 c = c.before.before.before.before.before.before.before
+abbrev else_columns_eq0_of_contract_fit_arg_7_1 : tie.After-contract_fit-arg-7-1 → tie.Else-columns-eq0
+else_columns_eq0_of_contract_fit_arg_7_1 c = c.before.before.before.before.before.before.before
 
-abbrev points_wide_of_contract_fit_arg_7_1 : tie.After-contract_fit-arg-7-1 → tie.Else-points-wide
-points_wide_of_contract_fit_arg_7_1 c = (columns_eq0_of_contract_fit_arg_7_1 c).before.before
+abbrev else_points_wide_of_contract_fit_arg_7_1 : tie.After-contract_fit-arg-7-1 → tie.Else-points-wide
+else_points_wide_of_contract_fit_arg_7_1 c = (else_columns_eq0_of_contract_fit_arg_7_1 c).before.before
 
 abbrev b2e_1_of_slice_known_13_1 : tie.After-slice_known-13-1 → tie.After-b2e-1
 b2e_1_of_slice_known_13_1 c = c.before.before.before.before.before.before.before.before.before
@@ -95,17 +101,17 @@ b2e_1_of_slice_known_13_1 c = c.before.before.before.before.before.before.before
 abbrev contract_fit_arg_6_1_of_slice_known_13_1 : tie.After-slice_known-13-1 → tie.After-contract_fit-arg-6-1
 contract_fit_arg_6_1_of_slice_known_13_1 c = (b2e_1_of_slice_known_13_1 c).before.before.before.before.before.before.before.before.before
 
-abbrev columns_eq0_of_slice_known_13_1 : tie.After-slice_known-13-1 → tie.Else-columns-eq0
-columns_eq0_of_slice_known_13_1 c = (contract_fit_arg_6_1_of_slice_known_13_1 c).before.before.before.before.before.before
+abbrev else_columns_eq0_of_slice_known_13_1 : tie.After-slice_known-13-1 → tie.Else-columns-eq0
+else_columns_eq0_of_slice_known_13_1 c = (contract_fit_arg_6_1_of_slice_known_13_1 c).before.before.before.before.before.before
 
-abbrev points_wide_of_slice_known_13_1 : tie.After-slice_known-13-1 → tie.Else-points-wide
-points_wide_of_slice_known_13_1 c = (columns_eq0_of_slice_known_13_1 c).before.before
+abbrev else_points_wide_of_slice_known_13_1 : tie.After-slice_known-13-1 → tie.Else-points-wide
+else_points_wide_of_slice_known_13_1 c = (else_columns_eq0_of_slice_known_13_1 c).before.before
 
-abbrev not_counts_fit_of_slice_known_13_1 : tie.After-slice_known-13-1 → tie.Else-not-counts_fit
-not_counts_fit_of_slice_known_13_1 c = (points_wide_of_slice_known_13_1 c).before.before
+abbrev else_not_counts_fit_of_slice_known_13_1 : tie.After-slice_known-13-1 → tie.Else-not-counts_fit
+else_not_counts_fit_of_slice_known_13_1 c = (else_points_wide_of_slice_known_13_1 c).before.before
 
 abbrev slice_known_2_1_of_slice_known_13_1 : tie.After-slice_known-13-1 → tie.After-slice_known-2-1
-slice_known_2_1_of_slice_known_13_1 c = (not_counts_fit_of_slice_known_13_1 c).before.before.before.before.before.before.before.before.before
+slice_known_2_1_of_slice_known_13_1 c = (else_not_counts_fit_of_slice_known_13_1 c).before.before.before.before.before.before.before.before.before
 
 abbrev start_of_slice_known_13_1 : tie.After-slice_known-13-1 → tie.Start
 start_of_slice_known_13_1 c = (slice_known_2_1_of_slice_known_13_1 c).before.before
@@ -115,28 +121,28 @@ sizes : (c : tie.After-counts_fit) → edit_sizes (lends (start_of_counts_fit c)
 unfolding edit_sizes
 sizes c = sym c.counts_fit.ensures
 
-sized : (c : tie.Else-not-counts_fit) → edit_sizes (lends (start_of_not_counts_fit c)) ≡ true
+sized : (c : tie.Else-not-counts_fit) → edit_sizes (lends (start_of_else_not_counts_fit c)) ≡ true
 sized c = sizes c.before ∙ not-false _ c.if-not-counts_fit.false-raw
 
-within : (c : tie.Else-not-counts_fit) → let w = lends (start_of_not_counts_fit c) in (w.n ≤ max_vertex) × (w.m ≤ max_element)
+within : (c : tie.Else-not-counts_fit) → let w = lends (start_of_else_not_counts_fit c) in (w.n ≤ max_vertex) × (w.m ≤ max_element)
 unfolding edit_sizes
-within c = let w = lends (start_of_not_counts_fit c) in counts_say w.n w.m (sized c)
+within c = let w = lends (start_of_else_not_counts_fit c) in counts_say w.n w.m (sized c)
 
-few : (c : tie.Then-points-wide) → has_points (lends (start_of_points_wide c)).n (points (start_of_points_wide c)) ≡ false
+few : (c : tie.Then-points-wide) → has_points (lends (start_of_then_points_wide c)).n (points (start_of_then_points_wide c)) ≡ false
 unfolding has_points
-few c = lt-leb (3 * (lends (start_of_points_wide c)).n) (length (points (start_of_points_wide c))) (omega (arith, c.if-points-wide.true, c.wide.ensures))
+few c = lt-leb (3 * (lends (start_of_then_points_wide c)).n) (length (points (start_of_then_points_wide c))) (omega (arith, c.if-points-wide.true, c.wide.ensures))
 
-many : (c : tie.Else-points-wide) → has_points (lends (start_of_points_wide c)).n (points (start_of_points_wide c)) ≡ true
+many : (c : tie.Else-points-wide) → has_points (lends (start_of_else_points_wide c)).n (points (start_of_else_points_wide c)) ≡ true
 unfolding has_points
-many c = le-leb (3 * (lends (start_of_points_wide c)).n) (length (points (start_of_points_wide c))) (omega (arith, c.if-points-wide.false, c.wide.ensures))
+many c = le-leb (3 * (lends (start_of_else_points_wide c)).n) (length (points (start_of_else_points_wide c))) (omega (arith, c.if-points-wide.false, c.wide.ensures))
 
-enough : (c : tie.Else-points-wide) → 3 * (lends (start_of_points_wide c)).n ≤ length (points (start_of_points_wide c))
+enough : (c : tie.Else-points-wide) → 3 * (lends (start_of_else_points_wide c)).n ≤ length (points (start_of_else_points_wide c))
 enough c = omega (arith, c.if-points-wide.false, c.wide.ensures)
 
-ready : (c : tie.Else-columns-eq0) → Ready (lends (start_of_columns_eq0 c)) c.columns_held-columns.result
+ready : (c : tie.Else-columns-eq0) → Ready (lends (start_of_else_columns_eq0 c)) c.columns_held-columns.result
 ready c =
     record {
-      sizes = within (not_counts_fit_of_columns_eq0 c);
+      sizes = within (else_not_counts_fit_of_else_columns_eq0 c);
       long = found_long _ _ _ _ _ _ c.columns_held-columns.ensures c.if-columns-eq0.false;
     }
 
@@ -185,10 +191,10 @@ returns_3 : tie.Need-returns-then-columns-eq0
 unfolding contract_points
 returns_3 c =
     let none = found_short _ _ _ _ _ _ (sym c.columns_held-columns.ensures ∙ c.if-columns-eq0.true) in
-    refused_2 (lends (start_of_refuse_then_columns_eq0 c)) (points (start_of_refuse_then_columns_eq0 c)) (edit (start_of_refuse_then_columns_eq0 c)) (new_points (start_of_refuse_then_columns_eq0 c)) (sized (not_counts_fit_of_refuse_then_columns_eq0 c)) (with_points (lends (start_of_refuse_then_columns_eq0 c)) (many c.before.before.before) none) c.refuse-then-columns-eq0.ensures
+    refused_2 (lends (start_of_refuse_then_columns_eq0 c)) (points (start_of_refuse_then_columns_eq0 c)) (edit (start_of_refuse_then_columns_eq0 c)) (new_points (start_of_refuse_then_columns_eq0 c)) (sized (else_not_counts_fit_of_refuse_then_columns_eq0 c)) (with_points (lends (start_of_refuse_then_columns_eq0 c)) (many c.before.before.before) none) c.refuse-then-columns-eq0.ensures
 
 contract_fit_requires : tie.Need-contract_fit-a-requires
-contract_fit_requires c κs = (ready (columns_eq0_of_contract_fit_arg_7_1 c), enough (points_wide_of_contract_fit_arg_7_1 c))
+contract_fit_requires c κs = (ready (else_columns_eq0_of_contract_fit_arg_7_1 c), enough (else_points_wide_of_contract_fit_arg_7_1 c))
 
 clear_requires : tie.Need-clear-requires
 clear_requires c κs = search rules
@@ -214,7 +220,7 @@ same_length_7 c = search rules
 returns_4 : tie.Need-returns
 unfolding contract_points
 returns_4 c =
-    finished (lends (start_of_slice_known_13_1 c)) (points (start_of_slice_known_13_1 c)) (edit (start_of_slice_known_13_1 c)) (new_points (start_of_slice_known_13_1 c)) (sized (not_counts_fit_of_slice_known_13_1 c), with_points (lends (start_of_slice_known_13_1 c)) (many (points_wide_of_slice_known_13_1 c)) (ready (columns_eq0_of_slice_known_13_1 c)).long.passed)
+    finished (lends (start_of_slice_known_13_1 c)) (points (start_of_slice_known_13_1 c)) (edit (start_of_slice_known_13_1 c)) (new_points (start_of_slice_known_13_1 c)) (sized (else_not_counts_fit_of_slice_known_13_1 c), with_points (lends (start_of_slice_known_13_1 c)) (many (else_points_wide_of_slice_known_13_1 c)) (ready (else_columns_eq0_of_slice_known_13_1 c)).long.passed)
     c.contract_fit-a.ensures c.clear.ensures
 
 pub contract_spec : {M : Type 1} → statement M

@@ -96,14 +96,14 @@ returns c =
     coded.code_at.ensures
 
 -- states by how far they lie back
-abbrev loop_a_of_i_ne0 : tie.Else-i-ne0 invariant_loop decreases_loop → tie.In-loop-a invariant_loop decreases_loop
-loop_a_of_i_ne0 c = c.before.before.before.before
+abbrev loop_a_of_else_i_ne0 : tie.Else-i-ne0 invariant_loop decreases_loop → tie.In-loop-a invariant_loop decreases_loop
+loop_a_of_else_i_ne0 c = c.before.before.before.before
 
 abbrev loop_a_of_first_repeated_repeated : tie.After-first_repeated-repeated invariant_loop decreases_loop → tie.In-loop-a invariant_loop decreases_loop
 loop_a_of_first_repeated_repeated c = c.before.before.before.before.before
 
 first_repeated_requires : tie.Need-first_repeated-repeated-requires invariant_loop decreases_loop
-first_repeated_requires c κs = let i = (loop_a_of_i_ne0 c) in omega (arith, fits i, bound i)
+first_repeated_requires c κs = let i = (loop_a_of_else_i_ne0 c) in omega (arith, fits i, bound i)
 
 loop_less : tie.Need-loop-a-smaller invariant_loop decreases_loop
 loop_less c = omega (arith, fits (loop_a_of_first_repeated_repeated c))

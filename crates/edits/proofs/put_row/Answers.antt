@@ -7,4 +7,4 @@ use Rattle.edits.proofs.put_row.Goals as goal
 pub returns : goal.returns
 returns c =
     let four : length c.args.row ≡ 4 = search rules in
-    row_put c.args.f c.args.row c.args.list.now four c.requires.0 c.requires.1 c.wide-a.ensures c.put_four.ensures
+    row_put c.args.f c.args.row c.args.list.now four c.requires.0 c.requires.1 c.wide-a.ensures c.copy.ensures

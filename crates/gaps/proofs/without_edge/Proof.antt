@@ -31,17 +31,17 @@ same_length : tie.Need-shape_of-list-then-is_border
 same_length c = search rules
 
 -- states by how far they lie back
-abbrev is_border_of_slice_known_then_is_border_1 : tie.After-slice_known-then-is_border-1 → tie.Then-is_border
-is_border_of_slice_known_then_is_border_1 c = c.before.before.before.before.before
+abbrev then_is_border_of_slice_known_then_is_border_1 : tie.After-slice_known-then-is_border-1 → tie.Then-is_border
+then_is_border_of_slice_known_then_is_border_1 c = c.before.before.before.before.before
 
-abbrev is_border_of_slice_known_2_1 : tie.After-slice_known-2-1 → tie.Else-is_border
-is_border_of_slice_known_2_1 c = c.before.before.before.before.before.before
+abbrev else_is_border_of_slice_known_2_1 : tie.After-slice_known-2-1 → tie.Else-is_border
+else_is_border_of_slice_known_2_1 c = c.before.before.before.before.before.before
 
 returns : tie.Need-returns-then-is_border
 returns c =
     let (long, front) = c.without_row.ensures in
     let L = take (4 * c.args.m) c.args.list.now in
-    border_goes c.requires (border (is_border_of_slice_known_then_is_border_1 c)) c.without_row.new.list
+    border_goes c.requires (border (then_is_border_of_slice_known_then_is_border_1 c)) c.without_row.new.list
     (long, front ∙ ap (λ (f : ℕ). without_row f L) c.element_of.ensures)
 
 element_of_requires_2 : tie.Need-element_of-requires-2
@@ -67,7 +67,7 @@ returns_2 c =
     let f = c.element_of-3.ensures in
     let (long, front) = c.without_both.ensures in
     let L = take (4 * c.args.m) c.args.list.now in
-    inner_goes c.requires (inner (is_border_of_slice_known_2_1 c)) c.without_both.new.list (long, front ∙ (λ i. without_both (e i) (f i) L))
+    inner_goes c.requires (inner (else_is_border_of_slice_known_2_1 c)) c.without_both.new.list (long, front ∙ (λ i. without_both (e i) (f i) L))
 
 pub without_edge_spec : {M : Type 1} → statement M
 without_edge_spec =

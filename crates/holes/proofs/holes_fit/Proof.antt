@@ -38,11 +38,11 @@ slice_known_2_1_of_refuse_at c = c.before.before.before.before.before.before.bef
 abbrev start_of_refuse_at : tie.After-refuse_at → tie.Start
 start_of_refuse_at c = (slice_known_2_1_of_refuse_at c).before.before.before.before.before.before
 
-abbrev slice_known_1_of_not_is_room : tie.Else-not-is_room → tie.After-slice_known-1
-slice_known_1_of_not_is_room c = c.before.before.before.before.before.before.before.before.before
+abbrev slice_known_1_of_else_not_is_room : tie.Else-not-is_room → tie.After-slice_known-1
+slice_known_1_of_else_not_is_room c = c.before.before.before.before.before.before.before.before.before
 
-abbrev start_of_not_is_room : tie.Else-not-is_room → tie.Start
-start_of_not_is_room c = (slice_known_1_of_not_is_room c).before.before.before.before.before
+abbrev start_of_else_not_is_room : tie.Else-not-is_room → tie.Start
+start_of_else_not_is_room c = (slice_known_1_of_else_not_is_room c).before.before.before.before.before
 
 abbrev is_room_of_write_arg_2_1 : tie.After-write-arg-2-1 → tie.After-is_room
 is_room_of_write_arg_2_1 c = c.before.before.before.before
@@ -53,11 +53,11 @@ shared_slice_known_4_1_of_write_arg_2_1 c = (is_room_of_write_arg_2_1 c).before.
 abbrev start_of_write_arg_2_1 : tie.After-write-arg-2-1 → tie.Start
 start_of_write_arg_2_1 c = (shared_slice_known_4_1_of_write_arg_2_1 c).before.before.before.before
 
-abbrev not_is_room_of_give : tie.After-give → tie.Else-not-is_room
-not_is_room_of_give c = c.before.before.before.before.before.before.before.before.before
+abbrev else_not_is_room_of_give : tie.After-give → tie.Else-not-is_room
+else_not_is_room_of_give c = c.before.before.before.before.before.before.before.before.before
 
 abbrev is_room_of_give : tie.After-give → tie.After-is_room
-is_room_of_give c = (not_is_room_of_give c).before
+is_room_of_give c = (else_not_is_room_of_give c).before
 
 abbrev shared_slice_known_4_1_of_give : tie.After-give → tie.After-shared_slice_known-4-1
 shared_slice_known_4_1_of_give c = (is_room_of_give c).before.before.before.before.before.before.before.before.before
@@ -110,7 +110,7 @@ wide_requires : tie.Need-wide-requires
 wide_requires c κs = search rules
 
 -- both outputs have room
-enough : (c : tie.Else-not-is_room) → room (mesh_of (start_of_not_is_room c)) c.args.hole.now c.args.lengths.now ≡ true
+enough : (c : tie.Else-not-is_room) → room (mesh_of (start_of_else_not_is_room c)) c.args.hole.now c.args.lengths.now ≡ true
 enough c = sym c.is_room.ensures ∙ not-false _ c.if-not-is_room.false-raw
 
 write_requires : tie.Need-write-requires
@@ -136,7 +136,7 @@ returns_3 : tie.Need-returns
 returns_3 c =
     let (hole, lengths) = c.write.ensures in
     let w = c.wide.ensures in
-    let some_room = enough (not_is_room_of_give c) in (
+    let some_room = enough (else_not_is_room_of_give c) in (
       answers (mesh_of (start_of_give c)) _ _ _ _ (found (is_room_of_give c)) some_room c.give.ensures hole (rw w at lengths),
       c.number_holes-counted.ensures.1,
     )

@@ -73,8 +73,11 @@ loop_work_of_slice_known_in_loop_work_2_1_unread c = c.before.before.before.befo
 abbrev loop_work_of_slice_known_in_loop_work_2_1 : tie.After-slice_known-in-loop-work-2-1 invariant_loop decreases_loop → tie.At-loop-work invariant_loop decreases_loop
 loop_work_of_slice_known_in_loop_work_2_1 c = c.before.before.before.before.before
 
-abbrev loop_work_of_x_b : tie.Then-x-b invariant_loop decreases_loop → tie.At-loop-work invariant_loop decreases_loop
-loop_work_of_x_b c = c.before.before.before.before
+abbrev loop_work_of_then_x_b : tie.Then-x-b invariant_loop decreases_loop → tie.At-loop-work invariant_loop decreases_loop
+loop_work_of_then_x_b c = c.before.before.before.before
+
+abbrev loop_work_of_else_x_b : tie.Else-x-b invariant_loop decreases_loop → tie.At-loop-work invariant_loop decreases_loop
+loop_work_of_else_x_b c = c.before.before.before.before
 
 sub_p : tie.Need-overflow_sub-p invariant_loop decreases_loop
 sub_p c = omega (arith, c.wide-p.ensures, inside (loop_work_of_wide_p c))
@@ -111,7 +114,7 @@ loop_less : tie.Need-loop-work-smaller invariant_loop decreases_loop
 loop_less c = omega (arith, shorter c)
 
 same_length : tie.Need-shape_of-work-then-x-b invariant_loop decreases_loop
-same_length c = long (loop_work_of_x_b c)
+same_length c = long (loop_work_of_then_x_b c)
 
 returns : tie.Need-returns-then-x-b invariant_loop decreases_loop
 returns c M size o =
@@ -119,7 +122,7 @@ returns c M size o =
     lost_there M _ _ _ o _ _ _ w (is_marked M _ _ _ o _ _ _ w size (place c.before.before.before) c.loop-work-test.false) c.if-x-b.true
 
 same_length_2 : tie.Need-shape_of-work invariant_loop decreases_loop
-same_length_2 c = long (loop_work_of_x_b c)
+same_length_2 c = long (loop_work_of_else_x_b c)
 
 returns_2 : tie.Need-returns invariant_loop decreases_loop
 returns_2 c M size o =

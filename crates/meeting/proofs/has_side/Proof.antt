@@ -41,6 +41,12 @@ its_side c =
 abbrev side_count_k_of_is_joined : tie.After-is_joined invariant_loop decreases_loop → tie.After-side_count-k invariant_loop decreases_loop
 side_count_k_of_is_joined c = c.before.before.before.before
 
+abbrev side_count_k_of_then_is_joined : tie.Then-is_joined invariant_loop decreases_loop → tie.After-side_count-k invariant_loop decreases_loop
+side_count_k_of_then_is_joined c = c.before.before.before.before.before
+
+abbrev side_count_k_of_else_is_joined : tie.Else-is_joined invariant_loop decreases_loop → tie.After-side_count-k invariant_loop decreases_loop
+side_count_k_of_else_is_joined c = c.before.before.before.before.before
+
 -- what the test said of it
 said : (c : tie.After-is_joined invariant_loop decreases_loop) →
     let l = c.loop-j in c.is_joined.result ≡ is_it (side_count_k_of_is_joined c) (l.j + 1)
@@ -73,7 +79,7 @@ returns : tie.Need-returns-then-is_joined invariant_loop decreases_loop
 returns c =
     let l = c.loop-j in
     let h = c.loop-j-test.true in
-    found_some (is_it (side_count_k_of_is_joined c)) (sides c.args.list.now c.args.g) l.j l.invariant.0 (omega (arith, counted (side_count_k_of_is_joined c)))
+    found_some (is_it (side_count_k_of_then_is_joined c)) (sides c.args.list.now c.args.g) l.j l.invariant.0 (omega (arith, counted (side_count_k_of_then_is_joined c)))
     (sym (said c.before) ∙ c.if-is_joined.true)
 
 loop_less : tie.Need-loop-j-smaller invariant_loop decreases_loop
@@ -83,7 +89,7 @@ loop_again : tie.Need-loop-j-preserved invariant_loop decreases_loop
 loop_again c =
     let l = c.loop-j in
     let h = c.loop-j-test.true in
-    (nobody_more (is_it (side_count_k_of_is_joined c)) l.j l.invariant.0 (sym (said c.before) ∙ c.if-is_joined.false), omega arith)
+    (nobody_more (is_it (side_count_k_of_else_is_joined c)) l.j l.invariant.0 (sym (said c.before) ∙ c.if-is_joined.false), omega arith)
 
 returns_2 : tie.Need-returns invariant_loop decreases_loop
 returns_2 c =

@@ -55,16 +55,19 @@ corner_requires : tie.Need-corner-requires invariant_loop decreases_loop
 corner_requires c κs = search rules
 
 -- states by how far they lie back
-abbrev side_count_k_of_corner_v : tie.Then-corner-v invariant_loop decreases_loop → tie.After-side_count-k invariant_loop decreases_loop
-side_count_k_of_corner_v c = c.before.before.before.before
+abbrev side_count_k_of_then_corner_v : tie.Then-corner-v invariant_loop decreases_loop → tie.After-side_count-k invariant_loop decreases_loop
+side_count_k_of_then_corner_v c = c.before.before.before.before
+
+abbrev side_count_k_of_else_corner_v : tie.Else-corner-v invariant_loop decreases_loop → tie.After-side_count-k invariant_loop decreases_loop
+side_count_k_of_else_corner_v c = c.before.before.before.before
 
 returns : tie.Need-returns-then-corner-v invariant_loop decreases_loop
 unfolding is_corner
 returns c =
     let h = c.loop-i-test.true in
     let l = c.loop-i in
-    found_some (is_it (side_count_k_of_corner_v c)) (sides c.args.list.now c.args.f) l.i l.invariant.0 (omega (arith, counted (side_count_k_of_corner_v c)))
-    (true_of (is_it (side_count_k_of_corner_v c) (l.i + 1)) ((means_eq _ _).shows (sym (at_hand c.before) ∙ c.if-corner-v.true)))
+    found_some (is_it (side_count_k_of_then_corner_v c)) (sides c.args.list.now c.args.f) l.i l.invariant.0 (omega (arith, counted (side_count_k_of_then_corner_v c)))
+    (true_of (is_it (side_count_k_of_then_corner_v c) (l.i + 1)) ((means_eq _ _).shows (sym (at_hand c.before) ∙ c.if-corner-v.true)))
 
 loop_less : tie.Need-loop-i-smaller invariant_loop decreases_loop
 loop_less c = let h = c.loop-i-test.true in omega arith
@@ -72,8 +75,8 @@ loop_less c = let h = c.loop-i-test.true in omega arith
 loop_again : tie.Need-loop-i-preserved invariant_loop decreases_loop
 loop_again c =
     let h = c.loop-i-test.true in (
-      nobody_more (is_it (side_count_k_of_corner_v c)) c.loop-i.i c.loop-i.invariant.0
-          (false_of (is_it (side_count_k_of_corner_v c) (c.loop-i.i + 1)) ((means_not (means_eq _ _)).shows (λ z. c.if-corner-v.false (at_hand c.before ∙ z)))),
+      nobody_more (is_it (side_count_k_of_else_corner_v c)) c.loop-i.i c.loop-i.invariant.0
+          (false_of (is_it (side_count_k_of_else_corner_v c) (c.loop-i.i + 1)) ((means_not (means_eq _ _)).shows (λ z. c.if-corner-v.false (at_hand c.before ∙ z)))),
       omega arith,
     )
 

@@ -41,6 +41,12 @@ its_side c =
 abbrev side_count_k_of_has_side : tie.After-has_side invariant_loop decreases_loop → tie.After-side_count-k invariant_loop decreases_loop
 side_count_k_of_has_side c = c.before.before.before.before
 
+abbrev side_count_k_of_then_has_side : tie.Then-has_side invariant_loop decreases_loop → tie.After-side_count-k invariant_loop decreases_loop
+side_count_k_of_then_has_side c = c.before.before.before.before.before
+
+abbrev side_count_k_of_else_has_side : tie.Else-has_side invariant_loop decreases_loop → tie.After-side_count-k invariant_loop decreases_loop
+side_count_k_of_else_has_side c = c.before.before.before.before.before
+
 -- what the test said of it
 said : (c : tie.After-has_side invariant_loop decreases_loop) →
     let l = c.loop-i in c.has_side.result ≡ is_it (side_count_k_of_has_side c) (l.i + 1)
@@ -74,7 +80,7 @@ unfolding share_side
 returns c =
     let l = c.loop-i in
     let h = c.loop-i-test.true in
-    found_some (is_it (side_count_k_of_has_side c)) (sides c.args.list.now c.args.f) l.i l.invariant.0 (omega (arith, counted (side_count_k_of_has_side c)))
+    found_some (is_it (side_count_k_of_then_has_side c)) (sides c.args.list.now c.args.f) l.i l.invariant.0 (omega (arith, counted (side_count_k_of_then_has_side c)))
     (sym (said c.before) ∙ c.if-has_side.true)
 
 loop_less : tie.Need-loop-i-smaller invariant_loop decreases_loop
@@ -84,7 +90,7 @@ loop_again : tie.Need-loop-i-preserved invariant_loop decreases_loop
 loop_again c =
     let l = c.loop-i in
     let h = c.loop-i-test.true in
-    (nobody_more (is_it (side_count_k_of_has_side c)) l.i l.invariant.0 (sym (said c.before) ∙ c.if-has_side.false), omega arith)
+    (nobody_more (is_it (side_count_k_of_else_has_side c)) l.i l.invariant.0 (sym (said c.before) ∙ c.if-has_side.false), omega arith)
 
 returns_2 : tie.Need-returns invariant_loop decreases_loop
 unfolding share_side

@@ -33,6 +33,12 @@ few_sides c = let a = c.args in omega (arith, counted c, few a.list.now a.f)
 abbrev side_count_k_of_is_corner : tie.After-is_corner invariant_loop decreases_loop → tie.After-side_count-k invariant_loop decreases_loop
 side_count_k_of_is_corner c = c.before.before.before.before
 
+abbrev side_count_k_of_then_is_corner : tie.Then-is_corner invariant_loop decreases_loop → tie.After-side_count-k invariant_loop decreases_loop
+side_count_k_of_then_is_corner c = c.before.before.before.before.before
+
+abbrev side_count_k_of_else_is_corner : tie.Else-is_corner invariant_loop decreases_loop → tie.After-side_count-k invariant_loop decreases_loop
+side_count_k_of_else_is_corner c = c.before.before.before.before.before
+
 -- what the test said of corner i + 1
 said : (c : tie.After-is_corner invariant_loop decreases_loop) →
     let l = c.loop-i in c.is_corner.result ≡ is_it (side_count_k_of_is_corner c) l.i
@@ -66,7 +72,7 @@ add_shared : tie.Need-overflow_add-shared invariant_loop decreases_loop
 add_shared c =
     let l = c.loop-i in
     let h = c.loop-i-test.true in
-    omega (arith, l.invariant.0, count_bound (is_it (side_count_k_of_is_corner c)) l.i, few_sides (side_count_k_of_is_corner c))
+    omega (arith, l.invariant.0, count_bound (is_it (side_count_k_of_then_is_corner c)) l.i, few_sides (side_count_k_of_then_is_corner c))
 
 loop_less : tie.Need-loop-i-smaller-then-is_corner invariant_loop decreases_loop
 loop_less c = let h = c.loop-i-test.true in omega arith
@@ -76,8 +82,8 @@ loop_again c =
     let l = c.loop-i in
     let h = c.loop-i-test.true in
     let e : suc l.i ≡ l.i + 1 = omega arith in
-    let more = count_pass (is_it (side_count_k_of_is_corner c)) l.i (rw (sym (said c.before) ∙ c.if-is_corner.true) tt) in
-    (omega (arith, l.invariant.0, ap (count (is_it (side_count_k_of_is_corner c))) e), omega arith)
+    let more = count_pass (is_it (side_count_k_of_then_is_corner c)) l.i (rw (sym (said c.before) ∙ c.if-is_corner.true) tt) in
+    (omega (arith, l.invariant.0, ap (count (is_it (side_count_k_of_then_is_corner c))) e), omega arith)
 
 loop_less_2 : tie.Need-loop-i-smaller invariant_loop decreases_loop
 loop_less_2 c = let h = c.loop-i-test.true in omega arith
@@ -87,8 +93,8 @@ loop_again_2 c =
     let l = c.loop-i in
     let h = c.loop-i-test.true in
     let e : suc l.i ≡ l.i + 1 = omega arith in
-    let same = count_fail (is_it (side_count_k_of_is_corner c)) l.i (rw (sym (said c.before) ∙ c.if-is_corner.false) tt) in
-    (omega (arith, l.invariant.0, ap (count (is_it (side_count_k_of_is_corner c))) e), omega arith)
+    let same = count_fail (is_it (side_count_k_of_else_is_corner c)) l.i (rw (sym (said c.before) ∙ c.if-is_corner.false) tt) in
+    (omega (arith, l.invariant.0, ap (count (is_it (side_count_k_of_else_is_corner c))) e), omega arith)
 
 returns : tie.Need-returns invariant_loop decreases_loop
 unfolding shared_corners

@@ -49,11 +49,11 @@ bad_text_requires_2 c κs = search rules
 abbrev struct_known_2_1_of_bad_text_then_not_vertices : tie.After-bad_text-then-not-vertices → tie.After-struct_known-2-1
 struct_known_2_1_of_bad_text_then_not_vertices c = c.before.before.before.before
 
-abbrev not_vertices_of_end_text : tie.Else-end-text → tie.Else-not-vertices
-not_vertices_of_end_text c = c.before.before.before.before.before
+abbrev else_not_vertices_of_else_end_text : tie.Else-end-text → tie.Else-not-vertices
+else_not_vertices_of_else_end_text c = c.before.before.before.before.before
 
-abbrev struct_known_2_1_of_end_text : tie.Else-end-text → tie.After-struct_known-2-1
-struct_known_2_1_of_end_text c = (not_vertices_of_end_text c).before.before.before
+abbrev struct_known_2_1_of_else_end_text : tie.Else-end-text → tie.After-struct_known-2-1
+struct_known_2_1_of_else_end_text c = (else_not_vertices_of_else_end_text c).before.before.before
 
 returns_2 : tie.Need-returns-then-not-vertices
 returns_2 c =
@@ -88,11 +88,11 @@ returns_5 c =
     judged_form
     (record {
       form = text_ends (past_faces c.before.before) c.item_from-end.ensures c.if-end-text.false;
-      n = (h.n (good_head_lem (struct_known_2_1_of_end_text c))).0;
-      m = h.m (good_head_lem (struct_known_2_1_of_end_text c));
+      n = (h.n (good_head_lem (struct_known_2_1_of_else_end_text c))).0;
+      m = h.m (good_head_lem (struct_known_2_1_of_else_end_text c));
       unfit = c.pass_faces-faces.ensures.unfit (not-false _ c.if-not-faces.false);
-      inside = (past_vertices (not_vertices_of_end_text c)).inside;
-      left = (past_vertices (not_vertices_of_end_text c)).left;
+      inside = (past_vertices (else_not_vertices_of_else_end_text c)).inside;
+      left = (past_vertices (else_not_vertices_of_else_end_text c)).left;
     })
 
 pub judge_spec : {M : Type 1} → statement M

@@ -33,11 +33,11 @@ start_of_refuse_at_then_list_wide c = c.before.before.before.before.before.befor
 abbrev start_of_wide_2 : tie.After-wide-2 → tie.Start
 start_of_wide_2 c = c.before.before.before.before.before.before.before.before.before
 
-abbrev m_gt_MAX_ELEMENT_of_give_two : tie.After-give_two → tie.Else-m-gt-MAX_ELEMENT
-m_gt_MAX_ELEMENT_of_give_two c = c.before.before.before.before.before.before.before.before.before
+abbrev else_m_gt_MAX_ELEMENT_of_give_two : tie.After-give_two → tie.Else-m-gt-MAX_ELEMENT
+else_m_gt_MAX_ELEMENT_of_give_two c = c.before.before.before.before.before.before.before.before.before
 
 abbrev start_of_give_two : tie.After-give_two → tie.Start
-start_of_give_two c = (m_gt_MAX_ELEMENT_of_give_two c).before.before.before.before
+start_of_give_two c = (else_m_gt_MAX_ELEMENT_of_give_two c).before.before.before.before
 
 returns : tie.Need-returns-then-n-gt-MAX_VERTEX
 returns c =

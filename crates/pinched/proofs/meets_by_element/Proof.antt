@@ -52,8 +52,11 @@ counts_requires c κs =
     omega (arith, other_fits able.fit (on c.before) c.other_corner.ensures, able.room)
 
 -- states by how far they lie back
-abbrev side_count_k_of_counts : tie.Then-counts invariant_loop decreases_loop → tie.After-side_count-k invariant_loop decreases_loop
-side_count_k_of_counts c = c.before.before.before.before.before
+abbrev side_count_k_of_then_counts : tie.Then-counts invariant_loop decreases_loop → tie.After-side_count-k invariant_loop decreases_loop
+side_count_k_of_then_counts c = c.before.before.before.before.before
+
+abbrev side_count_k_of_else_counts : tie.Else-counts invariant_loop decreases_loop → tie.After-side_count-k invariant_loop decreases_loop
+side_count_k_of_else_counts c = c.before.before.before.before.before
 
 abbrev side_count_k_of_counts_2 : tie.After-counts-2 invariant_loop decreases_loop → tie.After-side_count-k invariant_loop decreases_loop
 side_count_k_of_counts_2 c = c.before.before.before.before
@@ -62,11 +65,11 @@ returns : tie.Need-returns-then-counts invariant_loop decreases_loop
 returns c =
     let h = c.loop-i-test.true in
     let met = met_next c.requires.0.fit (on c.before.before.before) c.other_corner.ensures (passed c.counts.ensures c.if-counts.true) in
-    means_true (met_in met (omega arith) (omega (arith, (told (side_count_k_of_counts c)).to)))
+    means_true (met_in met (omega arith) (omega (arith, (told (side_count_k_of_then_counts c)).to)))
 
 add_i : tie.Need-overflow_add-i-in-loop-i invariant_loop decreases_loop
 add_i c =
-    let h = c.loop-i-test.true in omega (arith, (told (side_count_k_of_counts c)).to)
+    let h = c.loop-i-test.true in omega (arith, (told (side_count_k_of_else_counts c)).to)
 
 loop_less : tie.Need-loop-i-smaller invariant_loop decreases_loop
 loop_less c = let h = c.loop-i-test.true in omega arith

@@ -1,6 +1,6 @@
 -- `print::put_number` meets its contract, by recursion on x: the digits of x / 10, then the last one.
 -- Assumes nothing.
-use Rattle.std.specs.Prelude.{◌≡◌, ℕ, ◌+◌, ◌/◌, ◌%◌, ◌≤◌, ◌<◌, [], ◌∷◌, length}
+use Rattle.std.specs.Prelude.{◌≡◌, ℕ, ◌+◌, ◌/◌, ◌%◌, ◌≤◌, [], ◌∷◌, length}
 use Rattle.std.proofs.Common.{ap, arith, length-append}
 use Rattle.print.specs.Lines.{digits}
 use Rattle.print.specs.LineLaws.{digits_one, digits_more, written_next}
@@ -12,7 +12,7 @@ length_more x h = rw (digits_more x h, length-append)
 pub put_digit-requires : goal.put_digit-requires
 put_digit-requires t c =
     let one = ap length (digits_one c.args.x c.if-x-lt10.true) in
-    record { p_in_bounds = omega (arith, one); d_bound = omega arith; }
+    record { p_in_bounds = omega (arith, one); d_bound = omega arith }
 
 pub returns-then-x-lt10 : goal.returns-then-x-lt10
 returns-then-x-lt10 t c = rw (digits_one c.args.x c.if-x-lt10.true) c.put_digit.ensures

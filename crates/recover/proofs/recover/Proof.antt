@@ -59,8 +59,8 @@ refuse_requires_2 : tie.Need-refuse-requires-then-not-lengths_fit
 refuse_requires_2 c κs = search rules
 
 -- states by how far they lie back
-abbrev not_sizes_fit_of_refuse_then_not_lengths_fit : tie.After-refuse-then-not-lengths_fit → tie.Else-not-sizes_fit
-not_sizes_fit_of_refuse_then_not_lengths_fit c = c.before.before.before.before
+abbrev else_not_sizes_fit_of_refuse_then_not_lengths_fit : tie.After-refuse-then-not-lengths_fit → tie.Else-not-sizes_fit
+else_not_sizes_fit_of_refuse_then_not_lengths_fit c = c.before.before.before.before
 
 abbrev sizes_fit_of_recover_fit_arg_2_1 : tie.After-recover_fit-arg-2-1 → tie.After-sizes_fit
 sizes_fit_of_recover_fit_arg_2_1 c = c.before.before.before.before.before.before
@@ -68,15 +68,15 @@ sizes_fit_of_recover_fit_arg_2_1 c = c.before.before.before.before.before.before
 abbrev recover_fit_arg_2_1_of_slice_known_5_1 : tie.After-slice_known-5-1 → tie.After-recover_fit-arg-2-1
 recover_fit_arg_2_1_of_slice_known_5_1 c = c.before.before.before.before.before.before.before.before.before
 
-abbrev not_lengths_fit_of_slice_known_5_1 : tie.After-slice_known-5-1 → tie.Else-not-lengths_fit
-not_lengths_fit_of_slice_known_5_1 c = (recover_fit_arg_2_1_of_slice_known_5_1 c).before.before
+abbrev else_not_lengths_fit_of_slice_known_5_1 : tie.After-slice_known-5-1 → tie.Else-not-lengths_fit
+else_not_lengths_fit_of_slice_known_5_1 c = (recover_fit_arg_2_1_of_slice_known_5_1 c).before.before
 
 abbrev sizes_fit_of_slice_known_5_1 : tie.After-slice_known-5-1 → tie.After-sizes_fit
-sizes_fit_of_slice_known_5_1 c = (not_lengths_fit_of_slice_known_5_1 c).before.before.before.before
+sizes_fit_of_slice_known_5_1 c = (else_not_lengths_fit_of_slice_known_5_1 c).before.before.before.before
 
 returns_2 : tie.Need-returns-then-not-lengths_fit
 returns_2 c =
-    unlengthened _ _ _ _ _ _ (sized (not_sizes_fit_of_refuse_then_not_lengths_fit c)) (sym (lengths c.before.before) ∙ not-true _ c.if-not-lengths_fit.true-raw) c.refuse-then-not-lengths_fit.ensures
+    unlengthened _ _ _ _ _ _ (sized (else_not_sizes_fit_of_refuse_then_not_lengths_fit c)) (sym (lengths c.before.before) ∙ not-true _ c.if-not-lengths_fit.true-raw) c.refuse-then-not-lengths_fit.ensures
 
 recover_fit_requires : tie.Need-recover_fit-a-requires
 recover_fit_requires c κs =
@@ -93,7 +93,7 @@ same_length_2 c = search rules
 
 returns_3 : tie.Need-returns
 returns_3 c =
-    whole _ _ _ _ _ _ (index (sizes_fit_of_slice_known_5_1 c)) (passed (not_lengths_fit_of_slice_known_5_1 c)) c.recover_fit-a.ensures.0 (c.clear.ensures ∙ ap (λ (k : ℕ). replicate k 0) c.recover_fit-a.ensures.1)
+    whole _ _ _ _ _ _ (index (sizes_fit_of_slice_known_5_1 c)) (passed (else_not_lengths_fit_of_slice_known_5_1 c)) c.recover_fit-a.ensures.0 (c.clear.ensures ∙ ap (λ (k : ℕ). replicate k 0) c.recover_fit-a.ensures.1)
 
 pub recover_spec : {M : Type 1} → statement M
 recover_spec =

@@ -44,11 +44,11 @@ shared_slice_known_1_of_is_there c = c.before.before.before.before.before.before
 abbrev start_of_is_there : tie.After-is_there → tie.Start
 start_of_is_there c = (shared_slice_known_1_of_is_there c).before
 
-abbrev shared_slice_known_2_1_of_not_is_there : tie.Else-not-is_there → tie.After-shared_slice_known-2-1
-shared_slice_known_2_1_of_not_is_there c = c.before.before.before.before.before.before.before.before.before
+abbrev shared_slice_known_2_1_of_else_not_is_there : tie.Else-not-is_there → tie.After-shared_slice_known-2-1
+shared_slice_known_2_1_of_else_not_is_there c = c.before.before.before.before.before.before.before.before.before
 
-abbrev start_of_not_is_there : tie.Else-not-is_there → tie.Start
-start_of_not_is_there c = (shared_slice_known_2_1_of_not_is_there c).before.before
+abbrev start_of_else_not_is_there : tie.Else-not-is_there → tie.Start
+start_of_else_not_is_there c = (shared_slice_known_2_1_of_else_not_is_there c).before.before
 
 abbrev wide_rows_of_is_splittable : tie.After-is_splittable → tie.After-wide-rows
 wide_rows_of_is_splittable c = c.before.before.before.before
@@ -56,11 +56,11 @@ wide_rows_of_is_splittable c = c.before.before.before.before
 abbrev start_of_is_splittable : tie.After-is_splittable → tie.Start
 start_of_is_splittable c = (wide_rows_of_is_splittable c).before.before.before.before.before.before.before.before
 
-abbrev wide_rows_of_not_is_splittable : tie.Else-not-is_splittable → tie.After-wide-rows
-wide_rows_of_not_is_splittable c = c.before.before.before.before.before
+abbrev wide_rows_of_else_not_is_splittable : tie.Else-not-is_splittable → tie.After-wide-rows
+wide_rows_of_else_not_is_splittable c = c.before.before.before.before.before
 
-abbrev start_of_not_is_splittable : tie.Else-not-is_splittable → tie.Start
-start_of_not_is_splittable c = (wide_rows_of_not_is_splittable c).before.before.before.before.before.before.before.before
+abbrev start_of_else_not_is_splittable : tie.Else-not-is_splittable → tie.Start
+start_of_else_not_is_splittable c = (wide_rows_of_else_not_is_splittable c).before.before.before.before.before.before.before.before
 
 abbrev wide_rows_of_entry_of_t : tie.After-entry_of-t → tie.After-wide-rows
 wide_rows_of_entry_of_t c = c.before.before.before.before.before.before
@@ -68,11 +68,11 @@ wide_rows_of_entry_of_t c = c.before.before.before.before.before.before
 abbrev start_of_entry_of_t : tie.After-entry_of-t → tie.Start
 start_of_entry_of_t c = (wide_rows_of_entry_of_t c).before.before.before.before.before.before.before.before
 
-abbrev not_is_there_of_by_border_elements : tie.After-by_border-elements → tie.Else-not-is_there
-not_is_there_of_by_border_elements c = c.before.before.before.before
+abbrev else_not_is_there_of_by_border_elements : tie.After-by_border-elements → tie.Else-not-is_there
+else_not_is_there_of_by_border_elements c = c.before.before.before.before
 
 abbrev shared_slice_known_2_1_of_by_border_elements : tie.After-by_border-elements → tie.After-shared_slice_known-2-1
-shared_slice_known_2_1_of_by_border_elements c = (not_is_there_of_by_border_elements c).before.before.before.before.before.before.before.before.before
+shared_slice_known_2_1_of_by_border_elements c = (else_not_is_there_of_by_border_elements c).before.before.before.before.before.before.before.before.before
 
 abbrev start_of_by_border_elements : tie.After-by_border-elements → tie.Start
 start_of_by_border_elements c = (shared_slice_known_2_1_of_by_border_elements c).before.before
@@ -95,23 +95,23 @@ shared_slice_known_5_1_of_refuse_then_not_is_splittable c = c.before.before.befo
 abbrev start_of_refuse_then_not_is_splittable : tie.After-refuse-then-not-is_splittable → tie.Start
 start_of_refuse_then_not_is_splittable c = (shared_slice_known_5_1_of_refuse_then_not_is_splittable c).before.before.before.before.before
 
-abbrev not_is_splittable_of_refuse_then_not_can_hold : tie.After-refuse-then-not-can_hold → tie.Else-not-is_splittable
-not_is_splittable_of_refuse_then_not_can_hold c = c.before.before.before.before.before
+abbrev else_not_is_splittable_of_refuse_then_not_can_hold : tie.After-refuse-then-not-can_hold → tie.Else-not-is_splittable
+else_not_is_splittable_of_refuse_then_not_can_hold c = c.before.before.before.before.before
 
-abbrev not_is_there_of_refuse_then_not_can_hold : tie.After-refuse-then-not-can_hold → tie.Else-not-is_there
-not_is_there_of_refuse_then_not_can_hold c = (not_is_splittable_of_refuse_then_not_can_hold c).before.before
+abbrev else_not_is_there_of_refuse_then_not_can_hold : tie.After-refuse-then-not-can_hold → tie.Else-not-is_there
+else_not_is_there_of_refuse_then_not_can_hold c = (else_not_is_splittable_of_refuse_then_not_can_hold c).before.before
 
 abbrev shared_slice_known_2_1_of_refuse_then_not_can_hold : tie.After-refuse-then-not-can_hold → tie.After-shared_slice_known-2-1
-shared_slice_known_2_1_of_refuse_then_not_can_hold c = (not_is_there_of_refuse_then_not_can_hold c).before.before.before.before.before.before.before.before.before
+shared_slice_known_2_1_of_refuse_then_not_can_hold c = (else_not_is_there_of_refuse_then_not_can_hold c).before.before.before.before.before.before.before.before.before
 
 abbrev start_of_refuse_then_not_can_hold : tie.After-refuse-then-not-can_hold → tie.Start
 start_of_refuse_then_not_can_hold c = (shared_slice_known_2_1_of_refuse_then_not_can_hold c).before.before
 
-abbrev wide_rows_of_not_can_hold : tie.Else-not-can_hold → tie.After-wide-rows
-wide_rows_of_not_can_hold c = c.before.before.before.before.before.before.before.before.before
+abbrev wide_rows_of_else_not_can_hold : tie.Else-not-can_hold → tie.After-wide-rows
+wide_rows_of_else_not_can_hold c = c.before.before.before.before.before.before.before.before.before
 
-abbrev start_of_not_can_hold : tie.Else-not-can_hold → tie.Start
-start_of_not_can_hold c = (wide_rows_of_not_can_hold c).before.before.before.before.before.before.before.before
+abbrev start_of_else_not_can_hold : tie.Else-not-can_hold → tie.Start
+start_of_else_not_can_hold c = (wide_rows_of_else_not_can_hold c).before.before.before.before.before.before.before.before
 
 abbrev can_hold_of_refuse_at : tie.After-refuse_at → tie.After-can_hold
 can_hold_of_refuse_at c = c.before.before.before.before.before
@@ -119,14 +119,14 @@ can_hold_of_refuse_at c = c.before.before.before.before.before
 abbrev entry_of_t_of_refuse_at : tie.After-refuse_at → tie.After-entry_of-t
 entry_of_t_of_refuse_at c = (can_hold_of_refuse_at c).before.before
 
-abbrev not_is_splittable_of_refuse_at : tie.After-refuse_at → tie.Else-not-is_splittable
-not_is_splittable_of_refuse_at c = (entry_of_t_of_refuse_at c).before
+abbrev else_not_is_splittable_of_refuse_at : tie.After-refuse_at → tie.Else-not-is_splittable
+else_not_is_splittable_of_refuse_at c = (entry_of_t_of_refuse_at c).before
 
-abbrev not_is_there_of_refuse_at : tie.After-refuse_at → tie.Else-not-is_there
-not_is_there_of_refuse_at c = (not_is_splittable_of_refuse_at c).before.before
+abbrev else_not_is_there_of_refuse_at : tie.After-refuse_at → tie.Else-not-is_there
+else_not_is_there_of_refuse_at c = (else_not_is_splittable_of_refuse_at c).before.before
 
 abbrev shared_slice_known_2_1_of_refuse_at : tie.After-refuse_at → tie.After-shared_slice_known-2-1
-shared_slice_known_2_1_of_refuse_at c = (not_is_there_of_refuse_at c).before.before.before.before.before.before.before.before.before
+shared_slice_known_2_1_of_refuse_at c = (else_not_is_there_of_refuse_at c).before.before.before.before.before.before.before.before.before
 
 abbrev start_of_refuse_at : tie.After-refuse_at → tie.Start
 start_of_refuse_at c = (shared_slice_known_2_1_of_refuse_at c).before.before
@@ -140,14 +140,14 @@ by_border_elements_of_give_two c = (can_hold_of_give_two c).before
 abbrev entry_of_t_of_give_two : tie.After-give_two → tie.After-entry_of-t
 entry_of_t_of_give_two c = (by_border_elements_of_give_two c).before
 
-abbrev not_is_splittable_of_give_two : tie.After-give_two → tie.Else-not-is_splittable
-not_is_splittable_of_give_two c = (entry_of_t_of_give_two c).before
+abbrev else_not_is_splittable_of_give_two : tie.After-give_two → tie.Else-not-is_splittable
+else_not_is_splittable_of_give_two c = (entry_of_t_of_give_two c).before
 
-abbrev not_is_there_of_give_two : tie.After-give_two → tie.Else-not-is_there
-not_is_there_of_give_two c = (not_is_splittable_of_give_two c).before.before
+abbrev else_not_is_there_of_give_two : tie.After-give_two → tie.Else-not-is_there
+else_not_is_there_of_give_two c = (else_not_is_splittable_of_give_two c).before.before
 
 abbrev shared_slice_known_2_1_of_give_two : tie.After-give_two → tie.After-shared_slice_known-2-1
-shared_slice_known_2_1_of_give_two c = (not_is_there_of_give_two c).before.before.before.before.before.before.before.before.before
+shared_slice_known_2_1_of_give_two c = (else_not_is_there_of_give_two c).before.before.before.before.before.before.before.before.before
 
 abbrev start_of_give_two : tie.After-give_two → tie.Start
 start_of_give_two c = (shared_slice_known_2_1_of_give_two c).before.before
@@ -166,7 +166,7 @@ asked : (c : tie.After-is_there) {b : Bool} → c.is_there.result ≡ b → is_t
 asked c e =
     ap (λ (X : List ℕ). is_there X c.args.code) (sym (front c.before.before)) ∙ sym c.is_there.ensures ∙ e
 
-there : (c : tie.Else-not-is_there) → is_there (held (lends (start_of_not_is_there c))) c.args.code ≡ true
+there : (c : tie.Else-not-is_there) → is_there (held (lends (start_of_else_not_is_there c))) c.args.code ≡ true
 there c = asked c.before (not-false _ c.if-not-is_there.false-raw)
 
 -- and a side that may be split
@@ -174,7 +174,7 @@ tried : (c : tie.After-is_splittable) {b : Bool} → c.is_splittable.result ≡ 
 tried c e =
     ap (λ (X : List ℕ). is_splittable X c.args.code) (sym (front (wide_rows_of_is_splittable c))) ∙ sym c.is_splittable.ensures ∙ e
 
-fit : (c : tie.Else-not-is_splittable) → is_splittable (held (lends (start_of_not_is_splittable c))) c.args.code ≡ true
+fit : (c : tie.Else-not-is_splittable) → is_splittable (held (lends (start_of_else_not_is_splittable c))) c.args.code ≡ true
 fit c = tried c.before (not-false _ c.if-not-is_splittable.false-raw)
 
 entry : (c : tie.After-entry_of-t) → c.entry_of-t.result ≡ at (wide (held (lends (start_of_entry_of_t c)))) (slot c.args.code)
@@ -187,7 +187,7 @@ counted c =
     let m = held_elements c.args.m c.args.list.now c.requires.inside in
     c.by_border-elements.ensures
     ∙ (λ i. by_border c.entry_of-t.result (sym m i + 1) (sym m i + 2))
-    ∙ sym (elements_then (cuttable w (points (start_of_by_border_elements c)) c.args.code (there (not_is_there_of_by_border_elements c)) (fit c.before.before) c.requires (entry c.before)) (w.n + 1))
+    ∙ sym (elements_then (cuttable w (points (start_of_by_border_elements c)) c.args.code (there (else_not_is_there_of_by_border_elements c)) (fit c.before.before) c.requires (entry c.before)) (w.n + 1))
 
 told : (c : tie.After-can_hold) {b : Bool} → let w = lends (start_of_can_hold c) in c.can_hold.result ≡ b → can_hold w (points (start_of_can_hold c)) (vertex w) (new w c.args.code) ≡ b
 told c e =
@@ -234,7 +234,7 @@ returns_2 c =
 
 entry_of_requires : tie.Need-entry_of-t-requires
 entry_of_requires c κs =
-    (tables (wide_rows_of_not_is_splittable c), rw (front (wide_rows_of_not_is_splittable c)) ((means_splittable (held (lends (start_of_not_is_splittable c))) c.args.code).says (rw (fit c) tt)).side)
+    (tables (wide_rows_of_else_not_is_splittable c), rw (front (wide_rows_of_else_not_is_splittable c)) ((means_splittable (held (lends (start_of_else_not_is_splittable c))) c.args.code).says (rw (fit c) tt)).side)
 
 add_by_border : tie.Need-overflow_add-m
 add_by_border c = let h = c.requires.tabled.size in let e = held_elements c.args.m c.args.list.now c.requires.inside in search rules
@@ -256,11 +256,11 @@ refuse_requires_3 c κs = search rules
 
 returns_3 : tie.Need-returns-then-not-can_hold
 returns_3 c =
-    full (lends (start_of_refuse_then_not_can_hold c)) (points (start_of_refuse_then_not_can_hold c)) c.args.code (there (not_is_there_of_refuse_then_not_can_hold c)) (fit (not_is_splittable_of_refuse_then_not_can_hold c)) (told c.before.before (not-true _ c.if-not-can_hold.true-raw)) c.refuse-then-not-can_hold.ensures
+    full (lends (start_of_refuse_then_not_can_hold c)) (points (start_of_refuse_then_not_can_hold c)) c.args.code (there (else_not_is_there_of_refuse_then_not_can_hold c)) (fit (else_not_is_splittable_of_refuse_then_not_can_hold c)) (told c.before.before (not-true _ c.if-not-can_hold.true-raw)) c.refuse-then-not-can_hold.ensures
 
 add_by_border_3 : tie.Need-overflow_add-k
 add_by_border_3 c =
-    let L = held (lends (start_of_not_can_hold c)) in
+    let L = held (lends (start_of_else_not_can_hold c)) in
     let few : c.args.k ≤ 4 * max_element =
     omega (arith, c.requires.number, borders_bound L, held_length c.args.m c.args.list.now c.requires.inside, c.requires.tabled.size) in
     search rules
@@ -276,7 +276,7 @@ refuse_at_requires c κs = search rules
 
 returns_4 : tie.Need-returns-then-b2e-wide
 returns_4 c =
-    crowded (lends (start_of_refuse_at c)) (points (start_of_refuse_at c)) c.args.code (there (not_is_there_of_refuse_at c)) (fit (not_is_splittable_of_refuse_at c)) c.requires (entry (entry_of_t_of_refuse_at c)) (told (can_hold_of_refuse_at c) (not-false _ c.if-not-can_hold.false-raw))
+    crowded (lends (start_of_refuse_at c)) (points (start_of_refuse_at c)) c.args.code (there (else_not_is_there_of_refuse_at c)) (fit (else_not_is_splittable_of_refuse_at c)) c.requires (entry (entry_of_t_of_refuse_at c)) (told (can_hold_of_refuse_at c) (not-false _ c.if-not-can_hold.false-raw))
     c.by_border-borders.ensures (omega (arith, c.if-b2e-wide.true, c.wide.ensures)) c.refuse_at.ensures
 
 give_two_requires : tie.Need-give_two-requires
@@ -284,7 +284,7 @@ give_two_requires c κs = search rules
 
 returns_5 : tie.Need-returns
 returns_5 c =
-    admitted (lends (start_of_give_two c)) (points (start_of_give_two c)) c.args.code (there (not_is_there_of_give_two c)) (fit (not_is_splittable_of_give_two c)) c.requires (entry (entry_of_t_of_give_two c)) (told (can_hold_of_give_two c) (not-false _ c.if-not-can_hold.false-raw))
+    admitted (lends (start_of_give_two c)) (points (start_of_give_two c)) c.args.code (there (else_not_is_there_of_give_two c)) (fit (else_not_is_splittable_of_give_two c)) c.requires (entry (entry_of_t_of_give_two c)) (told (can_hold_of_give_two c) (not-false _ c.if-not-can_hold.false-raw))
     c.by_border-borders.ensures (counted (by_border_elements_of_give_two c)) (omega (arith, c.if-b2e-wide.false, c.wide.ensures)) c.give_two.ensures
 
 pub admit_spec : {M : Type 1} → statement M

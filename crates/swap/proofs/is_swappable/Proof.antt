@@ -69,18 +69,18 @@ element_of_requires : tie.Need-element_of-requires
 element_of_requires c κs = search rules
 
 -- states by how far they lie back
-abbrev not_is_side_of_element_of : tie.After-element_of → tie.Else-not-is_side
-not_is_side_of_element_of c = c.before.before.before.before
+abbrev else_not_is_side_of_element_of : tie.After-element_of → tie.Else-not-is_side
+else_not_is_side_of_element_of c = c.before.before.before.before
 
-abbrev is_border_of_element_of_2 : tie.After-element_of-2 → tie.Else-is_border
-is_border_of_element_of_2 c = c.before.before.before.before
+abbrev else_is_border_of_element_of_2 : tie.After-element_of-2 → tie.Else-is_border
+else_is_border_of_element_of_2 c = c.before.before.before.before
 
-abbrev is_border_of_is_triangle_2 : tie.After-is_triangle-2 → tie.Else-is_border
-is_border_of_is_triangle_2 c = c.before.before.before.before.before
+abbrev else_is_border_of_is_triangle_2 : tie.After-is_triangle-2 → tie.Else-is_border
+else_is_border_of_is_triangle_2 c = c.before.before.before.before.before
 
 is_triangle_requires : tie.Need-is_triangle-requires
 is_triangle_requires c κs =
-    let a = c.args in omega (arith, row_inside a.list.now a.s (side (not_is_side_of_element_of c)), c.element_of.ensures)
+    let a = c.args in omega (arith, row_inside a.list.now a.s (side (else_not_is_side_of_element_of c)), c.element_of.ensures)
 
 returns_3 : tie.Need-returns-then-not-is_triangle
 returns_3 c =
@@ -92,13 +92,13 @@ element_of_requires_2 c κs = search rules
 is_triangle_requires_2 : tie.Need-is_triangle-requires-2
 is_triangle_requires_2 c κs =
     let a = c.args in
-    let (e, d) = known (is_border_of_element_of_2 c) in
+    let (e, d) = known (else_is_border_of_element_of_2 c) in
     omega (arith, row_inside a.list.now (partner a.list.now a.s) (partner_opposed a.list.now a.s d).0, c.element_of-2.ensures, ap (λ (t : ℕ). t / 8) e)
 
 returns_4 : tie.Need-returns
 returns_4 c =
     let list = c.args.list.now in
-    let across = c.element_of-2.ensures ∙ ap (λ (t : ℕ). t / 8) (known (is_border_of_is_triangle_2 c)).0 in
+    let across = c.element_of-2.ensures ∙ ap (λ (t : ℕ). t / 8) (known (else_is_border_of_is_triangle_2 c)).0 in
     c.is_triangle-2.ensures
     ∙ ap (λ (g : ℕ). eqb (sides list g) 3) across
     ∙ sym (by_first c.before.before.before (not-false _ c.if-not-is_triangle.false-raw))

@@ -27,8 +27,8 @@ edit s = swap s.args.n (take (4 * s.args.m) s.args.list.now) s.args.code
 abbrev start_of_counts_fit : tie.After-counts_fit → tie.Start
 start_of_counts_fit c = c.before.before.before.before.before.before
 
-abbrev start_of_not_counts_fit : tie.Else-not-counts_fit → tie.Start
-start_of_not_counts_fit c = c.before.before.before.before.before.before.before
+abbrev start_of_else_not_counts_fit : tie.Else-not-counts_fit → tie.Start
+start_of_else_not_counts_fit c = c.before.before.before.before.before.before.before
 
 abbrev start_of_refuse : tie.After-refuse → tie.Start
 start_of_refuse c = c.before.before.before.before.before.before.before.before
@@ -39,23 +39,23 @@ slice_known_1_of_refuse_then_columns_eq0 c = c.before.before.before.before.befor
 abbrev start_of_refuse_then_columns_eq0 : tie.After-refuse-then-columns-eq0 → tie.Start
 start_of_refuse_then_columns_eq0 c = (slice_known_1_of_refuse_then_columns_eq0 c).before
 
-abbrev not_counts_fit_of_wide : tie.After-wide → tie.Else-not-counts_fit
-not_counts_fit_of_wide c = c.before.before.before.before.before
+abbrev else_not_counts_fit_of_wide : tie.After-wide → tie.Else-not-counts_fit
+else_not_counts_fit_of_wide c = c.before.before.before.before.before
 
-abbrev columns_eq0_of_swap_fit_arg_1 : tie.After-swap_fit-arg-1 → tie.Else-columns-eq0
-columns_eq0_of_swap_fit_arg_1 c = c.before.before.before.before
+abbrev else_columns_eq0_of_swap_fit_arg_1 : tie.After-swap_fit-arg-1 → tie.Else-columns-eq0
+else_columns_eq0_of_swap_fit_arg_1 c = c.before.before.before.before
 
-abbrev columns_eq0_of_swap_fit_arg_2_1 : tie.After-swap_fit-arg-2-1 → tie.Else-columns-eq0
-columns_eq0_of_swap_fit_arg_2_1 c = c.before.before.before.before.before
+abbrev else_columns_eq0_of_swap_fit_arg_2_1 : tie.After-swap_fit-arg-2-1 → tie.Else-columns-eq0
+else_columns_eq0_of_swap_fit_arg_2_1 c = c.before.before.before.before.before
 
 abbrev wide_of_swap_fit_arg_5_1 : tie.After-swap_fit-arg-5-1 → tie.After-wide
 wide_of_swap_fit_arg_5_1 c = c.before.before.before.before.before
 
-abbrev columns_eq0_of_swap_fit_arg_5_1 : tie.After-swap_fit-arg-5-1 → tie.Else-columns-eq0
-columns_eq0_of_swap_fit_arg_5_1 c = (wide_of_swap_fit_arg_5_1 c).before.before.before
+abbrev else_columns_eq0_of_swap_fit_arg_5_1 : tie.After-swap_fit-arg-5-1 → tie.Else-columns-eq0
+else_columns_eq0_of_swap_fit_arg_5_1 c = (wide_of_swap_fit_arg_5_1 c).before.before.before
 
-abbrev not_counts_fit_of_swap_fit_arg_5_1 : tie.After-swap_fit-arg-5-1 → tie.Else-not-counts_fit
-not_counts_fit_of_swap_fit_arg_5_1 c = (columns_eq0_of_swap_fit_arg_5_1 c).before.before
+abbrev else_not_counts_fit_of_swap_fit_arg_5_1 : tie.After-swap_fit-arg-5-1 → tie.Else-not-counts_fit
+else_not_counts_fit_of_swap_fit_arg_5_1 c = (else_columns_eq0_of_swap_fit_arg_5_1 c).before.before
 
 abbrev e2e_1_of_slice_known_11_1 : tie.After-slice_known-11-1 → tie.After-e2e-1
 e2e_1_of_slice_known_11_1 c = c.before.before.before.before.before.before.before.before.before
@@ -66,21 +66,21 @@ swap_fit_arg_2_1_of_slice_known_11_1 c = (e2e_1_of_slice_known_11_1 c).before.be
 abbrev wide_of_slice_known_11_1 : tie.After-slice_known-11-1 → tie.After-wide
 wide_of_slice_known_11_1 c = (swap_fit_arg_2_1_of_slice_known_11_1 c).before.before
 
-abbrev columns_eq0_of_slice_known_11_1 : tie.After-slice_known-11-1 → tie.Else-columns-eq0
-columns_eq0_of_slice_known_11_1 c = (wide_of_slice_known_11_1 c).before.before.before
+abbrev else_columns_eq0_of_slice_known_11_1 : tie.After-slice_known-11-1 → tie.Else-columns-eq0
+else_columns_eq0_of_slice_known_11_1 c = (wide_of_slice_known_11_1 c).before.before.before
 
-abbrev not_counts_fit_of_slice_known_11_1 : tie.After-slice_known-11-1 → tie.Else-not-counts_fit
-not_counts_fit_of_slice_known_11_1 c = (columns_eq0_of_slice_known_11_1 c).before.before
+abbrev else_not_counts_fit_of_slice_known_11_1 : tie.After-slice_known-11-1 → tie.Else-not-counts_fit
+else_not_counts_fit_of_slice_known_11_1 c = (else_columns_eq0_of_slice_known_11_1 c).before.before
 
 abbrev start_of_slice_known_11_1 : tie.After-slice_known-11-1 → tie.Start
-start_of_slice_known_11_1 c = (not_counts_fit_of_slice_known_11_1 c).before.before.before.before.before.before.before
+start_of_slice_known_11_1 c = (else_not_counts_fit_of_slice_known_11_1 c).before.before.before.before.before.before.before
 
 -- check 1
 sizes : (c : tie.After-counts_fit) → edit_sizes (lent (start_of_counts_fit c)) ≡ c.counts_fit.result
 unfolding edit_sizes
 sizes c = sym c.counts_fit.ensures
 
-sized : (c : tie.Else-not-counts_fit) → edit_sizes (lent (start_of_not_counts_fit c)) ≡ true
+sized : (c : tie.Else-not-counts_fit) → edit_sizes (lent (start_of_else_not_counts_fit c)) ≡ true
 sized c = sizes c.before ∙ not-false _ c.if-not-counts_fit.false-raw
 
 within : (c : tie.Else-not-counts_fit) → let a = c.args in (a.n ≤ max_vertex) × (a.m ≤ max_element)
@@ -148,7 +148,7 @@ wide_requires_3 c κs = search rules
 
 mul_entries : tie.Need-overflow_mul-entries
 mul_entries c =
-    let few : c.wide-elements.result ≤ max_element = omega (arith, within (not_counts_fit_of_wide c), ends c) in
+    let few : c.wide-elements.result ≤ max_element = omega (arith, within (else_not_counts_fit_of_wide c), ends c) in
     omega (arith, few_entries _ c.wide-elements.result (three_or_four _) (c.wide.ensures ∙ (held c.before.before.before).columned) few)
 
 sub_swap_fit : tie.Need-slice_bounds-swap_fit-count
@@ -169,7 +169,7 @@ part_swap_fit_start_2 c = search rules
 
 part_swap_fit_end_2 : tie.Need-slice_bounds-swap_fit-end-2
 part_swap_fit_end_2 c =
-    let h : c.wide-vertices.result ≤ length c.args.v2e.now = omega (arith, (held (columns_eq0_of_swap_fit_arg_1 c)).vertices, ends c.before) in
+    let h : c.wide-vertices.result ≤ length c.args.v2e.now = omega (arith, (held (else_columns_eq0_of_swap_fit_arg_1 c)).vertices, ends c.before) in
     search rules
 
 sub_swap_fit_3 : tie.Need-slice_bounds-swap_fit-count-3
@@ -181,14 +181,14 @@ part_swap_fit_start_3 c = search rules
 part_swap_fit_end_3 : tie.Need-slice_bounds-swap_fit-end-3
 part_swap_fit_end_3 c =
     let h : c.wide.result * c.wide-elements.result ≤ length c.args.e2e.now =
-    omega (arith, (held (columns_eq0_of_swap_fit_arg_2_1 c)).opposites, ends c.before.before) in
+    omega (arith, (held (else_columns_eq0_of_swap_fit_arg_2_1 c)).opposites, ends c.before.before) in
     search rules
 
 swap_fit_requires : tie.Need-swap_fit-a-requires
 swap_fit_requires c κs =
     let a = c.args in
     let (l, v, e) = fronts (wide_of_swap_fit_arg_5_1 c) in
-    checked_at a.n a.m a.list.now a.v2e.now a.e2e.now a.b2e.now a.work.now a.code (within (not_counts_fit_of_swap_fit_arg_5_1 c)) (held (columns_eq0_of_swap_fit_arg_5_1 c)) l v e
+    checked_at a.n a.m a.list.now a.v2e.now a.e2e.now a.b2e.now a.work.now a.code (within (else_not_counts_fit_of_swap_fit_arg_5_1 c)) (held (else_columns_eq0_of_swap_fit_arg_5_1 c)) l v e
 
 clear_requires : tie.Need-clear-requires
 clear_requires c κs = search rules
@@ -213,8 +213,8 @@ returns_3 c =
     let a = c.args in
     let (l, v, e) = fronts (wide_of_slice_known_11_1 c) in
     let (left, same) = c.swap_fit-a.ensures in
-    whole a.n a.m a.list.now a.v2e.now a.e2e.now a.b2e.now a.work.now a.code (within (not_counts_fit_of_slice_known_11_1 c)) (held (columns_eq0_of_slice_known_11_1 c)) l v e
-    (sized (not_counts_fit_of_slice_known_11_1 c), lengths (lent (start_of_slice_known_11_1 c)) (held (columns_eq0_of_slice_known_11_1 c)).passed) left same c.clear.ensures
+    whole a.n a.m a.list.now a.v2e.now a.e2e.now a.b2e.now a.work.now a.code (within (else_not_counts_fit_of_slice_known_11_1 c)) (held (else_columns_eq0_of_slice_known_11_1 c)) l v e
+    (sized (else_not_counts_fit_of_slice_known_11_1 c), lengths (lent (start_of_slice_known_11_1 c)) (held (else_columns_eq0_of_slice_known_11_1 c)).passed) left same c.clear.ensures
 
 pub swap_spec : {M : Type 1} → statement M
 swap_spec =

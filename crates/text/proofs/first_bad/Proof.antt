@@ -52,8 +52,8 @@ line_of_requires c κs = search rules
 abbrev the_m_of_line_of : tie.After-line_of → tie.After-the_m
 the_m_of_line_of c = c.before.before.before.before
 
-abbrev not_is_good_head_of_line_of : tie.After-line_of → tie.Else-not-is_good_head
-not_is_good_head_of_line_of c = (the_m_of_line_of c).before
+abbrev else_not_is_good_head_of_line_of : tie.After-line_of → tie.Else-not-is_good_head
+else_not_is_good_head_of_line_of c = (the_m_of_line_of c).before
 
 abbrev go_over_r_of_line_of_then_r_text : tie.After-line_of-then-r-text → tie.After-go_over-r
 go_over_r_of_line_of_then_r_text c = c.before.before.before.before.before
@@ -61,32 +61,32 @@ go_over_r_of_line_of_then_r_text c = c.before.before.before.before.before
 abbrev the_m_of_line_of_then_r_text : tie.After-line_of-then-r-text → tie.After-the_m
 the_m_of_line_of_then_r_text c = (go_over_r_of_line_of_then_r_text c).before
 
-abbrev not_is_good_head_of_line_of_then_r_text : tie.After-line_of-then-r-text → tie.Else-not-is_good_head
-not_is_good_head_of_line_of_then_r_text c = (the_m_of_line_of_then_r_text c).before
+abbrev else_not_is_good_head_of_line_of_then_r_text : tie.After-line_of-then-r-text → tie.Else-not-is_good_head
+else_not_is_good_head_of_line_of_then_r_text c = (the_m_of_line_of_then_r_text c).before
 
-abbrev go_over_r_of_r_text : tie.Else-r-text → tie.After-go_over-r
-go_over_r_of_r_text c = c.before.before.before.before
+abbrev go_over_r_of_else_r_text : tie.Else-r-text → tie.After-go_over-r
+go_over_r_of_else_r_text c = c.before.before.before.before
 
-abbrev the_m_of_r_text : tie.Else-r-text → tie.After-the_m
-the_m_of_r_text c = (go_over_r_of_r_text c).before
+abbrev the_m_of_else_r_text : tie.Else-r-text → tie.After-the_m
+the_m_of_else_r_text c = (go_over_r_of_else_r_text c).before
 
-abbrev not_is_good_head_of_r_text : tie.Else-r-text → tie.Else-not-is_good_head
-not_is_good_head_of_r_text c = (the_m_of_r_text c).before
+abbrev else_not_is_good_head_of_else_r_text : tie.Else-r-text → tie.Else-not-is_good_head
+else_not_is_good_head_of_else_r_text c = (the_m_of_else_r_text c).before
 
 returns_2 : tie.Need-returns-then-r-count
 returns_2 c =
-    c.line_of.ensures ∙ bad_field _ _ (good (not_is_good_head_of_line_of c)) (first c.before.before.before) (λ e. c.if-r-count.true (e ∙ sym (count (the_m_of_line_of c))))
+    c.line_of.ensures ∙ bad_field _ _ (good (else_not_is_good_head_of_line_of c)) (first c.before.before.before) (λ e. c.if-r-count.true (e ∙ sym (count (the_m_of_line_of c))))
 
 line_of_requires_2 : tie.Need-line_of-requires-then-r-text
 line_of_requires_2 c κs = search rules
 
 returns_3 : tie.Need-returns-then-r-text
 returns_3 c =
-    c.line_of-then-r-text.ensures ∙ bad_end _ _ (good (not_is_good_head_of_line_of_then_r_text c)) (first (go_over_r_of_line_of_then_r_text c)) (c.if-r-count.false ∙ count (the_m_of_line_of_then_r_text c)) (λ e. omega (arith, e, c.go_over-r.ensures.0.1))
+    c.line_of-then-r-text.ensures ∙ bad_end _ _ (good (else_not_is_good_head_of_line_of_then_r_text c)) (first (go_over_r_of_line_of_then_r_text c)) (c.if-r-count.false ∙ count (the_m_of_line_of_then_r_text c)) (λ e. omega (arith, e, c.go_over-r.ensures.0.1))
 
 returns_4 : tie.Need-returns
 returns_4 c =
-    none_bad _ _ (good (not_is_good_head_of_r_text c)) (first (go_over_r_of_r_text c)) (c.if-r-count.false ∙ count (the_m_of_r_text c)) (omega (arith, c.go_over-r.ensures.0.1))
+    none_bad _ _ (good (else_not_is_good_head_of_else_r_text c)) (first (go_over_r_of_else_r_text c)) (c.if-r-count.false ∙ count (the_m_of_else_r_text c)) (omega (arith, c.go_over-r.ensures.0.1))
 
 pub first_bad_spec : {M : Type 1} → statement M
 first_bad_spec =

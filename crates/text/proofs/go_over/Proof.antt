@@ -38,8 +38,8 @@ is_field_requires : tie.Need-is_field-requires invariant_loop decreases_loop
 is_field_requires c κs = search rules
 
 -- states by how far they lie back
-abbrev loop_i_of_not_is_field : tie.Then-not-is_field invariant_loop decreases_loop → tie.At-loop-i invariant_loop decreases_loop
-loop_i_of_not_is_field c = c.before.before.before.before
+abbrev loop_i_of_then_not_is_field : tie.Then-not-is_field invariant_loop decreases_loop → tie.At-loop-i invariant_loop decreases_loop
+loop_i_of_then_not_is_field c = c.before.before.before.before
 
 abbrev loop_i_of_next_at : tie.After-next-at invariant_loop decreases_loop → tie.At-loop-i invariant_loop decreases_loop
 loop_i_of_next_at c = c.before.before.before.before.before
@@ -47,7 +47,7 @@ loop_i_of_next_at c = c.before.before.before.before.before
 returns : tie.Need-returns-then-not-is_field invariant_loop decreases_loop
 unfolding first_bad_field
 returns c =
-    ((found_here (bad (text (loop_i_of_not_is_field c))) c.loop-i.invariant.3 _ (omega arith) (ap not (sym (good c.before)) ∙ c.if-not-is_field.true-raw), c.loop-i.invariant.2), search rules)
+    ((found_here (bad (text (loop_i_of_then_not_is_field c))) c.loop-i.invariant.3 _ (omega arith) (ap not (sym (good c.before)) ∙ c.if-not-is_field.true-raw), c.loop-i.invariant.2), search rules)
 
 next_requires : tie.Need-next-at-requires invariant_loop decreases_loop
 next_requires c κs = search rules

@@ -57,13 +57,13 @@ same_length : tie.Need-shape_of-list
 same_length c = search rules
 
 -- states by how far they lie back
-abbrev bad_ne0_of_the_n : tie.After-the_n → tie.Else-bad-ne0
-bad_ne0_of_the_n c = c.before.before.before.before.before.before.before
+abbrev else_bad_ne0_of_the_n : tie.After-the_n → tie.Else-bad-ne0
+else_bad_ne0_of_the_n c = c.before.before.before.before.before.before.before
 
 returns_3 : tie.Need-returns
 returns_3 c =
     let m = c.the_m-m.ensures in
-    ((cc m) ∙ sym (parsed_mesh _ _ (form (bad_ne0_of_the_n c)) (omega arith)), rows _ _ _ _ m c.read_list.ensures)
+    ((cc m) ∙ sym (parsed_mesh _ _ (form (else_bad_ne0_of_the_n c)) (omega arith)), rows _ _ _ _ m c.read_list.ensures)
 
 pub parse_spec : {M : Type 1} → statement M
 parse_spec =

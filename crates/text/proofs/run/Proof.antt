@@ -35,13 +35,16 @@ is_digit_at_requires : tie.Need-is_digit_at-requires invariant_loop decreases_lo
 is_digit_at_requires c κs = search rules
 
 -- states by how far they lie back
-abbrev start_of_not_is_digit_at : tie.Then-not-is_digit_at invariant_loop decreases_loop → tie.Start invariant_loop decreases_loop
-start_of_not_is_digit_at c = c.before.before.before.before.before
+abbrev start_of_then_not_is_digit_at : tie.Then-not-is_digit_at invariant_loop decreases_loop → tie.Start invariant_loop decreases_loop
+start_of_then_not_is_digit_at c = c.before.before.before.before.before
+
+abbrev start_of_else_not_is_digit_at : tie.Else-not-is_digit_at invariant_loop decreases_loop → tie.Start invariant_loop decreases_loop
+start_of_else_not_is_digit_at c = c.before.before.before.before.before
 
 returns : tie.Need-returns-then-not-is_digit_at invariant_loop decreases_loop
 unfolding run
 returns c =
-    (found_here (seek (start_of_not_is_digit_at c)) c.loop-i.invariant.1 8 (omega arith) (ap not (sym c.is_digit_at.ensures) ∙ c.if-not-is_digit_at.true-raw), search rules)
+    (found_here (seek (start_of_then_not_is_digit_at c)) c.loop-i.invariant.1 8 (omega arith) (ap not (sym c.is_digit_at.ensures) ∙ c.if-not-is_digit_at.true-raw), search rules)
 
 add_i : tie.Need-overflow_add-i invariant_loop decreases_loop
 add_i c = search rules
@@ -51,7 +54,7 @@ loop_less c = search rules
 
 loop_again : tie.Need-loop-i-preserved invariant_loop decreases_loop
 loop_again c =
-    (search rules, none_more (seek (start_of_not_is_digit_at c)) c.loop-i.invariant.1 (ap not (sym c.is_digit_at.ensures) ∙ c.if-not-is_digit_at.false-raw))
+    (search rules, none_more (seek (start_of_else_not_is_digit_at c)) c.loop-i.invariant.1 (ap not (sym c.is_digit_at.ensures) ∙ c.if-not-is_digit_at.false-raw))
 
 returns_2 : tie.Need-returns invariant_loop decreases_loop
 unfolding run

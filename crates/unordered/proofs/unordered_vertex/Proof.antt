@@ -19,11 +19,14 @@ loop_holds : tie.Need-loop-a-init invariant_loop decreases_loop
 loop_holds c = let s = c.args in (least_start s.list.now (drop s.o s.work.now), omega arith, omega arith)
 
 -- states by how far they lie back
-abbrev start_of_loop_a : tie.In-loop-a invariant_loop decreases_loop → tie.Start invariant_loop decreases_loop
-start_of_loop_a c = c.before.before.before.before
+abbrev start_of_in_loop_a : tie.In-loop-a invariant_loop decreases_loop → tie.Start invariant_loop decreases_loop
+start_of_in_loop_a c = c.before.before.before.before
+
+abbrev start_of_after_loop_a : tie.After-loop-a invariant_loop decreases_loop → tie.Start invariant_loop decreases_loop
+start_of_after_loop_a c = c.before.before.before.before
 
 missed_in_row_requires : tie.Need-missed_in_row-best-requires invariant_loop decreases_loop
-missed_in_row_requires c κs = let s = (start_of_loop_a c) in (s.requires.0, omega (arith, s.requires.0.fours), c.loop-a.invariant.0)
+missed_in_row_requires c κs = let s = (start_of_in_loop_a c) in (s.requires.0, omega (arith, s.requires.0.fours), c.loop-a.invariant.0)
 
 add_a : tie.Need-overflow_add-a invariant_loop decreases_loop
 add_a c = search rules
@@ -37,7 +40,7 @@ loop_again c =
     (c.missed_in_row-best.ensures, omega arith, omega arith)
 
 returns : tie.Need-returns invariant_loop decreases_loop
-returns c = let s = (start_of_loop_a c) in least_missed s.requires.1 (drop s.args.o s.args.work.now) (omega arith) c.loop-a.invariant.0
+returns c = let s = (start_of_after_loop_a c) in least_missed s.requires.1 (drop s.args.o s.args.work.now) (omega arith) c.loop-a.invariant.0
 
 pub unordered_vertex_spec : {M : Type 1} → statement M
 unordered_vertex_spec =

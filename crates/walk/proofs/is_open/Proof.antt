@@ -27,16 +27,22 @@ tested : (c : tie.After-is_side) → c.is_side.result ≡ is_side (E2e c.before.
 tested c = rw lent at c.is_side.ensures
 
 -- states by how far they lie back
-abbrev start_of_not_is_side : tie.Else-not-is_side → tie.Start
-start_of_not_is_side c = c.before.before.before.before
+abbrev start_of_else_not_is_side : tie.Else-not-is_side → tie.Start
+start_of_else_not_is_side c = c.before.before.before.before
 
 abbrev start_of_slot_of : tie.After-slot_of → tie.Start
 start_of_slot_of c = c.before.before.before.before.before
 
-abbrev start_of_work_n_ne0 : tie.Then-work-n-ne0 → tie.Start
-start_of_work_n_ne0 c = c.before.before.before.before.before.before.before
+abbrev start_of_then_not_is_side : tie.Then-not-is_side → tie.Start
+start_of_then_not_is_side c = c.before.before.before.before
 
-a_side : (c : tie.Else-not-is_side) → is_side (E2e (start_of_not_is_side c)) (asked (start_of_not_is_side c)) ≡ true
+abbrev start_of_then_work_n_ne0 : tie.Then-work-n-ne0 → tie.Start
+start_of_then_work_n_ne0 c = c.before.before.before.before.before.before.before
+
+abbrev start_of_else_work_n_ne0 : tie.Else-work-n-ne0 → tie.Start
+start_of_else_work_n_ne0 c = c.before.before.before.before.before.before.before
+
+a_side : (c : tie.Else-not-is_side) → is_side (E2e (start_of_else_not_is_side c)) (asked (start_of_else_not_is_side c)) ≡ true
 a_side c = sym (tested c.before) ∙ not-false _ c.if-not-is_side.false-raw
 
 abbrev places : tie.Start → List ℕ
@@ -74,7 +80,7 @@ is_side_requires : tie.Need-is_side-requires
 is_side_requires c κs = search rules
 
 returns : tie.Need-returns-then-not-is_side
-returns c = shut_side _ (places (start_of_not_is_side c)) _ (sym (tested c.before) ∙ not-true _ c.if-not-is_side.true-raw)
+returns c = shut_side _ (places (start_of_then_not_is_side c)) _ (sym (tested c.before) ∙ not-true _ c.if-not-is_side.true-raw)
 
 mul_if2 : tie.Need-overflow_mul-m
 mul_if2 c = search rules
@@ -83,7 +89,7 @@ add_if2 : tie.Need-overflow_add-n
 add_if2 c = search rules
 
 slot_of_requires : tie.Need-slot_of-requires
-slot_of_requires c κs = side_from (E2e (start_of_not_is_side c)) _ (rw (a_side c) tt)
+slot_of_requires c κs = side_from (E2e (start_of_else_not_is_side c)) _ (rw (a_side c) tt)
 
 add_if2_2 : tie.Need-overflow_add-n-2
 add_if2_2 c = omega (arith, place c)
@@ -96,11 +102,11 @@ shared_slice_read_if2 c = omega (arith, place c.before)
 
 returns_2 : tie.Need-returns-then-work-n-ne0
 returns_2 c =
-    shut_place _ (places (start_of_work_n_ne0 c)) _ (read c.before.before) c.if-work-n-ne0.true
+    shut_place _ (places (start_of_then_work_n_ne0 c)) _ (read c.before.before) c.if-work-n-ne0.true
 
 returns_3 : tie.Need-returns
 returns_3 c =
-    open_place _ (places (start_of_work_n_ne0 c)) _ (read c.before.before) (a_side c.before.before.before) c.if-work-n-ne0.false
+    open_place _ (places (start_of_else_work_n_ne0 c)) _ (read c.before.before) (a_side c.before.before.before) c.if-work-n-ne0.false
 
 pub is_open_spec : {M : Type 1} → statement M
 is_open_spec =

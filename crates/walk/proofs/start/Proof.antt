@@ -72,8 +72,8 @@ shared_slice_read_s : tie.Need-bounds-work-e
 shared_slice_read_s c = search rules
 
 -- states by how far they lie back
-abbrev wide_b_of_s_eq0 : tie.Then-s-eq0 → tie.After-wide-b
-wide_b_of_s_eq0 c = c.before.before.before.before
+abbrev wide_b_of_then_s_eq0 : tie.Then-s-eq0 → tie.After-wide-b
+wide_b_of_then_s_eq0 c = c.before.before.before.before
 
 abbrev wide_b_of_next_code_arg_1 : tie.After-next_code-arg-1 → tie.After-wide-b
 wide_b_of_next_code_arg_1 c = c.before.before.before.before.before
@@ -82,7 +82,7 @@ abbrev wide_b_of_next_code : tie.After-next_code → tie.After-wide-b
 wide_b_of_next_code c = c.before.before.before.before.before.before
 
 returns_4 : tie.Need-returns-then-s-eq0
-returns_4 c = start_unlinked (bordered (wide_b_of_s_eq0 c)) (omega arith) (omega arith) c.if-s-eq0.true
+returns_4 c = start_unlinked (bordered (wide_b_of_then_s_eq0 c)) (omega arith) (omega arith) c.if-s-eq0.true
 
 mul_next_code : tie.Need-offset_bounds-work-n
 mul_next_code c = search rules

@@ -38,33 +38,42 @@ wide_requires : tie.Need-wide-requires
 wide_requires c κs = search rules
 
 -- states by how far they lie back
-abbrev not_is_side_of_list_wide : tie.Then-list-wide → tie.Else-not-is_side
-not_is_side_of_list_wide c = c.before.before.before.before
+abbrev else_not_is_side_of_then_list_wide : tie.Then-list-wide → tie.Else-not-is_side
+else_not_is_side_of_then_list_wide c = c.before.before.before.before
 
-abbrev not_is_side_2_of_in_default : tie.In_default → tie.Else-not-is_side-2
-not_is_side_2_of_in_default c = c.before.before.before.before
+abbrev else_not_is_side_2_of_in_default : tie.In_default → tie.Else-not-is_side-2
+else_not_is_side_2_of_in_default c = c.before.before.before.before
 
-abbrev not_is_side_of_in_default : tie.In_default → tie.Else-not-is_side
-not_is_side_of_in_default c = (not_is_side_2_of_in_default c).before.before
+abbrev else_not_is_side_of_in_default : tie.In_default → tie.Else-not-is_side
+else_not_is_side_of_in_default c = (else_not_is_side_2_of_in_default c).before.before
 
-abbrev not_is_side_2_of_t_eq0 : tie.Then-t-eq0 → tie.Else-not-is_side-2
-not_is_side_2_of_t_eq0 c = c.before.before.before.before.before
+abbrev else_not_is_side_2_of_then_t_eq0 : tie.Then-t-eq0 → tie.Else-not-is_side-2
+else_not_is_side_2_of_then_t_eq0 c = c.before.before.before.before.before
 
-abbrev not_is_side_of_t_eq0 : tie.Then-t-eq0 → tie.Else-not-is_side
-not_is_side_of_t_eq0 c = (not_is_side_2_of_t_eq0 c).before.before
+abbrev else_not_is_side_of_then_t_eq0 : tie.Then-t-eq0 → tie.Else-not-is_side
+else_not_is_side_of_then_t_eq0 c = (else_not_is_side_2_of_then_t_eq0 c).before.before
 
-abbrev list_wide_of_list_wide_2 : tie.Then-list-wide-2 → tie.Else-list-wide
-list_wide_of_list_wide_2 c = c.before.before.before.before.before
+abbrev else_list_wide_of_then_list_wide_2 : tie.Then-list-wide-2 → tie.Else-list-wide
+else_list_wide_of_then_list_wide_2 c = c.before.before.before.before.before
 
-abbrev not_is_side_2_of_list_wide_2 : tie.Then-list-wide-2 → tie.Else-not-is_side-2
-not_is_side_2_of_list_wide_2 c = (list_wide_of_list_wide_2 c).before.before
+abbrev else_not_is_side_2_of_then_list_wide_2 : tie.Then-list-wide-2 → tie.Else-not-is_side-2
+else_not_is_side_2_of_then_list_wide_2 c = (else_list_wide_of_then_list_wide_2 c).before.before
 
-abbrev not_is_side_of_list_wide_2 : tie.Then-list-wide-2 → tie.Else-not-is_side
-not_is_side_of_list_wide_2 c = (not_is_side_2_of_list_wide_2 c).before.before
+abbrev else_not_is_side_of_then_list_wide_2 : tie.Then-list-wide-2 → tie.Else-not-is_side
+else_not_is_side_of_then_list_wide_2 c = (else_not_is_side_2_of_then_list_wide_2 c).before.before
+
+abbrev else_list_wide_of_else_list_wide_2 : tie.Else-list-wide-2 → tie.Else-list-wide
+else_list_wide_of_else_list_wide_2 c = c.before.before.before.before.before
+
+abbrev else_not_is_side_2_of_else_list_wide_2 : tie.Else-list-wide-2 → tie.Else-not-is_side-2
+else_not_is_side_2_of_else_list_wide_2 c = (else_list_wide_of_else_list_wide_2 c).before.before
+
+abbrev else_not_is_side_of_else_list_wide_2 : tie.Else-list-wide-2 → tie.Else-not-is_side
+else_not_is_side_of_else_list_wide_2 c = (else_not_is_side_2_of_else_list_wide_2 c).before.before
 
 returns_3 : tie.Need-returns-then-list-wide
 returns_3 c =
-    all_handed _ _ (from_side (not_is_side_of_list_wide c)) (to_side c.before.before) (omega arith)
+    all_handed _ _ (from_side (else_not_is_side_of_then_list_wide c)) (to_side c.before.before) (omega arith)
 
 ring_next_requires : tie.Need-ring_next-turn-requires
 ring_next_requires c κs = (c.requires, holds (to_side c.before.before))
@@ -77,11 +86,11 @@ enum_told c = search rules
 
 returns_4 : tie.Need-returns-in_default
 returns_4 c =
-    no_turn _ _ (from_side (not_is_side_of_in_default c)) (to_side (not_is_side_2_of_in_default c)) (in_count c.before.before) (broken_of c.ring_next-turn.ensures c.in_default.is)
+    no_turn _ _ (from_side (else_not_is_side_of_in_default c)) (to_side (else_not_is_side_2_of_in_default c)) (in_count c.before.before) (broken_of c.ring_next-turn.ensures c.in_default.is)
 
 returns_5 : tie.Need-returns-then-t-eq0
 returns_5 c =
-    ring_over _ _ (from_side (not_is_side_of_t_eq0 c)) (to_side (not_is_side_2_of_t_eq0 c)) (in_count c.before.before.before) _ (value_of c.ring_next-turn.ensures c.in-Value.is)
+    ring_over _ _ (from_side (else_not_is_side_of_then_t_eq0 c)) (to_side (else_not_is_side_2_of_then_t_eq0 c)) (in_count c.before.before.before) _ (value_of c.ring_next-turn.ensures c.in-Value.is)
     c.if-t-eq0.true
 
 wide_requires_2 : tie.Need-wide-requires-2
@@ -92,12 +101,12 @@ add_if5 c = search rules
 
 returns_6 : tie.Need-returns-then-list-wide-2
 returns_6 c =
-    overlong _ _ (from_side (not_is_side_of_list_wide_2 c)) (to_side (not_is_side_2_of_list_wide_2 c)) (in_count (list_wide_of_list_wide_2 c)) _ (value_of c.ring_next-turn.ensures c.in-Value.is)
+    overlong _ _ (from_side (else_not_is_side_of_then_list_wide_2 c)) (to_side (else_not_is_side_2_of_then_list_wide_2 c)) (in_count (else_list_wide_of_then_list_wide_2 c)) _ (value_of c.ring_next-turn.ensures c.in-Value.is)
     c.if-t-eq0.false (omega (arith, c.if-list-wide-2.true, c.wide-2.ensures))
 
 returns_7 : tie.Need-returns
 returns_7 c =
-    ring_on _ _ (from_side (not_is_side_of_list_wide_2 c)) (to_side (not_is_side_2_of_list_wide_2 c)) (in_count (list_wide_of_list_wide_2 c)) _ (value_of c.ring_next-turn.ensures c.in-Value.is)
+    ring_on _ _ (from_side (else_not_is_side_of_else_list_wide_2 c)) (to_side (else_not_is_side_2_of_else_list_wide_2 c)) (in_count (else_list_wide_of_else_list_wide_2 c)) _ (value_of c.ring_next-turn.ensures c.in-Value.is)
     c.if-t-eq0.false (omega (arith, c.if-list-wide-2.false, c.wide-2.ensures))
 
 pub goes_to_spec : {M : Type 1} → statement M
