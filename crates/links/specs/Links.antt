@@ -14,7 +14,7 @@ use Rattle.lists.specs.Search.{at}
 use Rattle.lists.specs.SearchLaws.{lt_or_eq, at_blank}
 use Rattle.lists.specs.Stores.{at_same, at_other}
 use Rattle.lists.specs.Parts.{part, length_part, part_take, put_take}
-use Rattle.rules.specs.Elements.{elements, corner, Side, slot, side_at, first_side}
+use Rattle.rules.specs.Elements.{corner, Side, slot, side_at, first_side}
 use Rattle.rules.specs.Recovery.{side_of_border}
 use Rattle.theory.specs.Sides.{SidesBy, three, four, sides_by_lem, side_of_lem, slot_side_at, slot_below, slot_less}
 use Rattle.theory.specs.Least.{First, first_is}

@@ -6,7 +6,7 @@ use Rattle.std.proofs.Common.{◌∙◌, inl, drop-drop}
 use native.Mathlib.Omega.{arith}
 use Rattle.lists.specs.TestLaws.{twice, means_both, means_within, means_eq, passed, true_of}
 use Rattle.lists.specs.Search.{at}
-use Rattle.digits.specs.Digits.{digit, value}
+use Rattle.digits.specs.Digits.{digit}
 use Rattle.digits.specs.Counting.{value_seven}
 use Rattle.off_rules.specs.Off.{Item, items, item, word, past_digits, is_whole, number_of, the_n, the_m, is_good}
 use Rattle.off_items.specs.Scanning.{first_is}

@@ -1,6 +1,6 @@
 -- The rows of the faces, read one after another from a text that was judged.
 -- Assumes nothing.
-use Rattle.std.specs.Prelude.{◌≡◌, true, false, not, List, [], ◌∷◌, ◌++◌, ℕ, suc, ◌+◌, ◌*◌, ◌-◌, ◌/◌, ◌%◌, ◌≤◌, ◌<◌, T, leb, length, get_or, set, replicate}
+use Rattle.std.specs.Prelude.{◌≡◌, true, false, not, List, ◌++◌, ℕ, suc, ◌+◌, ◌*◌, ◌-◌, ◌/◌, ◌%◌, ◌≤◌, ◌<◌, T, leb, length, get_or, set, replicate}
 use Rattle.std.proofs.Math.Path.{refl, ap}
 use Rattle.std.proofs.Common.{sym, subst, ◌∙◌, add-one, drop-drop, le-leb, eqb-true}
 use Rattle.std.proofs.Math.Logic.{inl, inr}

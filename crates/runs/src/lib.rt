@@ -1,3 +1,3 @@
-// Theorems about runs of the calls, from end to end; they stand in specs/.
+// Theorems about runs of the calls, from end to end; they stand in proofs/, over the records of specs/.
 #![tactic(auto)]
 

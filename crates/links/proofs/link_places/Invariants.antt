@@ -1,6 +1,6 @@
 -- `links::link_places` meets its contract: the places from p on are done.
 -- Assumes nothing.
-use Prim.Native.Nat.{◌*◌, ◌-◌, ◌≤◌}
+use Prim.Native.Nat.{◌*◌, ◌≤◌}
 use Rattle.links.specs.Links.{Linking}
 use Rattle.links.proofs.link_places.Given as goal
 
