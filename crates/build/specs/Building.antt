@@ -7,7 +7,6 @@ use mathlib.Core.List.{List, ◌++◌}
 use Rattle.std.proofs.Math.ListN.{replicate}
 use Rattle.std.proofs.Math.Seq.{take-append_seam}
 use Rattle.lists.specs.TestLaws.{means_eq}
-use Rattle.lists.specs.Search.{at}
 use Rattle.lists.specs.Parts.{part, part_take}
 use Rattle.rules.specs.Elements.{max_vertex, max_element, elements}
 use Rattle.rules.specs.Pairing.{sizes_fit, unfit_corner, repeated_corner}

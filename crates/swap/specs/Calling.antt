@@ -1,6 +1,6 @@
 -- The whole call, in buffers that may be longer than what they hold.
 -- Assumes nothing.
-use Rattle.std.specs.Prelude.{◌≡◌, ℕ, ◌+◌, ◌*◌, ◌≤◌, length}
+use Rattle.std.specs.Prelude.{◌≡◌, ℕ, ◌*◌, ◌≤◌, length}
 use Rattle.std.proofs.Math.Path.{refl, ap, sym}
 use Rattle.std.proofs.Common.{◌∙◌, arith, take-append-drop, length-take-le}
 use Rattle.std.proofs.Math.Bool.{true}

@@ -1,6 +1,5 @@
 -- `gaps::is_used` meets its contract: before p no entry is v.
 -- Assumes nothing.
-use Prim.Native.Nat.{◌-◌}
 use native.Mathlib.Omega.{arith}
 use borrow.Author.Count.{below_more}
 use Rattle.gaps.specs.Asking.{used, unused}
