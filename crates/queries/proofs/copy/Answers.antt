@@ -1,6 +1,5 @@
 -- `queries::copy` is safe and ends: the measure is what is left of the table.
 -- Assumes nothing.
-use Prim.Native.Nat.{◌-◌}
 use native.Mathlib.Omega.{arith}
 use Rattle.queries.proofs.copy.Goals as goal
 

@@ -1,6 +1,5 @@
 -- `queries::fill` is safe and ends: the measure is how many are left.
 -- Assumes nothing.
-use Prim.Native.Nat.{◌-◌}
 use native.Mathlib.Omega.{arith}
 use Rattle.queries.proofs.fill.Goals as goal
 

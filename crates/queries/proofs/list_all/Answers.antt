@@ -1,6 +1,5 @@
 -- `queries::list_all` is safe and ends: the measure is how many are left.
 -- Assumes nothing.
-use Prim.Native.Nat.{◌-◌}
 use native.Mathlib.Omega.{arith}
 use Rattle.queries.proofs.list_all.Goals as goal
 

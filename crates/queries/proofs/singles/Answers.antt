@@ -1,6 +1,5 @@
 -- `queries::singles` is safe and ends: the measure is how many letters are left.
 -- Assumes nothing.
-use Prim.Native.Nat.{◌-◌}
 use native.Mathlib.Omega.{arith}
 use Rattle.queries.proofs.singles.Goals as goal
 

@@ -1,6 +1,5 @@
 -- `queries::step_on` is safe and ends: the measure is how many steps are left.
 -- Assumes nothing.
-use Prim.Native.Nat.{◌-◌}
 use native.Mathlib.Omega.{arith}
 use Rattle.queries.proofs.step_on.Goals as goal
 

@@ -1,6 +1,5 @@
 -- `queries::walk_all` is safe and ends: the measure is how many are left.
 -- Assumes nothing.
-use Prim.Native.Nat.{◌-◌}
 use native.Mathlib.Omega.{arith}
 use Rattle.queries.proofs.walk_all.Goals as goal
 

@@ -1,6 +1,5 @@
 -- `sibling_cases::emit_rows` is safe and ends: the measure is the number of rows that are left.
 -- Assumes nothing.
-use Prim.Native.Nat.{◌-◌}
 use native.Mathlib.Omega.{arith}
 use Rattle.sibling_cases.proofs.emit_rows.Goals as goal
 
