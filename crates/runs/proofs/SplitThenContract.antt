@@ -4,7 +4,7 @@
 use Rattle.std.specs.Prelude.{◌≡◌, refl, List, ℕ, ◌+◌, ◌*◌, ◌-◌, ◌≤◌, T, Float, length, take}
 use Rattle.std.proofs.Common.{ap, sym, subst, ◌∙◌, inl, inr, arith}
 use Rattle.lists.specs.TestLaws.{zero_or}
-use Rattle.rules.specs.Elements.{elements, destination}
+use Rattle.rules.specs.Elements.{destination}
 use Rattle.rules.specs.Pairing.{Accepted}
 use Rattle.rules.specs.Tables.{partner, borders, edges}
 use Rattle.rules.specs.Refusals.{Answer, gives}

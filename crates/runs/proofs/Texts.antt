@@ -2,7 +2,7 @@
 -- Assumes nothing.
 use Rattle.std.proofs.Math.Path.{◌≡◌}
 use Rattle.std.proofs.Common.{ap, sym, ◌∙◌, arith, take_at, drop_at}
-use Rattle.std.specs.Prelude.{true, false, not, List, ◌++◌, ℕ, ◌+◌, ◌*◌, ◌≤◌, T, leb, eqb, length, take, drop}
+use Rattle.std.specs.Prelude.{true, false, not, List, ◌++◌, ℕ, ◌*◌, ◌≤◌, T, leb, eqb, length, take, drop}
 use borrow.Author.Tests.{eq-eqb, le-leb}
 use Rattle.lists.specs.Tests.{within}
 use Rattle.lists.specs.SearchLaws.{length_tab}

@@ -10,7 +10,7 @@ use Rattle.std.proofs.Common.{sym, subst, ◌∙◌}
 use Rattle.std.proofs.Math.Logic.{inl, inr}
 use native.Mathlib.Omega.{arith}
 use Rattle.std.proofs.Math.Dec.{T, not_T}
-use Rattle.lists.specs.Tests.{both, within}
+use Rattle.lists.specs.Tests.{within}
 use Rattle.lists.specs.TestLaws.{true_of, false_of, means_itself, means_either, means_not, means_eq, means_within}
 use Rattle.lists.specs.SearchLaws.{le_or_lt}
 use Rattle.rules.specs.Elements.{Side, is_side}
