@@ -1,6 +1,5 @@
 -- `contract_cases::run_all` is safe and ends: the measure is what is left of the text.
 -- Assumes nothing.
-use Prim.Native.Nat.{◌-◌}
 use native.Mathlib.Omega.{arith}
 use Rattle.contract_cases.proofs.run_all.Goals as goal
 

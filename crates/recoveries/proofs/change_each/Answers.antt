@@ -1,6 +1,5 @@
 -- `recoveries::change_each` is safe and ends: the measure is what is left of the entries.
 -- Assumes nothing.
-use Prim.Native.Nat.{◌-◌}
 use native.Mathlib.Omega.{arith}
 use Rattle.recoveries.proofs.change_each.Goals as goal
 

@@ -1,6 +1,5 @@
 -- `recoveries::run_all` is safe and ends: the measure is what is left of the text.
 -- Assumes nothing.
-use Prim.Native.Nat.{◌-◌}
 use native.Mathlib.Omega.{arith}
 use Rattle.recoveries.proofs.run_all.Goals as goal
 
