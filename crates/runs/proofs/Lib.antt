@@ -14,6 +14,8 @@ pub mod SplitPoints
 pub mod Contractions
 pub mod ContractionPoints
 pub mod SplitThenContract
+pub mod PointsBack
+pub mod SplitShapes
 pub mod Shapes
 pub mod SwapBack
 pub mod Texts

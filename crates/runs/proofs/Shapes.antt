@@ -2,7 +2,7 @@
 -- contract calls from an accepted element list, refused calls included, each given the n, m and list that the one before left, this number
 -- after them is the one before".
 -- Assumes nothing.
-use Rattle.std.specs.Prelude.{◌≡◌, Bool, false, List, [], ◌∷◌, ℕ, ◌+◌, ◌-◌, ℤ, Float, length}
+use Rattle.std.specs.Prelude.{◌≡◌, Bool, false, List, [], ◌∷◌, ℕ, ◌+◌, ◌-◌, Float, length}
 use Rattle.std.proofs.Math.Path.{refl, ap, sym}
 use Rattle.std.proofs.Common.{subst, ◌∙◌, inl, inr, arith}
 use Rattle.std.proofs.Math.Dec.{T}
@@ -12,12 +12,10 @@ use Rattle.rules.specs.Tables.{partner}
 use Rattle.rules.specs.Refusals.{Answer, gives, refused, Buffers, build_lengths, list_answer, length_checks, room_check, build_answer}
 use Rattle.edit_rules.specs.Edits.{Edited, Lent, held, once_accepted}
 use Rattle.edit_rules.specs.Swap.{swapped}
-use Rattle.edit_rules.specs.Split.{split_at}
 use Rattle.edit_rules.specs.Contract.{contracted}
 use Rattle.edit_rules.specs.Shape.{joined_pairs, shape, signed, shape_lengths, list_shape, shape_answer}
 use Rattle.theory.specs.Orders.{good}
 use Rattle.theory.specs.Replacing.{same_size}
-use Rattle.theory.specs.SplitCounts.{grown_inner, grown_border}
 use Rattle.theory.specs.ContractCounts.{fallen_inner, fallen_border}
 use Rattle.theory.specs.Unpinched.{unpinched, keeps_used}
 use Rattle.theory.specs.Answers.{accepted_answer, list_never}
@@ -29,46 +27,8 @@ use Rattle.runs.proofs.Edits as edits
 use Rattle.runs.proofs.Swaps as swaps
 use Rattle.runs.proofs.Splits as splits
 use Rattle.runs.proofs.Contractions as contractions
-
--- n, m and the list: what one call hands on to the next
-pub record Handed : Type 0 where
-  pub n : ℕ
-  pub m : ℕ
-  pub list : List ℕ
-
-abbrev pub handed : Lent → Handed
-handed w = record { n = w.n; m = w.m; list = held w }
-
--- its elements are counted in the list
-abbrev pub number : Handed → ℤ
-number h = shape h.n h.list
-
--- one call, as it was made: with any code, any points and any buffers
-pub data Call (w : Lent) (a : Answer) (w' : Lent) : Type 0 where
-  swapping : (s : ℕ) → SwapRun w s a w' → Call w a w'
-  splitting : (P P' : List Float) (s : ℕ) → SplitRun w P s a w' P' → Call w a w'
-  contracting : (P P' : List Float) (s : ℕ) → ContractRun w P s a w' P' → Call w a w'
-
-pub record Made : Type 0 where
-  pub lent : Lent
-  pub answer : Answer
-  pub left : Lent
-  pub call : Call lent answer left
-
--- "each given the n, m and list that the one before left", the first of them those of h
-abbrev pub Follow : Handed → List Made → Type 0
-Follow h [] = Unit {0}
-Follow h (c ∷ cs) = (handed c.lent ≡ h) × Follow (handed c.left) cs
-
--- what the last of them left
-abbrev pub after : Handed → List Made → Handed
-after h [] = h
-after h (c ∷ cs) = after (handed c.left) cs
-
--- what is left has the number of what was there, and is accepted where that was
-pub record Keeps (h h' : Handed) : Type 0 where
-  pub same : number h' ≡ number h
-  pub accepted : Accepted h.n h.list → Accepted h'.n h'.list
+use Rattle.runs.specs.Shapes.{Handed, handed, number, Call, Made, Follow, after, Keeps, swapping, splitting, contracting}
+use Rattle.runs.proofs.SplitShapes.{split_same}
 
 -- after an answer, with n' and the list L'
 lands : (w w' : Lent) {n' : ℕ} {L' : List ℕ} → w'.n ≡ n' → held w' ≡ L' → Accepted n' L' → shape n' L' ≡ shape w.n (held w) → Keeps (handed w) (handed w')
@@ -97,23 +57,6 @@ swap_keeps w s a w' run k e gave =
     let edged = swaps.edges_stay w.n (held w) s y.old y.diagonal y.new in
     lands w w' (swaps.sizes_stay w s a w' run gave).0 (swaps.list_left w s a w' run gave) y.new
     (same_shape w.n (held w) w.n (swapped (held w) s) y.old y.new (omega (arith, sized, edged)))
-
--- a split makes a vertex more, with two elements and three edges, or with one element and two edges
-pub split_same : (w : Lent) (P : List Float) (s : ℕ) (a : Answer) (w' : Lent) (P' : List Float) → SplitRun w P s a w' P' → {k e : ℕ} → a ≡ gives k e
-    → shape (w.n + 1) (split_at (held w) s (w.n + 1)) ≡ shape w.n (held w)
-split_same w P s a w' P' run gave =
-    let y = (splits.answered w P s a w' P' run).0 gave in
-    let g = good w.n (held w) y.old in
-    let h = y.holds in
-    let new = splits.accepted w P s a w' P' run gave in
-    elim (decide (means_eq (partner (held w) s) 0)) [
-      | inl z ↦
-          grown_shape w.n (held w) (w.n + 1) _ y.old new refl
-          (grown_border w.n (held w) g y.old.meeting s y.splittable h.vertices h.size z) refl
-      | inr z ↦
-          grown_shape w.n (held w) (w.n + 1) _ y.old new refl
-          (grown_inner w.n (held w) g y.old.meeting s y.splittable h.vertices h.size z) refl
-    ]
 
 split_keeps : (w : Lent) (P : List Float) (s : ℕ) (a : Answer) (w' : Lent) (P' : List Float) → SplitRun w P s a w' P'
     → (k e : ℕ) → a ≡ gives k e → Keeps (handed w) (handed w')

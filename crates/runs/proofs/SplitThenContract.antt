@@ -20,7 +20,6 @@ use Rattle.runs.specs.Runs.{SplitRun, ContractRun, LeftBy}
 use Rattle.runs.proofs.Edits as edits
 use Rattle.runs.proofs.Edits.{mesh_in}
 use Rattle.runs.proofs.Splits.{Answered, answered, accepted, list_left, one_more, inner_grows, border_grows, fit_still}
-use Rattle.runs.proofs.SplitPoints as split-points
 use Rattle.runs.proofs.ContractionPoints as points
 
 module _ (w : Lent) (P : List Float) (s : ℕ) (a : Answer) (w' : Lent) (P' : List Float) (run : SplitRun w P s a w' P')
@@ -91,8 +90,3 @@ module _ (w : Lent) (P : List Float) (s : ℕ) (a : Answer) (w' : Lent) (P' : Li
     points_back =
         let e : 3 * (destination (held w') s - 1) ≡ 3 * n = omega (arith, goes) in
         ap (λ (j : ℕ). take j Q') (sym e) ∙ points.points_before w' Q s b w'' Q' again answers ∙ ap (λ (j : ℕ). take j Q) e
-
-  -- over the points that the split left: the old ones
-  pub old_points_back : (b : Answer) (w'' : Lent) (P'' : List Float) → ContractRun w' P' s b w'' P'' → take (3 * n) P'' ≡ take (3 * n) P
-  old_points_back b w'' P'' again =
-      points_back P' (split-points.points_enough w P s a w' P' run gave) b w'' P'' again ∙ split-points.points_before w P s a w' P' run gave
