@@ -61,18 +61,6 @@ wide_requires_2 c κs = search rules
 refuse_at_requires : tie.Need-refuse_at-requires
 refuse_at_requires c κs = search rules
 
-same_length_2 : tie.Need-shape_of-work-then-b2e-k
-same_length_2 c = search rules
-
-returns_2 : tie.Need-returns-then-b2e-k
-returns_2 c =
-    short_on (scratch c.before.before.before.before.before.before) (ap numbers c.in-Gives.is) c.wide-k.ensures c.if-b2e-k.true c.refuse_at.ensures
-
-commit_requires : tie.Need-commit-requires
-commit_requires c κs =
-    commits (known c.before.before.before.before.before.before.before.before.before.before.before.before.before.before.before.before) (scratch c.before.before.before.before.before.before.before.before) (ap numbers c.in-Gives.is) c.wide-vertices.ensures c.wide-k.ensures
-    c.args.b2e.now c.if-b2e-k.false c.requires.1
-
 same_length_3 : tie.Need-shape_of-v2e
 same_length_3 c = search rules
 
@@ -84,11 +72,6 @@ same_length_5 c = search rules
 
 same_length_6 : tie.Need-shape_of-work
 same_length_6 c = search rules
-
-returns_3 : tie.Need-returns
-returns_3 c =
-    counts_on (known c.before.before.before.before.before.before.before.before.before.before.before.before.before.before.before.before.before.before.before.before.before.before.before) (scratch c.before.before.before.before.before.before.before.before.before.before.before.before.before.before.before) (ap numbers c.in-Gives.is) c.wide-vertices.ensures c.wide-k.ensures
-    c.args.b2e.now c.if-b2e-k.false c.requires.1 c.commit.ensures
 
 pub build_fit_spec : {M : Type 1} → statement M
 build_fit_spec =
@@ -107,11 +90,16 @@ build_fit_spec =
     returns
     wide_requires_2
     refuse_at_requires
-    same_length_2
-    returns_2
-    commit_requires
+    (λ c. search rules)
+    (λ c.
+    short_on (scratch c.before.before.before.before.before.before) (ap numbers c.in-Gives.is) c.wide-k.ensures c.if-b2e-k.true c.refuse_at.ensures)
+    (λ c κs.
+    commits (known c.before.before.before.before.before.before.before.before.before.before.before.before.before.before.before.before) (scratch c.before.before.before.before.before.before.before.before) (ap numbers c.in-Gives.is) c.wide-vertices.ensures c.wide-k.ensures
+    c.args.b2e.now c.if-b2e-k.false c.requires.1)
     same_length_3
     same_length_4
     same_length_5
     same_length_6
-    returns_3)
+    (λ c.
+    counts_on (known c.before.before.before.before.before.before.before.before.before.before.before.before.before.before.before.before.before.before.before.before.before.before.before) (scratch c.before.before.before.before.before.before.before.before.before.before.before.before.before.before.before) (ap numbers c.in-Gives.is) c.wide-vertices.ensures c.wide-k.ensures
+    c.args.b2e.now c.if-b2e-k.false c.requires.1 c.commit.ensures))
