@@ -77,14 +77,6 @@ is_triangle_requires_2 c κs =
     let (e, d) = known c.before in
     omega (arith, row_inside L (partner L a.s) (partner_opposed L a.s d).0, c.element_of-2.ensures, ap (λ (t : ℕ). t / 8) e)
 
-returns_4 : tie.Need-returns
-returns_4 c =
-    let a = c.args in
-    let (e, d) = known c.before.before in
-    c.is_triangle-2.ensures
-    ∙ ap (λ (g : ℕ). eqb (sides a.list.now g) 3) (c.element_of-2.ensures ∙ ap (λ (t : ℕ). t / 8) e)
-    ∙ sym (by_across a.list.now a.s (side c.before.before.before.before.before.before.before.before) (triangle c.before.before.before.before.before) d)
-
 pub is_splittable_spec : {M : Type 1} → statement M
 is_splittable_spec =
     tie.close
@@ -99,4 +91,9 @@ is_splittable_spec =
     returns_3
     element_of_requires_2
     is_triangle_requires_2
-    returns_4)
+    (λ c.
+    let a = c.args in
+    let (e, d) = known c.before.before in
+    c.is_triangle-2.ensures
+    ∙ ap (λ (g : ℕ). eqb (sides a.list.now g) 3) (c.element_of-2.ensures ∙ ap (λ (t : ℕ). t / 8) e)
+    ∙ sym (by_across a.list.now a.s (side c.before.before.before.before.before.before.before.before) (triangle c.before.before.before.before.before) d)))
