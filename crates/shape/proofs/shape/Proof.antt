@@ -64,11 +64,6 @@ clear_requires c κs = search rules
 same_length : tie.Need-shape_of-work
 same_length c = search rules
 
-returns_3 : tie.Need-returns
-returns_3 c =
-    let a = c.args in
-    done a.n a.list.now a.work.now (fit c.before.before.before.before.before.before.before.before) c.shape_fit-a.ensures c.clear.ensures
-
 pub shape_spec : {M : Type 1} → statement M
 shape_spec =
     tie.close
@@ -84,4 +79,6 @@ shape_spec =
     shape_fit_requires
     clear_requires
     same_length
-    returns_3)
+    (λ c.
+    let a = c.args in
+    done a.n a.list.now a.work.now (fit c.before.before.before.before.before.before.before.before) c.shape_fit-a.ensures c.clear.ensures))

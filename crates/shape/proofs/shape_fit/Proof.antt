@@ -71,11 +71,6 @@ give_signed_requires c κs = few c
 same_length_2 : tie.Need-shape_of-work
 same_length_2 c = search rules
 
-returns_2 : tie.Need-returns
-returns_2 c =
-    let x = known c.before.before.before.before.before.before.before.before.before in
-    (gives_number x (stated c.before.before.before.before) (ap numbers c.in-Gives.is) c.give_signed.ensures, as_long x c.wide.ensures c.tabulate-t.ensures)
-
 pub shape_fit_spec : {M : Type 1} → statement M
 shape_fit_spec =
     tie.close
@@ -95,4 +90,6 @@ shape_fit_spec =
     add_give_signed
     give_signed_requires
     same_length_2
-    returns_2)
+    (λ c.
+    let x = known c.before.before.before.before.before.before.before.before.before in
+    (gives_number x (stated c.before.before.before.before) (ap numbers c.in-Gives.is) c.give_signed.ensures, as_long x c.wide.ensures c.tabulate-t.ensures)))
