@@ -70,11 +70,6 @@ same_length c = search rules
 same_length_2 : tie.Need-shape_of-work-in_default
 same_length_2 c = search rules
 
-returns : tie.Need-returns-in_default
-returns c =
-    let a = c.args in
-    (old_refused a.n a.list.now (edit c.before.before.before.before.before.before.before.before.before.before.before) (room c.before.before.before.before.before.before.before.before.before.before.before) (scratch c.before.before.before).stated (ap numbers c.in_default.is), (scratch c.before.before.before).long)
-
 is_there_requires : tie.Need-is_there-requires
 is_there_requires c κs = let (x, y, g) = old c in number x y g
 
@@ -154,7 +149,9 @@ swap_fit_spec =
     enum_told
     same_length
     same_length_2
-    returns
+    (λ c.
+    let a = c.args in
+    (old_refused a.n a.list.now (edit c.before.before.before.before.before.before.before.before.before.before.before) (room c.before.before.before.before.before.before.before.before.before.before.before) (scratch c.before.before.before).stated (ap numbers c.in_default.is), (scratch c.before.before.before).long))
     is_there_requires
     refuse_requires
     same_length_3

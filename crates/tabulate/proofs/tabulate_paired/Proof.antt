@@ -46,11 +46,6 @@ refuse_at_requires_2 c κs = search rules
 same_length_2 : tie.Need-shape_of-work-then-f-ne0
 same_length_2 c = search rules
 
-returns_2 : tie.Need-returns-then-f-ne0
-returns_2 c =
-    refuses_18 (tables c.before.before.before.before.before.before.before) (ordered (tables c.before.before.before.before.before.before.before) c.is_ordered.ensures (not-false _ c.if-not-is_ordered.false-raw)) c.requires.1 c.if-f-ne0.true c.clash_of.ensures
-    c.refuse_at-then-f-ne0.ensures
-
 add_give_two : tie.Need-overflow_add-sides
 add_give_two c = omega (arith, few (tables c.before.before.before.before.before))
 
@@ -78,7 +73,7 @@ tabulate_paired_spec =
     clash_of_requires
     refuse_at_requires_2
     same_length_2
-    returns_2
+    (λ c. refuses_18 (tables c.before.before.before.before.before.before.before) (ordered (tables c.before.before.before.before.before.before.before) c.is_ordered.ensures (not-false _ c.if-not-is_ordered.false-raw)) c.requires.1 c.if-f-ne0.true c.clash_of.ensures c.refuse_at-then-f-ne0.ensures)
     add_give_two
     give_two_requires
     same_length_3
