@@ -6,10 +6,15 @@ use Prim.Native.Nat.{◌<◌}
 use borrow.Author.Rules.{rules}
 use borrow.Author.Tests.{not-true, not-false}
 use lib.ListN.{length}
+use Rattle.std.specs.Prelude.{Bool, true, T, ◌≡◌}
 use Rattle.theory.specs.Sides.{side_from, slot_below}
 use Rattle.walk.specs.Sides.{turn_none, turn_next}
 use Rattle.walk.proofs.turn.Statement.{statement}
 use Rattle.walk.proofs.turn.Tie as tie
+
+-- what holds by its test
+shown : {b : Bool} → b ≡ true → T b
+shown e = rw e tt
 
 -- the place of s is in E2e
 place : (c : tie.After-slot_of) → c.slot_of.result < length c.args.e2e.now
@@ -32,7 +37,7 @@ returns c =
     turn_none _ _ c.slot_of.ensures c.is_side.ensures (not-true _ c.if-not-is_side.true-raw)
 
 next_by_row_requires : tie.Need-next_by_row-requires
-next_by_row_requires c κs = rw (sym c.is_side.ensures ∙ not-false _ c.if-not-is_side.false-raw) tt
+next_by_row_requires c κs = search (rules, shown (sym c.is_side.ensures ∙ not-false _ c.if-not-is_side.false-raw))
 
 returns_2 : tie.Need-returns
 returns_2 c =
