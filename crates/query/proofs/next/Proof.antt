@@ -1,53 +1,9 @@
--- `query::next` meets its contract: along the border, or within the element.
+-- `query::next` meets its contract, by its walk.
 -- Assumes nothing.
-use Rattle.admission.proofs.Admitted.{Asked, asks, turned_away}
-use Rattle.reads.specs.Meshes.{mesh}
-use Rattle.rules.specs.Queries.{found, next_answer}
-use borrow.Author.Rules.{rules}
-use mathlib.Core.Option.{some}
-use mathlib.Core.Path.{ap}
+mod Walk
+use Rattle.query.proofs.next.Proof.Walk.{half_edge_refusal_requires, refuse_requires, returns, is_border_requires, border_next_requires, found_requires, returns_2, next_code_requires, give_requires, returns_3}
 use Rattle.query.proofs.next.Statement.{statement}
 use Rattle.query.proofs.next.Tie as tie
-
-asked :
-    (c : tie.After-is_border) → let a = c.args in
-    Asked (mesh a.n a.columns a.list.now a.v2e.now a.e2e.now a.b2e.now) a.code c.is_border.result
-asked c = asks _ _ c.half_edge_refusal-refusal.ensures c.if-refusal-gt0.false c.is_border.ensures
-
-half_edge_refusal_requires : tie.Need-half_edge_refusal-refusal-requires
-half_edge_refusal_requires c κs = search rules
-
-refuse_requires : tie.Need-refuse-requires
-refuse_requires c κs = search rules
-
-returns : tie.Need-returns-then-refusal-gt0
-unfolding next_answer
-returns c = turned_away _ c.half_edge_refusal-refusal.ensures _ c.if-refusal-gt0.true c.refuse.ensures
-
-is_border_requires : tie.Need-is_border-requires
-is_border_requires c κs = search rules
-
-border_next_requires : tie.Need-border_next-requires
-border_next_requires c κs = ((asked c.before).fit, (asked c.before).border c.if-is_border.true)
-
-found_requires : tie.Need-found-requires
-found_requires c κs = search rules
-
-returns_2 : tie.Need-returns-then-is_border
-unfolding next_answer
-returns_2 c =
-    (asked c.before.before.before).border_found _ _ c.if-is_border.true c.found.ensures c.border_next.ensures
-
-next_code_requires : tie.Need-next_code-requires
-next_code_requires c κs = (asked c.before).side c.if-is_border.false
-
-give_requires : tie.Need-give-requires
-give_requires c κs = search rules
-
-returns_3 : tie.Need-returns
-unfolding next_answer found
-returns_3 c =
-    (asked c.before.before.before).side_found _ _ c.if-is_border.false c.give.ensures (ap some c.next_code.ensures)
 
 pub next_spec : {M : Type 1} → statement M
 next_spec =

@@ -1,51 +1,9 @@
--- `query::origin` meets its contract: one reader of a border, another of a side.
+-- `query::origin` meets its contract, by its walk.
 -- Assumes nothing.
-use Rattle.admission.proofs.Admitted.{Asked, asks, turned_away}
-use Rattle.reads.specs.Meshes.{mesh}
-use Rattle.rules.specs.Queries.{origin_answer}
-use borrow.Author.Rules.{rules}
+mod Walk
+use Rattle.query.proofs.origin.Proof.Walk.{half_edge_refusal_requires, refuse_requires, returns, is_border_requires, border_origin_requires, found_requires, returns_2, read_origin_requires, found_requires_2, returns_3}
 use Rattle.query.proofs.origin.Statement.{statement}
 use Rattle.query.proofs.origin.Tie as tie
-
-asked :
-    (c : tie.After-is_border) → let a = c.args in
-    Asked (mesh a.n a.columns a.list.now a.v2e.now a.e2e.now a.b2e.now) a.code c.is_border.result
-asked c = asks _ _ c.half_edge_refusal-refusal.ensures c.if-refusal-gt0.false c.is_border.ensures
-
-half_edge_refusal_requires : tie.Need-half_edge_refusal-refusal-requires
-half_edge_refusal_requires c κs = search rules
-
-refuse_requires : tie.Need-refuse-requires
-refuse_requires c κs = search rules
-
-returns : tie.Need-returns-then-refusal-gt0
-unfolding origin_answer
-returns c = turned_away _ c.half_edge_refusal-refusal.ensures _ c.if-refusal-gt0.true c.refuse.ensures
-
-is_border_requires : tie.Need-is_border-requires
-is_border_requires c κs = search rules
-
-border_origin_requires : tie.Need-border_origin-requires
-border_origin_requires c κs = (asked c.before).border c.if-is_border.true
-
-found_requires : tie.Need-found-requires
-found_requires c κs = search rules
-
-returns_2 : tie.Need-returns-then-is_border
-unfolding origin_answer
-returns_2 c =
-    (asked c.before.before.before).border_found _ _ c.if-is_border.true c.found.ensures c.border_origin.ensures
-
-read_origin_requires : tie.Need-read_origin-requires
-read_origin_requires c κs = (asked c.before).side c.if-is_border.false
-
-found_requires_2 : tie.Need-found-requires-2
-found_requires_2 c κs = search rules
-
-returns_3 : tie.Need-returns
-unfolding origin_answer
-returns_3 c =
-    (asked c.before.before.before).side_found _ _ c.if-is_border.false c.found-2.ensures c.read_origin.ensures
 
 pub origin_spec : {M : Type 1} → statement M
 origin_spec =
