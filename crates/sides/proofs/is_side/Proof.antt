@@ -60,8 +60,9 @@ returns_4 : tie.Need-returns-then-i-lt4
 returns_4 c =
     let tested = c.before.before in
     let s = split tested in
+    let least : 1 ≤ s.number_of-i.result = omega arith in
     let i : s.number_of-i.result ≤ sides (list s) (f s) = omega (arith, element_sides (list s) (f s)) in
-    simp (by_number tested, le-leb 1 _ c.before.if-i-lt1.false, le-leb _ _ i)
+    simp (by_number tested, le-leb 1 _ least, le-leb _ _ i)
 
 row_at_requires : tie.Need-row_at-requires
 row_at_requires c κs = search rules
