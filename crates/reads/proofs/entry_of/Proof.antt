@@ -6,7 +6,6 @@ use Prim.Native.Nat.{ℕ, ◌*◌, ◌/◌, ◌%◌, ◌≤◌, ◌<◌}
 use native.Mathlib.Omega.{arith}
 use lib.ListN.{length}
 use Rattle.lists.specs.Search.{at}
-use Rattle.lists.specs.SearchLaws.{le_or_lt}
 use Rattle.rules.specs.Elements.{slot}
 use Rattle.rules.specs.Tables.{e2e_slot, entry_of}
 use Rattle.theory.specs.Columns.{entry_within, entry_past}
@@ -35,13 +34,8 @@ four c =
 three : (c : tie.After-number_of) → c.args.columns ≡ 3
 three c = elim c.requires.0 [ inl e ↦ e | inr e ↦ absurd (c.if-columns-eq4.false e) ]
 
-to_three : (c : tie.Else-number_of-eq4) → c.args.s % 8 ≤ 3
-to_three c =
-    let d : c.args.s % 8 ≡ 4 → ⊥ = λ e. c.if-number_of-eq4.false (c.number_of.ensures ∙ e) in
-    let h = c.requires.1.number_to in below _ h d
-  where
-    below : (i : ℕ) → i ≤ 4 → (i ≡ 4 → ⊥) → i ≤ 3
-    below i h d = elim (le_or_lt i 3) [ inl l ↦ l | inr l ↦ absurd (d (omega arith)) ]
+to_three : (c : tie.After-narrow_slot_of) → c.args.s % 8 ≤ 3
+to_three c = omega (arith, c.number_of.ensures, c.requires.1.number_to)
 
 inside₃ : (c : tie.After-narrow_slot_of) → c.narrow_slot_of.result < length c.args.e2e.now
 unfolding e2e_slot
@@ -49,7 +43,7 @@ inside₃ c =
     let told = c.before.before in
     let x = told.requires.1 in
     let row : 3 * (told.args.s / 8) ≤ length told.args.e2e.now = row_by _ (three told) x.row in
-    omega (arith, c.narrow_slot_of.ensures, x.element_from, x.number_from, to_three c.before)
+    omega (arith, c.narrow_slot_of.ensures, x.element_from, x.number_from, to_three c)
 
 slot_of_requires : tie.Need-slot_of-requires
 slot_of_requires c κs = let x = c.requires.1 in (x.element_from, x.number_from)
@@ -88,7 +82,7 @@ returns_3 c =
     let told = here.before.before in
     let a = told.args in
     ap (at a.e2e.now) here.narrow_slot_of.ensures
-    ∙ sym (ap (λ (i : ℕ). entry_of i a.e2e.now a.s) (three told) ∙ entry_within 3 a.e2e.now a.s (to_three here.before))
+    ∙ sym (ap (λ (i : ℕ). entry_of i a.e2e.now a.s) (three told) ∙ entry_within 3 a.e2e.now a.s (to_three here))
 
 pub entry_of_spec : {M : Type 1} → statement M
 entry_of_spec =
