@@ -5,7 +5,7 @@ use Rattle.reads.proofs.Readings.{value_of, broken_of}
 use Rattle.walker.proofs.Walkers.{answers, goes_bound, step_refused, step_over, step_lost, step_moves}
 use Rattle.rules.specs.Refusals.{gives}
 use borrow.Author.Rules.{rules}
-use mathlib.Core.Path.{ap, ◌∙◌}
+use mathlib.Core.Path.{◌≡◌, ap, ◌∙◌}
 use native.Mathlib.Omega.{arith}
 use Rattle.walker.proofs.step_at.Statement.{statement}
 use Rattle.walker.proofs.step_at.Tie as tie
@@ -41,8 +41,9 @@ refuse_requires_2 c κs = search rules
 
 returns_3 : tie.Need-returns-in_default
 returns_3 c =
+    let on : c.args.w.following ≡ 0 → ⊥ = λ e. omega arith in
     answers _ c.refuse-in_default.ensures
-    (step_lost _ _ c.length_refusal-refusal.ensures c.if-refusal-gt0.false c.if-w-eq0.false (broken_of c.goes_to-turn.ensures c.in_default.is))
+    (step_lost _ _ c.length_refusal-refusal.ensures c.if-refusal-gt0.false on (broken_of c.goes_to-turn.ensures c.in_default.is))
 
 element_of_requires : tie.Need-element_of-requires
 element_of_requires c κs = search rules
@@ -60,8 +61,9 @@ add_t17 c =
 
 returns_4 : tie.Need-returns
 returns_4 c =
+    let on : c.args.w.following ≡ 0 → ⊥ = λ e. omega arith in
     answers _ (c.give-2.ensures ∙ ap (λ (i : ℕ). gives i 0) c.element_of.ensures)
-    (step_moves _ _ c.length_refusal-refusal.ensures c.if-refusal-gt0.false c.if-w-eq0.false _
+    (step_moves _ _ c.length_refusal-refusal.ensures c.if-refusal-gt0.false on _
     (value_of c.goes_to-turn.ensures c.in-Value.is))
 
 pub step_at_spec : {M : Type 1} → statement M
