@@ -17,4 +17,4 @@ returns-then-v-d c = means_false (λ k. k.not_d c.if-v-d.true)
 pub returns : goal.returns
 returns c =
     let args = c.args in
-    counts_by args.marks.now args.c args.d args.v c.wide.ensures c.if-v-eq0.false c.if-v-c.false c.if-v-d.false
+    counts_by args.marks.now args.c args.d args.v c.wide.ensures (λ e. omega arith) (λ e. omega arith) (λ e. omega arith)
