@@ -1,12 +1,8 @@
 -- `sibling_map::siblings` meets its contract.
 -- Assumes nothing.
-use Prim.Native.Nat.{ℕ, ◌+◌, ◌*◌, ◌/◌}
 use mathlib.Core.Path.{◌≡◌, sym, ◌∙◌}
-use mathlib.Core.Bool.{Bool, true}
-use mathlib.Core.List.{List}
-use lib.ListN.{length}
+use mathlib.Core.Bool.{true}
 use borrow.Author.Tests.{not-true, not-false}
-use Rattle.rules.specs.Elements.{elements}
 use Rattle.rules.specs.Pairing.{call_sizes, sizes_fit}
 use Rattle.rules.specs.Refusals.{call_lengths}
 use Rattle.rules.specs.Siblings.{sibling_lengths}
