@@ -2,16 +2,14 @@
 -- Assumes nothing.
 use mathlib.Core.Path.{◌≡◌, ap, sym, ◌∙◌}
 use mathlib.Core.Bool.{true, false}
-use Prim.Native.Nat.{◌*◌, ◌≤◌}
+use Prim.Native.Nat.{◌*◌}
 use native.Mathlib.Omega.{arith}
 use borrow.Author.Rules.{rules}
 use lib.ListN.{length}
 use borrow.Author.Tests.{le-leb, lt-leb, not-true, not-false}
-use Rattle.rules.specs.Elements.{max_vertex, max_element}
-use Rattle.edit_rules.specs.Edits.{Edited, Lent, counts_fit, edit_sizes, edit_lengths}
+use Rattle.edit_rules.specs.Edits.{edit_sizes, edit_lengths}
 use Rattle.edit_rules.specs.Split.{has_points, split, split_points, placed}
 use Rattle.edits.specs.Holding.{lent_sized, counts_say, found_short, found_long}
-use Rattle.edits.specs.Fronts.{Ready}
 use Rattle.edits.specs.Pointed.{without_points, with_points, refused_1, refused_2, finished}
 use Rattle.split.proofs.split.Goals as goal
 
