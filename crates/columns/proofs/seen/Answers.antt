@@ -3,6 +3,7 @@
 use mathlib.Core.Path.{◌≡◌, sym, ◌∙◌}
 use mathlib.Core.List.{List}
 use Prim.Native.Nat.{ℕ}
+use native.Mathlib.Omega.{arith}
 use borrow.Author.Tests.{eq-eqb, ne_eqb}
 use Rattle.rules.specs.Tables.{columns}
 use Rattle.rules.specs.Queries.{seen}
@@ -17,7 +18,7 @@ unfolding seen
 believes told L d = rw (ne_eqb told 0 d, seen)
 
 pub returns-then-told-eq0 : goal.returns-then-told-eq0
-returns-then-told-eq0 c = c.columns_of.ensures ∙ sym (looks _ _ c.if-told-eq0.true)
+returns-then-told-eq0 c = c.columns_of.ensures ∙ sym (looks _ _ (omega arith))
 
 pub returns : goal.returns
-returns c = sym (believes _ _ c.if-told-eq0.false)
+returns c = sym (believes _ _ (λ e. omega arith))

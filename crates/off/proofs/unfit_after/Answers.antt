@@ -1,6 +1,8 @@
 -- `off::unfit_after` meets its contract.
 -- Assumes nothing.
 use borrow.Author.Tests.{eq-eqb, ne_eqb, le-leb, lt-leb}
+use Prim.Native.Nat.{◌≤◌}
+use native.Mathlib.Omega.{arith}
 use Rattle.off.specs.Faces.{unfit_after}
 use Rattle.off.proofs.unfit_after.Goals as goal
 
@@ -18,4 +20,6 @@ returns-then-corners-gt4 c = rw (eq-eqb _ _ c.if-unfit-ne0.false, le-leb _ _ c.i
 
 pub returns : goal.returns
 unfolding unfit_after
-returns c = rw (eq-eqb _ _ c.if-unfit-ne0.false, le-leb _ _ c.if-corners-lt3.false, le-leb _ _ c.if-corners-gt4.false, unfit_after)
+returns c =
+    let few : c.args.corners ≤ 4 = omega arith in
+    rw (eq-eqb _ _ c.if-unfit-ne0.false, le-leb _ _ c.if-corners-lt3.false, le-leb _ _ few, unfit_after)

@@ -18,7 +18,7 @@ pub returns-then-text-at-eq10 : goal.returns-then-text-at-eq10
 returns-then-text-at-eq10 c = found_at newline _ c.loop-at.invariant (eq-eqb _ _ c.if-text-at-eq10.true)
 
 pub loop-at-preserved : goal.loop-at-preserved
-loop-at-preserved c = passed_more newline _ c.loop-at.invariant (omega arith) (ne_eqb _ _ c.if-text-at-eq10.false)
+loop-at-preserved c = passed_more newline _ c.loop-at.invariant (omega arith) (ne_eqb _ _ (λ e. omega arith))
 
 pub returns : goal.returns
 returns c = found_end newline _ c.loop-at.invariant (omega arith)
