@@ -1,7 +1,7 @@
 -- `admission::lengths_fit` meets its contract: each way out goes by the tests before it.
 -- Assumes nothing.
 use mathlib.Core.Path.{◌≡◌, ap, sym, ◌∙◌}
-use Prim.Native.Nat.{ℕ, ◌*◌, ◌≤◌}
+use Prim.Native.Nat.{ℕ, ◌*◌}
 use native.Mathlib.Omega.{arith}
 use borrow.Author.Tests.{le-leb, lt-leb, eq-eqb, ne_eqb}
 use Rattle.theory.specs.Columns.{by_bounds, few_entries}
@@ -18,7 +18,7 @@ returns-then-columns-gt4 c =
 pub returns-then-v2e-wide : goal.returns-then-v2e-wide
 returns-then-v2e-wide c =
     let a = c.args in
-    let h : a.v2e ≡ a.n → ⊥ = λ e. c.if-v2e-wide.true (e ∙ sym c.wide.ensures) in
+    let h : a.v2e ≡ a.n → ⊥ = λ e. omega (arith, c.if-v2e-wide.true, e, c.wide.ensures) in
     simp (le-leb 3 a.columns c.if-columns-lt3.false, le-leb a.columns 4 c.if-columns-gt4.false, ne_eqb a.v2e a.n h)
 
 pub overflow_mul-wide : goal.overflow_mul-wide

@@ -1,6 +1,6 @@
 -- `holes::holes` meets its contract.
 -- Assumes nothing.
-use Prim.Native.Nat.{◌+◌, ◌*◌, ◌≤◌}
+use Prim.Native.Nat.{◌+◌, ◌*◌, ◌≤◌, ◌<◌}
 use native.Mathlib.Omega.{arith}
 use lib.ListN.{length}
 use Rattle.rules.specs.Elements.{elements}
@@ -14,7 +14,8 @@ returns-then-refusal-gt0 c =
 
 pub returns-then-work-wide : goal.returns-then-work-wide
 returns-then-work-wide c =
-    let few = rw c.wide.ensures at c.if-work-wide.true in
+    let args = c.args in
+    let few : length args.work.now < args.n + 16 * elements args.list.now = omega (arith, c.wide.ensures, c.if-work-wide.true) in
     let (answer, left) = short _ _ _ _ c.length_refusal-refusal.ensures c.if-refusal-gt0.false few c.refuse-then-work-wide.ensures in
     record { result_value = answer; work_after = left }
 

@@ -33,7 +33,7 @@ same_length c = c.loop-x.invariant.same
 
 returns : tie.Need-returns-then-limit-count invariant_loop decreases_loop
 returns c =
-    let e = overlong _ _ _ c.loop-x.invariant c.loop-x-test.true c.if-limit-count.true in
+    let e = overlong _ _ _ c.loop-x.invariant c.loop-x-test.true (omega (arith, c.if-limit-count.true)) in
     (e, (left_broken _ _ _ c.loop-x.invariant e, λ k p. none_most _ k p))
 
 visit_requires : tie.Need-visit-step-requires invariant_loop decreases_loop

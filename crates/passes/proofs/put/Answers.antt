@@ -23,7 +23,7 @@ pub bounds-out-from : goal.bounds-out-from
 bounds-out-from c = omega arith
 
 pub returns-then-at-size : goal.returns-then-at-size
-returns-then-at-size c = let a = c.args in sym (putting a.out.now a.from a.size a.at a.shown c.if-at-size.true)
+returns-then-at-size c = let a = c.args in sym (putting a.out.now a.from a.size a.at a.shown (omega (arith, c.if-at-size.true)))
 
 pub returns-else-at-size : goal.returns-else-at-size
 returns-else-at-size c = let a = c.args in sym (leaving a.out.now a.from a.size a.at a.shown c.if-at-size.false)
