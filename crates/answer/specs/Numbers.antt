@@ -1,14 +1,42 @@
 -- The numbers of document 01 for each case of the enum, and their packing.
 -- Assumes nothing.
-use Rattle.std.specs.Prelude.{true, false, ℕ, ◌+◌, ◌*◌, ◌-◌, ◌/◌, ◌%◌, ltb, eqb, ℤ, pos, negsuc}
+use Rattle.std.specs.Prelude.{true, false, ℕ, ◌+◌, ◌*◌, ◌-◌, ◌/◌, ◌%◌, ltb, eqb, ℤ, pos, negsuc, Result, Ok, Err}
 use Rattle.rules.specs.Refusals.{Answer as Stated, gives, refused}
-use Rattle.answer.specs.declared.Answer.{Answer}
-use Rattle.answer.specs.declared.Answer.TheVariants.{Gives, Refused}
+use Rattle.answer.specs.declared.Given.{Given}
+use Rattle.answer.specs.declared.Reason.{Reason}
+use Rattle.answer.specs.declared.Reason.TheVariants.{Sizes, Lengths, Unfit, Repeated, Crowded, Alike, Unordered, Borders, NoList, Absent, Broken, Room, Line, Uneditable, Item, Face, Clash, Full, Pinched, Stranded}
+use Rattle.answer.specs.declared.Refusal.{Refusal}
+
+-- the paper's number of each reason
+abbrev pub number_in : Reason → ℕ
+number_in Sizes = 1
+number_in Lengths = 2
+number_in Unfit = 3
+number_in Repeated = 4
+number_in Crowded = 6
+number_in Alike = 7
+number_in Unordered = 8
+number_in Borders = 9
+number_in NoList = 10
+number_in Absent = 11
+number_in Broken = 12
+number_in Room = 13
+number_in Line = 14
+number_in Uneditable = 15
+number_in Item = 16
+number_in Face = 17
+number_in Clash = 18
+number_in Full = 19
+number_in Pinched = 20
+number_in Stranded = 21
+
+abbrev pub placed : Reason → ℕ → ℕ → Refusal
+placed reason a b = record { reason = reason; first = a; second = b }
 
 -- "For an answer that is an enum, a definition gives this paper's number and values for each of its cases"
-abbrev pub numbers : Answer → Stated
-numbers (Gives a b) = gives a b
-numbers (Refused r a b) = refused r a b
+abbrev pub numbers : Result Given Refusal → Stated
+numbers (Ok g) = gives g.first g.second
+numbers (Err r) = refused (number_in r.reason) r.first r.second
 
 -- the refusal number (0: an answer) in bits 56 to 63, the first number in bits 28 to 55, the second in bits 0 to 27
 abbrev pub packed : ℕ → ℕ → ℕ → ℕ

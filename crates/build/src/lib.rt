@@ -8,7 +8,7 @@ ghost use Rattle.rules.specs.Refusals.{build_answer, build_leaves};
 ghost use Rattle.answer.specs.Numbers.{numbers};
 ghost use Rattle.build.specs.Building.{Built, Checked, Copied, lent};
 
-use answer::{Answer, refuse, refuse_at};
+use answer::{Answer, Reason, refuse, refuse_at};
 use buffers::{clear, copy};
 use columns::{columns_of, put};
 use halfedge::wide;
@@ -60,7 +60,7 @@ pub fn build_fit(
     };
     let k = wide(first);
     if b2e.len() < k {
-        return refuse_at(9, first, 0);
+        return refuse_at(Reason::Borders, first, 0);
     }
     commit(vertices, columns, m, k, v2e, e2e, b2e, work);
     t
@@ -81,12 +81,12 @@ pub fn build(
 {
     let m = list.len() / 4;
     if !sizes_fit(n, m, list.len()) {
-        return refuse(1);
+        return refuse(Reason::Sizes);
     }
     let columns = columns_of(list);
     let opposites = e2e.len() == wide(columns) * m;
     if !lengths_fit(n, m, opposites, v2e.len(), work.len()) {
-        return refuse(2);
+        return refuse(Reason::Lengths);
     }
     let a = build_fit(n, columns, list, v2e, e2e, b2e, work);
     clear(work);

@@ -12,7 +12,7 @@ ghost use Rattle.answer.specs.Numbers.{numbers};
 ghost use Rattle.checks.specs.Maps.{Mapped, CrowdedAt, AlikeAt};
 ghost use Rattle.checks.specs.Pairs.{pair_checks};
 
-use answer::{Answer, give_two, refuse_side};
+use answer::{Answer, Reason, give_two, refuse_side};
 use buffers::clear_first;
 use halfedge::{code_at, row, slot_of, wide};
 use sides::origin_of;
@@ -130,7 +130,7 @@ pub fn check_pairs(n: usize, list: &[u32], work: &[u32], paired: bool) -> Answer
     }
     let s = crowded_side(n, list, work);
     if s != 0 {
-        return refuse_side(6, s);
+        return refuse_side(Reason::Crowded, s);
     }
-    refuse_side(7, alike_side(n, list, work))
+    refuse_side(Reason::Alike, alike_side(n, list, work))
 }

@@ -13,7 +13,7 @@ ghost use Rattle.rules.specs.Queries.{seen as seen_in};
 ghost use Rattle.theory.specs.Columns.{narrowed};
 ghost use Rattle.answer.specs.Numbers.{numbers};
 
-use answer::{Answer, give, refuse};
+use answer::{Answer, Reason, give, refuse};
 use buffers::{copy, is_same};
 use lengths::sizes_fit;
 
@@ -46,7 +46,7 @@ pub fn columns(n: u32, list: &[u32]) -> Answer
     ensures { numbers result ≡ columns_answer n list.now }
 {
     if !sizes_fit(n, list.len() / 4, list.len()) {
-        return refuse(1);
+        return refuse(Reason::Sizes);
     }
     give(columns_of(list))
 }

@@ -17,7 +17,7 @@ ghost use Rattle.gaps.specs.Closing.{ToClose};
 ghost use Rattle.contract.specs.Edges.{Ends};
 ghost use Rattle.contract.specs.Stages.{Admissible, Admitted, Contractible, padded, Roomy, Tried, Replaced, ToWrite, Closable, Closed, Written, Outcome};
 
-use answer::{Answer, give, refuse};
+use answer::{Answer, Reason, give, refuse};
 use buffers::{clear, copy};
 use edits::{build_front, columns_held, counts_fit, entry_of, is_splittable, is_there, try_old};
 use gaps::{all_used, fewer, merge, rename};
@@ -76,15 +76,15 @@ fn admit(n: u32, k: u32, list: &[u32], work: &mut [u32], code: u32) -> Answer
 {
     let vertices = wide(n);
     if !is_there(list, k, code) {
-        return refuse(11);
+        return refuse(Reason::Absent);
     }
     if !is_splittable(vertices, list, work, code) {
-        return refuse(15);
+        return refuse(Reason::Uneditable);
     }
     let t = entry_of(vertices, list, work, code);
     let edge = edge_of(list, code, t);
     if is_pinched(n, list, work, edge.a, edge.b, edge.c, edge.d) {
-        return refuse(20);
+        return refuse(Reason::Pinched);
     }
     give(t)
 }
@@ -132,7 +132,7 @@ fn replace(
     let left = fewer(m, t);
     let rows = 4 * wide(left);
     if !all_used(&list[0..rows], edge.a, edge.c, edge.d) {
-        return refuse(21);
+        return refuse(Reason::Stranded);
     }
     rename(n, edge.b, &mut list[0..rows]);
     build_front(n - 1, left, columns, list, v2e, e2e, b2e, work)
@@ -307,14 +307,14 @@ pub fn contract(
     let n = size[0];
     let m = size[1];
     if !counts_fit(n, m) {
-        return refuse(1);
+        return refuse(Reason::Sizes);
     }
     if points.len() < 3 * wide(n) {
-        return refuse(2);
+        return refuse(Reason::Lengths);
     }
     let columns = columns_held(n, m, list, v2e.len(), e2e.len(), work.len());
     if columns == 0 {
-        return refuse(2);
+        return refuse(Reason::Lengths);
     }
     let a = contract_fit(size, columns, list, v2e, e2e, b2e, points, work, code);
     clear(work);

@@ -7,7 +7,7 @@ ghost use Rattle.rules.specs.Refusals.{gives, row_checks};
 ghost use Rattle.answer.specs.Numbers.{numbers};
 ghost use Rattle.corners.specs.Faults.{no_vertex, UnfitIn, RepeatedIn, Repeating};
 
-use answer::{Answer, give_two, refuse_side};
+use answer::{Answer, Reason, give_two, refuse_side};
 use halfedge::wide;
 
 fn no_vertex(n: u32, x: u32) -> bool
@@ -93,13 +93,13 @@ pub fn check_rows(n: u32, list: &[u32]) -> Answer
         let row = halfedge::row(&list[a..e]);
         let i = unfit_in(n, row);
         if i != 0 {
-            return refuse_side(3, halfedge::code_at(a + wide(i) - 1));
+            return refuse_side(Reason::Unfit, halfedge::code_at(a + wide(i) - 1));
         }
         repeated = first_repeated(repeated, a, row);
         a = e;
     }
     if repeated != 0 {
-        return refuse_side(4, repeated);
+        return refuse_side(Reason::Repeated, repeated);
     }
     give_two(0, 0)
 }

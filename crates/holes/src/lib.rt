@@ -19,7 +19,7 @@ ghost use Rattle.reads.specs.Readings.{read_of};
 ghost use Rattle.holes.specs.Marks.{Of, Nexts, Open, Followed, Marked, Numbered, Outcome, lent_holes};
 
 use admission::length_refusal;
-use answer::{Answer, give, refuse, refuse_at};
+use answer::{Answer, Reason, give, refuse, refuse_at};
 use buffers::{clear, copy};
 use halfedge::wide;
 use reads::{Read, next_border};
@@ -167,10 +167,10 @@ fn holes_fit(
     let k = b2e.len();
     let counted = number_holes(n, columns, list, v2e, e2e, b2e, work);
     let Read::Value(h) = counted else {
-        return refuse(12);
+        return refuse(Reason::Broken);
     };
     if !is_room(k, hole.len(), lengths.len()) {
-        return refuse_at(13, k as u32, 0);
+        return refuse_at(Reason::Room, k as u32, 0);
     }
     write(k, wide(h), work, hole, lengths);
     give(h)
@@ -199,7 +199,7 @@ pub fn holes(
     }
     let m = list.len() / 4;
     if work.len() < wide(n) + 16 * m {
-        return refuse(2);
+        return refuse(Reason::Lengths);
     }
     let a = holes_fit(n, columns, list, v2e, e2e, b2e, hole, lengths, work);
     clear(work);

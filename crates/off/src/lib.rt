@@ -12,7 +12,7 @@ ghost use Rattle.off.specs.Lines.{newlines_in};
 ghost use Rattle.off.specs.Writing.{Fit, RowRead, Sound, At};
 ghost use Rattle.off.specs.Answers.{Answered};
 
-use answer::{Answer, give_two, refuse, refuse_at};
+use answer::{Answer, Reason, give_two, refuse, refuse_at};
 use buffers::put_four;
 use halfedge::{HalfEdge, wide};
 use off_items::{Kind, Outcome, item_from, next, pass};
@@ -254,16 +254,16 @@ fn write_form(text: &[u8], list: &mut [u32], j: Judged) -> Answer
     let m = j.m;
     let unfit = j.unfit;
     if HalfEdge::MAX_VERTEX < n {
-        return refuse(1);
+        return refuse(Reason::Sizes);
     }
     if HalfEdge::MAX_ELEMENT < m {
-        return refuse(1);
+        return refuse(Reason::Sizes);
     }
     if unfit != 0 {
-        return refuse_at(17, unfit, 0);
+        return refuse_at(Reason::Face, unfit, 0);
     }
     if list.len() < wide(4 * m) {
-        return refuse_at(13, 4 * m, 0);
+        return refuse_at(Reason::Room, 4 * m, 0);
     }
     put_rows(text, list, j.at, wide(m));
     give_two(n, m)
@@ -277,7 +277,7 @@ pub fn read_off(text: &[u8], list: &mut [u32]) -> Answer
 {
     let j = judge(text);
     if !j.good {
-        return refuse_at(16, line_of(text, j.at), 0);
+        return refuse_at(Reason::Item, line_of(text, j.at), 0);
     }
     write_form(text, list, j)
 }

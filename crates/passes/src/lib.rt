@@ -10,7 +10,7 @@ ghost use Rattle.reads.specs.Meshes.{mesh, Fit};
 ghost use Rattle.reads.specs.Readings.{read_of};
 ghost use Rattle.passes.specs.Walks.{next_by, shown_by, Stands, Begins, Stepped, walked, size_of, put_at, Leaves, leading, preceded, Lists};
 
-use answer::{Answer, give, refuse, refuse_at};
+use answer::{Answer, Reason, give, refuse, refuse_at};
 use halfedge::{element_of, wide};
 use reads::{Read, loop_next, read_destination, ring_next};
 
@@ -187,12 +187,12 @@ pub fn list_walk(
         walk, n, columns, list, v2e, e2e, b2e, limit, start, 0, 0, out,
     );
     let Read::Value(size) = counted else {
-        return refuse(12);
+        return refuse(Reason::Broken);
     };
     let first = places(prior);
     let needed = first + size;
     if out.len() < wide(needed) {
-        return refuse_at(13, needed, 0);
+        return refuse_at(Reason::Room, needed, 0);
     }
     lead(prior, out);
     if size == 0 {

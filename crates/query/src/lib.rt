@@ -10,7 +10,7 @@ ghost use Rattle.reads.specs.Meshes.{mesh};
 ghost use Rattle.reads.specs.Readings.{read_of};
 
 use admission::{half_edge_refusal, side_refusal, vertex_refusal};
-use answer::{Answer, give, refuse};
+use answer::{Answer, Reason, give, refuse};
 use halfedge::{element_of, is_border};
 use reads::{
     Read, border_destination, border_next, border_origin, read_border_side, read_destination,
@@ -44,7 +44,7 @@ fn found(r: Read) -> Answer
 {
     match r {
         Read::Value(x) => give(x),
-        Read::Broken => refuse(12),
+        Read::Broken => refuse(Reason::Broken),
     }
 }
 
@@ -192,7 +192,7 @@ pub fn across(
     }
     let opposed = read_opposite(n, columns, list, v2e, e2e, b2e, code);
     let Read::Value(t) = opposed else {
-        return refuse(12);
+        return refuse(Reason::Broken);
     };
     if is_border(t) {
         return give(0);
@@ -237,7 +237,7 @@ pub fn vertex_is_border(
     }
     let entry = read_vertex_entry(n, columns, list, v2e, e2e, b2e, v);
     let Read::Value(code) = entry else {
-        return refuse(12);
+        return refuse(Reason::Broken);
     };
     kind_answer(code)
 }

@@ -111,7 +111,7 @@ fn recover_fit(
     let a = wide(n) + 12 * m;
     let e = a + 4 * m;
     buffers::copy(&work[a..e], list);
-    answer::refuse(10)
+    answer::refuse(answer::Reason::NoList)
 }
 
 // Check 2 of the element list, and of E2e, which has three columns or four.
@@ -144,11 +144,11 @@ pub fn recover(
 {
     let rows = wide(m);
     if !lengths::sizes_fit(n, rows, list.len()) {
-        return answer::refuse(1);
+        return answer::refuse(answer::Reason::Sizes);
     }
     let others = tables_fit(rows, list.len(), e2e.len());
     if !lengths::lengths_fit(n, rows, others, v2e.len(), work.len()) {
-        return answer::refuse(2);
+        return answer::refuse(answer::Reason::Lengths);
     }
     let a = recover_fit(n, rows, v2e, e2e, list, work);
     buffers::clear(work);

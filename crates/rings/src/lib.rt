@@ -7,7 +7,7 @@ ghost use Rattle.rules.specs.Queries.{ring_answer, ring_leaves, neighbours_answe
 ghost use Rattle.reads.specs.Meshes.{mesh};
 
 use admission::{border_refusal, vertex_refusal};
-use answer::{Answer, refuse};
+use answer::{Answer, Reason, refuse};
 use passes::{Walk, list_walk};
 use reads::{Read, prior_vertex, start_side};
 
@@ -31,7 +31,7 @@ pub fn ring(
     }
     let begun = start_side(n, columns, list, v2e, e2e, b2e, v);
     let Read::Value(start) = begun else {
-        return refuse(12);
+        return refuse(Reason::Broken);
     };
     let limit = (list.len() / 4) as u32;
     list_walk(
@@ -69,11 +69,11 @@ pub fn neighbours(
     }
     let begun = start_side(n, columns, list, v2e, e2e, b2e, v);
     let Read::Value(start) = begun else {
-        return refuse(12);
+        return refuse(Reason::Broken);
     };
     let earlier = prior_vertex(n, columns, list, v2e, e2e, b2e, v);
     let Read::Value(prior) = earlier else {
-        return refuse(12);
+        return refuse(Reason::Broken);
     };
     let limit = (list.len() / 4) as u32;
     list_walk(

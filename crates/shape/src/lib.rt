@@ -7,7 +7,7 @@ ghost use Rattle.edit_rules.specs.Shape.{signed, list_shape, shape_answer, shape
 ghost use Rattle.answer.specs.Numbers.{numbers};
 ghost use Rattle.tabulate.specs.Results.{Roomy};
 
-use answer::{Answer, give_two, refuse};
+use answer::{Answer, Reason, give_two, refuse};
 use buffers::clear;
 use halfedge::wide;
 use lengths::sizes_fit;
@@ -47,10 +47,10 @@ pub fn shape(n: u32, list: &[u32], work: &mut [u32]) -> Answer
 {
     let m = list.len() / 4;
     if !sizes_fit(n, m, list.len()) {
-        return refuse(1);
+        return refuse(Reason::Sizes);
     }
     if work.len() < wide(n) + 16 * m {
-        return refuse(2);
+        return refuse(Reason::Lengths);
     }
     let a = shape_fit(n, list, work);
     clear(work);

@@ -9,7 +9,7 @@ ghost use Rattle.theory.specs.FitRows.{Fit};
 ghost use Rattle.answer.specs.Numbers.{numbers};
 ghost use Rattle.sibling_map.specs.Mapping.{Checked, Mapped, lent_maps};
 
-use answer::{Answer, refuse};
+use answer::{Answer, Reason, refuse};
 use buffers::{clear, copy};
 use checks::first_sides;
 use corners::check_rows;
@@ -62,10 +62,10 @@ pub fn siblings(
 {
     let m = list.len() / 4;
     if !sizes_fit(n, m, list.len()) {
-        return refuse(1);
+        return refuse(Reason::Sizes);
     }
     if !lengths_fit(n, m, sibhe.len() == 4 * m, v2e.len(), work.len()) {
-        return refuse(2);
+        return refuse(Reason::Lengths);
     }
     let a = map_fit(n, list, v2e, sibhe, work);
     clear(work);

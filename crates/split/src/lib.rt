@@ -12,7 +12,7 @@ ghost use Rattle.split.specs.NewRows.{ToHalve, ToSplit, by_border};
 ghost use Rattle.split.specs.Testing.{holds_by};
 ghost use Rattle.split.specs.Stages.{Admissible, ToWrite, Admitted, Written, Outcome};
 
-use answer::{Answer, give_two, refuse, refuse_at};
+use answer::{Answer, Reason, give_two, refuse, refuse_at};
 use buffers::clear;
 use edits::{
     build_front, columns_held, counts_fit, entry_of, has_room, is_splittable, is_there, put_row,
@@ -113,10 +113,10 @@ fn admit(
     let rows = 4 * wide(m);
     let held = &list[0..rows];
     if !is_there(held, k, code) {
-        return refuse(11);
+        return refuse(Reason::Absent);
     }
     if !is_splittable(vertices, held, work, code) {
-        return refuse(15);
+        return refuse(Reason::Uneditable);
     }
     let t = entry_of(vertices, held, work, code);
     let elements = by_border(t, m + 1, m + 2);
@@ -130,11 +130,11 @@ fn admit(
         points.len(),
         work.len(),
     ) {
-        return refuse(19);
+        return refuse(Reason::Full);
     }
     let borders = by_border(t, k + 1, k);
     if b2e.len() < wide(borders) {
-        return refuse_at(9, borders, 0);
+        return refuse_at(Reason::Borders, borders, 0);
     }
     give_two(t, elements)
 }
@@ -227,14 +227,14 @@ pub fn split(
     let n = size[0];
     let m = size[1];
     if !counts_fit(n, m) {
-        return refuse(1);
+        return refuse(Reason::Sizes);
     }
     if points.len() < 3 * wide(n) {
-        return refuse(2);
+        return refuse(Reason::Lengths);
     }
     let columns = columns_held(n, m, list, v2e.len(), e2e.len(), work.len());
     if columns == 0 {
-        return refuse(2);
+        return refuse(Reason::Lengths);
     }
     let a = split_fit(size, columns, list, v2e, e2e, b2e, points, work, code);
     clear(work);

@@ -16,7 +16,7 @@ ghost use Rattle.edits.specs.Leaving.{tight, Left};
 ghost use Rattle.edits.specs.Trying.{Tabled};
 ghost use Rattle.swap.specs.Swaps.{Flips, ToSwap};
 
-use answer::{Answer, refuse};
+use answer::{Answer, Reason, refuse};
 use buffers::clear;
 use build::build_fit;
 use edits::{columns_held, counts_fit, entry_of, is_there, is_triangle, put_row, try_old};
@@ -127,10 +127,10 @@ fn swap_fit(
         return t;
     };
     if !is_there(list, first, code) {
-        return refuse(11);
+        return refuse(Reason::Absent);
     }
     if !is_swappable(vertices, list, work, code) {
-        return refuse(15);
+        return refuse(Reason::Uneditable);
     }
     let partner = entry_of(vertices, list, work, code);
     swap_rows(n, columns, list, v2e, e2e, b2e, work, code, partner)
@@ -152,11 +152,11 @@ pub fn swap(
     ensures work_after { lent_edit n m list.new v2e.new e2e.new b2e.new work.new ≡ swap_leaves (lent_edit n m list.old v2e.old e2e.old b2e.old work.old) code }
 {
     if !counts_fit(n, m) {
-        return refuse(1);
+        return refuse(Reason::Sizes);
     }
     let columns = columns_held(n, m, list, v2e.len(), e2e.len(), work.len());
     if columns == 0 {
-        return refuse(2);
+        return refuse(Reason::Lengths);
     }
     let vertices = wide(n);
     let elements = wide(m);

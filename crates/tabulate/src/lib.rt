@@ -11,7 +11,7 @@ ghost use Rattle.borders.specs.Numbers.{Ready};
 ghost use Rattle.ordered.specs.Standing.{Standing};
 ghost use Rattle.tabulate.specs.Results.{Sized, fit_pairs, list_pairs, Paired, paired_answer, Tabulated};
 
-use answer::{Answer, give, give_two, refuse_at};
+use answer::{Answer, Reason, give, give_two, refuse_at};
 use borders::number_borders;
 use checks::{check_pairs, first_sides};
 use corners::check_rows;
@@ -80,10 +80,10 @@ fn tabulate_paired(n: u32, list: &[u32], work: &mut [u32], f: u32) -> Answer
     let k = counts.borders;
     let sides = counts.sides;
     if !is_ordered(vertices, list, work, sides) {
-        return refuse_at(8, unordered(n, list, work), 0);
+        return refuse_at(Reason::Unordered, unordered(n, list, work), 0);
     }
     if f != 0 {
-        return refuse_at(18, f, clash_of(list, f));
+        return refuse_at(Reason::Clash, f, clash_of(list, f));
     }
     give_two(k, (sides + k) / 2)
 }

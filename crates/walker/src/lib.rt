@@ -8,7 +8,7 @@ ghost use Rattle.reads.specs.Readings.{read_of};
 ghost use Rattle.walker.specs.Walkers.{record_of, moved_of, left_by, called_by};
 
 use admission::{length_refusal, vertex_refusal};
-use answer::{Answer, give, refuse};
+use answer::{Answer, Reason, give, refuse};
 use halfedge::{element_of, wide};
 use reads::{Read, ring_next, start_side};
 use sides::is_side;
@@ -97,7 +97,7 @@ fn step_at(
     let turn = goes_to(w, n, columns, list, v2e, e2e, b2e);
     let Read::Value(t) = turn else {
         return Moved {
-            answer: refuse(12),
+            answer: refuse(Reason::Broken),
             walker: w,
         };
     };
@@ -133,7 +133,7 @@ fn start_at(
     let begun = start_side(n, columns, list, v2e, e2e, b2e, v);
     let Read::Value(s) = begun else {
         return Moved {
-            answer: refuse(12),
+            answer: refuse(Reason::Broken),
             walker: w,
         };
     };
