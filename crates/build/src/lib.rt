@@ -54,16 +54,13 @@ pub fn build_fit(
     let m = list.len() / 4;
     let vertices = wide(n);
     let end = vertices + 12 * m;
-    let t = tabulate(n, list, &mut work[0..end]);
-    let Answer::Gives { first, second: _ } = t else {
-        return t;
-    };
-    let k = wide(first);
+    let t = tabulate(n, list, &mut work[0..end])?;
+    let k = wide(t.first);
     if b2e.len() < k {
-        return refuse_at(Reason::Borders, first, 0);
+        return refuse_at(Reason::Borders, t.first, 0);
     }
     commit(vertices, columns, m, k, v2e, e2e, b2e, work);
-    t
+    Ok(t)
 }
 
 // V2e, E2e and the first k entries of B2e of the list, with k and the number of edges; or a refusal, which leaves the tables as they

@@ -174,15 +174,11 @@ fn try_new(
         t,
         edge,
     );
-    let Answer::Gives {
-        first: _,
-        second: _,
-    } = a
-    else {
+    let Ok(built) = a else {
         copy(&work[end..last], list);
         return a;
     };
-    a
+    Ok(built)
 }
 
 // n falls by one, and m to `elements`: what stood in V2e and E2e between the new lengths and the old ones becomes 0, and the point of the last
@@ -230,7 +226,7 @@ fn write(
     let rows = 4 * wide(m);
     let edge = edge_of(&list[0..rows], s, t);
     let b = edge.b;
-    let a = try_new(
+    let built = try_new(
         n,
         m,
         columns,
@@ -242,16 +238,9 @@ fn write(
         s,
         t,
         edge,
-    );
-    let Answer::Gives {
-        first: _,
-        second: _,
-    } = a
-    else {
-        return a;
-    };
+    )?;
     close(size, fewer(m, t), columns, v2e, e2e, points, b);
-    a
+    Ok(built)
 }
 
 // All that follows checks 1 and 2. The work buffer isn't cleared yet.
@@ -273,18 +262,8 @@ fn contract_fit(
     let n = size[0];
     let m = size[1];
     let rows = 4 * wide(m);
-    let old = try_old(n, &list[0..rows], work);
-    let Answer::Gives { first, second: _ } = old else {
-        return old;
-    };
-    let a = admit(n, first, &list[0..rows], work, code);
-    let Answer::Gives {
-        first: t,
-        second: _,
-    } = a
-    else {
-        return a;
-    };
+    let k = try_old(n, &list[0..rows], work)?.first;
+    let t = admit(n, k, &list[0..rows], work, code)?.first;
     write(size, columns, list, v2e, e2e, b2e, points, work, code, t)
 }
 

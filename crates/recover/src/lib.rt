@@ -65,11 +65,10 @@ fn has_own_tables(n: u32, list: &[u32], work: &mut [u32]) -> bool
     requires { Sized n list.now work.old }
     ensures { OwnTables n list.now result work.old work.new }
 {
-    let paired = tabulate::pair(n, list, work);
-    let Answer::Gives { first, second: _ } = paired else {
+    let Ok(paired) = tabulate::pair(n, list, work) else {
         return false;
     };
-    if first != 0 {
+    if paired.first != 0 {
         return false;
     }
     borders::number_borders(wide(n), list, work);

@@ -32,11 +32,8 @@ fn shape_fit(n: u32, list: &[u32], work: &mut [u32]) -> Answer
 {
     let m = list.len() / 4;
     let end = wide(n) + 12 * m;
-    let t = tabulate(n, list, &mut work[0..end]);
-    let Answer::Gives { first: _, second } = t else {
-        return t;
-    };
-    give_signed(n + m as u32, second)
+    let edges = tabulate(n, list, &mut work[0..end])?.second;
+    give_signed(n + m as u32, edges)
 }
 
 // The number of vertices, spare ones too, less that of edges, and that of elements added; or a refusal. The work buffer is all zero

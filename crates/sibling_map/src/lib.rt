@@ -35,16 +35,9 @@ fn map_fit(n: u32, list: &[u32], v2e: &mut [u32], sibhe: &mut [u32], work: &mut 
     ensures mapped { Mapped n list.now (numbers result) v2e.old sibhe.old v2e.new sibhe.new }
     ensures work_len_unchanged { length work.new ≡ length work.old }
 {
-    let rows = check_rows(n, list);
-    let Answer::Gives {
-        first: _,
-        second: _,
-    } = rows
-    else {
-        return rows;
-    };
+    let rows = check_rows(n, list)?;
     write(wide(n), list, v2e, sibhe, work);
-    rows
+    Ok(rows)
 }
 
 // For each side the next higher side that joins the same two vertices, the last followed by the first, in four columns; for each vertex

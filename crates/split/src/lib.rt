@@ -188,22 +188,10 @@ fn split_fit(
     let n = size[0];
     let m = size[1];
     let rows = 4 * wide(m);
-    let old = try_old(n, &list[0..rows], work);
-    let Answer::Gives { first, second: _ } = old else {
-        return old;
-    };
-    let a = admit(
-        n, m, columns, first, list, v2e, e2e, b2e, points, work, code,
-    );
-    let Answer::Gives {
-        first: t,
-        second: elements,
-    } = a
-    else {
-        return a;
-    };
+    let k = try_old(n, &list[0..rows], work)?.first;
+    let admitted = admit(n, m, columns, k, list, v2e, e2e, b2e, points, work, code)?;
     write(
-        size, elements, columns, list, v2e, e2e, b2e, points, work, code, t,
+        size, admitted.second, columns, list, v2e, e2e, b2e, points, work, code, admitted.first,
     )
 }
 

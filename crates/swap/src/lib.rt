@@ -76,16 +76,12 @@ fn swap_rows(
     let other = row_at(list, g);
     flip_rows(list, s, t);
     let a = build_fit(n, columns, list, v2e, e2e, b2e, work);
-    let Answer::Gives {
-        first: _,
-        second: _,
-    } = a
-    else {
+    let Ok(built) = a else {
         put_row(f, row, list);
         put_row(g, other, list);
         return a;
     };
-    a
+    Ok(built)
 }
 
 // Whether s is an inner side between two triangles, by that E2e.
@@ -122,11 +118,8 @@ fn swap_fit(
     ensures work_len_unchanged { length work.new ≡ length work.old }
 {
     let vertices = wide(n);
-    let t = try_old(n, list, work);
-    let Answer::Gives { first, second: _ } = t else {
-        return t;
-    };
-    if !is_there(list, first, code) {
+    let k = try_old(n, list, work)?.first;
+    if !is_there(list, k, code) {
         return refuse(Reason::Absent);
     }
     if !is_swappable(vertices, list, work, code) {

@@ -29,14 +29,7 @@ fn pair_fit(n: u32, list: &[u32], work: &mut [u32]) -> Answer
 {
     let vertices = wide(n);
     let found = siblings(vertices, list, work);
-    let pairs = check_pairs(vertices, list, work, found.paired);
-    let Answer::Gives {
-        first: _,
-        second: _,
-    } = pairs
-    else {
-        return pairs;
-    };
+    check_pairs(vertices, list, work, found.paired)?;
     let f = clashing_element(vertices, list, work, found.crossed);
     first_sides(vertices, list, work);
     give(f)
@@ -48,14 +41,7 @@ pub fn pair(n: u32, list: &[u32], work: &mut [u32]) -> Answer
     requires { Sized n list.now work.old }
     ensures { Paired n list.now (list_pairs n list.now) (numbers result) work.old work.new }
 {
-    let rows = check_rows(n, list);
-    let Answer::Gives {
-        first: _,
-        second: _,
-    } = rows
-    else {
-        return rows;
-    };
+    check_rows(n, list)?;
     pair_fit(n, list, work)
 }
 
@@ -92,9 +78,6 @@ pub fn tabulate(n: u32, list: &[u32], work: &mut [u32]) -> Answer
     requires { Sized n list.now work.old }
     ensures { Tabulated n list.now (list_answer n list.now) (numbers result) work.old work.new }
 {
-    let paired = pair(n, list, work);
-    let Answer::Gives { first, second: _ } = paired else {
-        return paired;
-    };
-    tabulate_paired(n, list, work, first)
+    let f = pair(n, list, work)?.first;
+    tabulate_paired(n, list, work, f)
 }
