@@ -1,0 +1,55 @@
+-- `contract::contract_fit` meets its contract. The laws of its ways out are in Outcomes.
+-- Assumes nothing.
+use mathlib.Core.Path.{◌≡◌, refl}
+use Prim.Native.Nat.{◌*◌, ◌-◌}
+use native.Mathlib.Omega.{arith}
+use Rattle.std.proofs.lemmas.Result.{err_from_is_err_and}
+use Rattle.edits.specs.Holding.{lent_sized}
+use Rattle.edits.specs.Fronts.{fitting, to_try}
+use Rattle.contract.specs.Outcomes.{old_denied, admissible, new_denied, new_allowed, all_done}
+use Rattle.contract.proofs.contract_fit.Goals as goal
+
+pub try_old-requires : goal.try_old-requires
+try_old-requires c =
+    let a = c.args in
+    let w = lent_sized a.size.now a.list.now a.v2e.now a.e2e.now a.b2e.now a.work.now in
+    to_try w (fitting w c.requires.0) (omega arith)
+
+pub returns-in_err-k-clause-outcome : goal.returns-in_err-k-clause-outcome
+returns-in_err-k-clause-outcome c =
+    let a = c.args in
+    let w = lent_sized a.size.now a.list.now a.v2e.now a.e2e.now a.b2e.now a.work.now in
+    let p = err_from_is_err_and c.from_residual.result c.from_residual.ensures.1 in
+    let rows : 4 * c.wide-rows.result - 0 ≡ 4 * w.m = omega arith in
+    rw (p.1, p.2) (old_denied w a.points.now a.code c.requires rows c.in_err-k.ensures refl).0
+
+pub admit-requires : goal.admit-requires
+admit-requires c =
+    let a = c.args in
+    let w = lent_sized a.size.now a.list.now a.v2e.now a.e2e.now a.b2e.now a.work.now in
+    let rows : 4 * c.wide-rows.result - 0 ≡ 4 * w.m = omega arith in
+    admissible w a.points.now a.code c.requires rows c.in_ok-k.ensures refl
+
+pub returns-in_err-t-clause-outcome : goal.returns-in_err-t-clause-outcome
+returns-in_err-t-clause-outcome c =
+    let a = c.args in
+    let w = lent_sized a.size.now a.list.now a.v2e.now a.e2e.now a.b2e.now a.work.now in
+    let p = err_from_is_err_and c.from_residual-in_err-t.result c.from_residual-in_err-t.ensures.1 in
+    let rows : 4 * c.wide-rows.result - 0 ≡ 4 * w.m = omega arith in
+    let e = c.in_err-t.ensures in
+    rw (p.1, p.2) (new_denied w a.points.now a.code c.requires rows c.in_ok-k.ensures refl e.admitted e.work_len_unchanged refl).0
+
+pub write-requires : goal.write-requires
+write-requires c =
+    let a = c.args in
+    let w = lent_sized a.size.now a.list.now a.v2e.now a.e2e.now a.b2e.now a.work.now in
+    let rows : 4 * c.wide-rows.result - 0 ≡ 4 * w.m = omega arith in
+    let e = c.in_ok-t.ensures in
+    new_allowed w a.points.now a.code c.requires rows c.in_ok-k.ensures refl e.admitted e.work_len_unchanged refl refl
+
+pub returns-clause-outcome : goal.returns-clause-outcome
+returns-clause-outcome c =
+    let a = c.args in
+    let w = lent_sized a.size.now a.list.now a.v2e.now a.e2e.now a.b2e.now a.work.now in
+    let rows : 4 * c.wide-rows.result - 0 ≡ 4 * w.m = omega arith in
+    all_done w a.points.now a.code c.requires rows c.in_ok-k.ensures refl c.write.ensures.written
