@@ -191,7 +191,17 @@ fn split_fit(
     let k = try_old(n, &list[0..rows], work)?.first;
     let admitted = admit(n, m, columns, k, list, v2e, e2e, b2e, points, work, code)?;
     write(
-        size, admitted.second, columns, list, v2e, e2e, b2e, points, work, code, admitted.first,
+        size,
+        admitted.second,
+        columns,
+        list,
+        v2e,
+        e2e,
+        b2e,
+        points,
+        work,
+        code,
+        admitted.first,
     )
 }
 
