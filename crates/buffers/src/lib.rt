@@ -11,11 +11,7 @@ ghost use Rattle.rules.specs.Refusals.{onto};
 pub fn clear(out: &mut [u32])
     ensures { out.new ≡ replicate (length out.old) 0 }
 {
-    let mut i = 0;
-    while i < out.len() {
-        out[i] = 0;
-        i += 1;
-    }
+    out.fill(0);
 }
 
 // The first n entries; the rest of `out` stays.
@@ -24,19 +20,16 @@ pub fn clear_first(n: usize, out: &mut [u32])
     ensures kept { Kept n out.old out.new }
     ensures by_index { (i : ℕ) → i < n → at out.new i ≡ 0 }
 {
-    clear(&mut out[0..n]);
+    clear(&mut out[..n]);
 }
 
 // From the start of `out` on; the rest of `out` stays.
+#[tactic(auto, unfolding(rules::specs::Refusals::onto))]
 pub fn copy(from: &[u32], out: &mut [u32])
     requires { length from.now ≤ length out.old }
     ensures { out.new ≡ onto from.now out.old }
 {
-    let mut i = 0;
-    while i < from.len() {
-        out[i] = from[i];
-        i += 1;
-    }
+    out[..from.len()].copy_from_slice(from);
 }
 
 // From entry q on; the rest of `out` stays.
@@ -44,24 +37,11 @@ pub fn put_four(out: &mut [u32], q: usize, four: [u32; 4])
     requires { q + 4 ≤ length out.old }
     ensures { out.new ≡ sets out.old q four }
 {
-    out[q] = four[0];
-    out[q + 1] = four[1];
-    out[q + 2] = four[2];
-    out[q + 3] = four[3];
+    out[q..q + 4].copy_from_slice(&four);
 }
 
 pub fn is_same(a: &[u32], b: &[u32]) -> bool
     ensures { result ≡ same a.now b.now }
 {
-    if a.len() != b.len() {
-        return false;
-    }
-    let mut i = 0;
-    while i < a.len() {
-        if a[i] != b[i] {
-            return false;
-        }
-        i += 1;
-    }
-    true
+    a == b
 }
