@@ -11,13 +11,7 @@ use halfedge::{HalfEdge, wide};
 pub fn sizes_fit(n: u32, m: usize, list: usize) -> bool
     ensures { result ≡ both (leb n max_vertex) (both (leb m max_element) (eqb list (4 * (list / 4)))) }
 {
-    if HalfEdge::MAX_VERTEX < n {
-        return false;
-    }
-    if wide(HalfEdge::MAX_ELEMENT) < m {
-        return false;
-    }
-    list == 4 * (list / 4)
+    n <= HalfEdge::MAX_VERTEX && m <= wide(HalfEdge::MAX_ELEMENT) && list % 4 == 0
 }
 
 // Check 2 of a call with a work buffer, where check 1 found nothing; `others` is whether the other buffers have fit lengths.
@@ -25,11 +19,5 @@ pub fn lengths_fit(n: u32, m: usize, others: bool, v2e: usize, work: usize) -> b
     requires { m ≤ max_element }
     ensures { result ≡ both (eqb v2e n) (both others (leb (n + 16 * m) work)) }
 {
-    if v2e != wide(n) {
-        return false;
-    }
-    if !others {
-        return false;
-    }
-    wide(n) + 16 * m <= work
+    v2e == wide(n) && others && wide(n) + 16 * m <= work
 }
