@@ -1,8 +1,8 @@
 // E2e's columns, document 02, point 10: how many a list has, and a table between four columns, as scratch tables have them, and its own.
 #![tactic(auto)]
 
-ghost use Rattle.std.specs.Prelude.{◌⊎◌, ◌≡◌, ◌+◌, ◌*◌, ◌/◌, ◌≤◌, length};
-ghost use Rattle.lists.specs.Search.{tab};
+ghost use Rattle.std.specs.Prelude.{◌⊎◌, ◌≡◌, ℕ, true, false, ◌<◌, ◌+◌, ◌*◌, ◌/◌, ◌≤◌, length};
+ghost use Rattle.lists.specs.Search.{at, tab};
 ghost use Rattle.lists.specs.Tests.{same};
 ghost use Rattle.rules.specs.Elements.{elements, side_at};
 ghost use Rattle.rules.specs.Tables.{entry_of};
@@ -21,14 +21,15 @@ use lengths::sizes_fit;
 pub fn columns_of(list: &[u32]) -> u32
     ensures { result ≡ columns_in list.now }
 {
-    let mut p = 3;
-    while p < list.len() {
-        if list[p] != 0 {
-            return 4;
-        }
-        p += 4;
-    }
-    3
+    if has_fourth(list) { 4 } else { 3 }
+}
+
+// Whether some element has a fourth corner.
+fn has_fourth(list: &[u32]) -> bool
+    ensures found { result ≡ true → (k : ℕ) × (k < length list.now / 4) × (at list.now (k * 4 + 3) ≡ 0 → ⊥) }
+    ensures none { result ≡ false → (k : ℕ) → k < length list.now / 4 → at list.now (k * 4 + 3) ≡ 0 }
+{
+    list.chunks_exact(4).any(|row| row[3] != 0)
 }
 
 // The columns that a query goes by: told 0 it looks at the list, which takes the time of reading it.
@@ -56,10 +57,8 @@ fn narrow(table: &[u32], out: &mut [u32])
     requires { (length table.now ≡ 4 * elements table.now) × (length out.old ≡ 3 * elements table.now) }
     ensures { out.new ≡ narrowed 3 table.now }
 {
-    let mut p = 0;
-    while p < out.len() {
-        out[p] = table[p + p / 3];
-        p += 1;
+    for (p, entry) in out.iter_mut().enumerate() {
+        *entry = table[p + p / 3];
     }
 }
 
@@ -76,21 +75,20 @@ pub fn put(columns: u32, table: &[u32], out: &mut [u32])
     copy(table, out);
 }
 
+// Whether each entry p of three columns is that at p + p / 3 of four.
+fn agrees(table: &[u32], e2e: &[u32]) -> bool
+    requires { (length table.now ≡ 4 * elements table.now) × (length e2e.now ≡ 3 * elements table.now) }
+    ensures all { result ≡ true → (k : ℕ) → k < length e2e.now → at e2e.now k ≡ at table.now (k + k / 3) }
+    ensures found { result ≡ false → (k : ℕ) × (k < length e2e.now) × (at e2e.now k ≡ at table.now (k + k / 3) → ⊥) }
+{
+    (0..e2e.len()).all(|p| e2e[p] == table[p + p / 3])
+}
+
 fn is_narrow(table: &[u32], e2e: &[u32]) -> bool
     requires { length table.now ≡ 4 * elements table.now }
     ensures { result ≡ same (narrowed 3 table.now) e2e.now }
 {
-    if e2e.len() != 3 * (table.len() / 4) {
-        return false;
-    }
-    let mut p = 0;
-    while p < e2e.len() {
-        if e2e[p] != table[p + p / 3] {
-            return false;
-        }
-        p += 1;
-    }
-    true
+    e2e.len() == 3 * (table.len() / 4) && agrees(table, e2e)
 }
 
 // Whether E2e is a table of four columns in this many.
@@ -121,10 +119,8 @@ fn widen(e2e: &[u32], out: &mut [u32])
     requires { (length out.old ≡ 4 * elements out.old) × (length e2e.now ≡ 3 * elements out.old) }
     ensures { out.new ≡ tab (length out.old) (λ p. entry_of 3 e2e.now (side_at p)) }
 {
-    let mut p = 0;
-    while p < out.len() {
-        out[p] = entry_at(e2e, p);
-        p += 1;
+    for (p, entry) in out.iter_mut().enumerate() {
+        *entry = entry_at(e2e, p);
     }
 }
 
