@@ -42,7 +42,7 @@ below : {P : ℕ → Type 0} (p : ℕ) → ((q : ℕ) → q < p → P q) → P p
 below {P} p f x q h = elim (lt_or_eq q p (omega arith)) [ inl l ↦ f q l | inr e ↦ subst P (sym e) x ]
 
 -- one place more; an entry of 0 is what was written
-least_more : (L W : List ℕ) (p best x written r : ℕ) → x ≡ at L p → written ≡ at W p → (x ≡ 0 → written ≡ 0) → LeastBelow L W p best → Lesser best x written r
+pub least_more : (L W : List ℕ) (p best x written r : ℕ) → x ≡ at L p → written ≡ at W p → (x ≡ 0 → written ≡ 0) → LeastBelow L W p best → Lesser best x written r
     → LeastBelow L W (p + 1) r
 least_more L W p best x written r e f z k (kept w q) = go k
   where
