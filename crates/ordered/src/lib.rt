@@ -55,9 +55,7 @@ pub fn is_ordered(n: usize, list: &[u32], work: &[u32], sides: u32) -> bool
     ensures { Means result (unordered_vertex n list.now ≡ 0) }
 {
     let mut met = 0;
-    let mut v = 0;
-    while v < n {
-        v += 1;
+    for v in 1..=n {
         met = count_about(n, list, work, v, met);
     }
     met == sides

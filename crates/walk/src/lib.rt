@@ -1,5 +1,6 @@
 // The walk over a V2e and an E2e of any content, in a work buffer of n + 12m entries: V2e (n), E2e (4m), for each border number the least
 // side with that border (4m), and what the walk writes (4m).
+// n, m and work stay parameters: work is lent as a `&mut`, and a struct would owe a clause in each function that it holds the same reference.
 #![tactic(auto)]
 
 ghost use Rattle.std.specs.Prelude.{◌≡◌, ◌+◌, ◌*◌, ◌-◌, ◌≤◌, ◌<◌};
@@ -12,23 +13,17 @@ ghost use Rattle.walk.specs.Layout.{Sizes, written, e2e_in, is_open, Linked, Tra
 use halfedge::{element_of, is_border, slot_of, wide};
 use sides::{is_side, next_by_row, next_code};
 
-// Where the walk goes from a side.
-#[derive(Clone, Copy)]
-enum Step {
-    On(u32),
-    Over,
-}
-
-// To the turn of s by E2e, where it has one.
-fn turn(e2e: &[u32], s: u32) -> Step
+// The turn of s by E2e, where it has one.
+fn turn(e2e: &[u32], s: u32) -> Option<u32>
     requires { Side e2e.now s }
     ensures { side_of result ≡ turn_by e2e.now s }
 {
     let t = e2e[slot_of(s)];
-    if !is_side(e2e, t) {
-        return Step::Over;
+    if is_side(e2e, t) {
+        Some(next_by_row(e2e, t))
+    } else {
+        None
     }
-    Step::On(next_by_row(e2e, t))
 }
 
 // The side where the walk about v begins; 0 where there is none.
@@ -41,10 +36,7 @@ pub fn start(n: usize, m: usize, work: &[u32], v: usize) -> u32
         return c;
     }
     let b = wide(element_of(c));
-    if b == 0 {
-        return 0;
-    }
-    if 4 * m < b {
+    if b == 0 || 4 * m < b {
         return 0;
     }
     let e = n + 4 * m;
@@ -61,13 +53,7 @@ fn is_open(n: usize, m: usize, work: &[u32], s: u32) -> bool
     ensures { result ≡ is_open (e2e_in n m work.now) (written n m work.now) s }
 {
     let e = n + 4 * m;
-    if !is_side(&work[n..e], s) {
-        return false;
-    }
-    if work[n + 8 * m + slot_of(s)] != 0 {
-        return false;
-    }
-    true
+    is_side(&work[n..e], s) && work[n + 8 * m + slot_of(s)] == 0
 }
 
 // From the side s on by turns, v is written at the place of each side.
@@ -80,8 +66,7 @@ fn trace(n: usize, m: usize, v: u32, s: u32, work: &mut [u32])
     while is_open(n, m, work, t) {
         let p = n + 8 * m + slot_of(t);
         work[p] = v;
-        let step = turn(&work[n..e], t);
-        let Step::On(next) = step else {
+        let Some(next) = turn(&work[n..e], t) else {
             return;
         };
         t = next;
@@ -93,11 +78,9 @@ fn walk_empty(n: usize, m: usize, work: &mut [u32])
     requires { Sizes n m work.old × Linked n m work.old × Walking n m 0 work.old work.old }
     ensures { Walking n m n work.old work.new }
 {
-    let mut v: u32 = 0;
-    while wide(v) < n {
-        v += 1;
-        let s = start(n, m, work, wide(v));
-        trace(n, m, v, s, work);
+    for v in 1..=n {
+        let s = start(n, m, work, v);
+        trace(n, m, v as u32, s, work);
     }
 }
 

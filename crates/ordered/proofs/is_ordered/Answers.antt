@@ -1,24 +1,22 @@
--- `ordered::is_ordered` meets its contract: the sides met about the vertices 1 to v are counted.
+-- `ordered::is_ordered` meets its contract: the sides met about the vertices before v are counted.
 -- Assumes nothing.
-use mathlib.Core.Path.{◌≡◌}
-use Prim.Native.Nat.{◌+◌, ◌-◌}
-use native.Mathlib.Omega.{arith}
+use Rattle.std.proofs.Common.{◌≡◌, ◌-◌, arith}
+use Rattle.ordered.specs.Standing.{MetBy}
 use Rattle.ordered.specs.Fans.{none_met, means_all_met}
 use Rattle.ordered.proofs.is_ordered.Goals as goal
+use Rattle.ordered.proofs.is_ordered.Goals.{else-loop-v-test, then-loop-v-test+else-v-n}
 
 pub loop-v-init : goal.loop-v-init
 loop-v-init c = (omega arith, none_met _ _)
 
-pub count_about-met-requires : goal.count_about-met-requires
-count_about-met-requires c =
-    let e : c.loop-v.v + 1 - 1 ≡ c.loop-v.v = omega arith in
-    (c.requires.0, omega arith, omega arith, rw e c.loop-v.invariant.1)
-
-pub loop-v-preserved : goal.loop-v-preserved
-loop-v-preserved c = (omega arith, c.count_about-met.ensures)
-
 pub returns : goal.returns
 returns c =
-    let p = c.requires in
-    let e : c.loop-v.v ≡ c.args.n = omega (arith, c.loop-v.invariant.0) in
-    means_all_met p.0 p.1 (rw e at c.loop-v.invariant.1)
+    let n = c.args.n in
+    let L = c.args.list.now in
+    let all : MetBy n L n c.loop-v-test.met =
+    elim c.loop-v-test.branch
+    [ else-loop-v-test w ↦
+        let e : c.loop-v.v - 1 ≡ n = omega (arith, c.loop-v.invariant.0) in rw w.met-is (rw e at c.loop-v.invariant.1)
+    | then-loop-v-test+else-v-n w ↦ let e : c.loop-v.v ≡ n = omega arith in rw w.met-is (rw e at w.count_about-met.ensures)
+    ] in
+    means_all_met c.requires.0 c.requires.1 all
