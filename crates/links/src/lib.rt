@@ -1,4 +1,5 @@
 // The part of the work buffer that the walk's start reads: for each border number the least side with that border, by an E2e of any content.
+// n, m and work stay parameters: work is lent as a `&mut`, and a struct would owe a clause in each function that it holds the same reference.
 #![tactic(auto)]
 
 ghost use Rattle.std.specs.Prelude.{◌+◌, ◌*◌, ◌<◌};
@@ -17,14 +18,10 @@ fn link_place(n: usize, m: usize, work: &mut [u32], p: usize)
         return;
     }
     let b = wide(element_of(c));
-    if b == 0 {
+    if b == 0 || 4 * m < b {
         return;
     }
-    if 4 * m < b {
-        return;
-    }
-    let i = n + 4 * m + b - 1;
-    work[i] = code_at(p);
+    work[n + 4 * m + b - 1] = code_at(p);
 }
 
 // The places from the last to the first, over border numbers with no side yet.
@@ -32,9 +29,7 @@ fn link_places(n: usize, m: usize, work: &mut [u32])
     requires { Linkable n m (4 * m) work.old }
     ensures { Linking n m 0 work.old work.new }
 {
-    let mut p = 4 * m;
-    while 0 < p {
-        p -= 1;
+    for p in (0..4 * m).rev() {
         link_place(n, m, work, p);
     }
 }
