@@ -2,3 +2,4 @@ pub mod Folds
 pub mod Clashes
 pub mod Numbers
 pub mod Places
+pub mod Asked

@@ -4,8 +4,7 @@
 // pass has found; or where they are triangles with the same corners, which the map tells.
 #![tactic(auto)]
 
-ghost use Rattle.std.specs.Prelude.{◌≡◌, ◌+◌, ◌*◌, ◌≤◌, eqb};
-ghost use Rattle.lists.specs.Tests.{both};
+ghost use Rattle.std.specs.Prelude.{◌≡◌, ◌+◌, ◌*◌, ◌≤◌};
 ghost use Rattle.rules.specs.Elements.{elements, max_element, Side, some_number, sides};
 ghost use Rattle.rules.specs.Pairing.{joins, is_corner, shared_corners, share_side, meet_well, Element};
 ghost use Rattle.rules.specs.Refusals.{crowded_side, clash_of, clashing};
@@ -23,10 +22,7 @@ fn is_folded(n: usize, list: &[u32], work: &[u32], f: u32) -> bool
 {
     let place = n + slot_of(side_code(f, 1));
     let g = element_of(work[place]);
-    if g != element_of(work[place + 1]) {
-        return false;
-    }
-    g != f
+    g == element_of(work[place + 1]) && g != f
 }
 
 // The least such element; 0 where there is none.
@@ -35,30 +31,17 @@ fn folded_element(n: usize, list: &[u32], work: &[u32]) -> u32
     ensures { result ≡ folded_element list.now }
 {
     let m = (list.len() / 4) as u32;
-    let mut f = 0;
-    while f < m {
-        f += 1;
-        if is_folded(n, list, work, f) {
-            return f;
-        }
-    }
-    0
+    (1..=m).find(|f| is_folded(n, list, work, *f)).unwrap_or(0)
 }
 
 // The lesser of two elements, 0 being none.
 fn lesser_of(a: u32, b: u32) -> u32
     ensures { LesserOf a b result }
 {
-    if a == 0 {
-        return b;
+    if a == 0 || b == 0 {
+        return a.max(b);
     }
-    if b == 0 {
-        return a;
-    }
-    if a < b {
-        return a;
-    }
-    b
+    a.min(b)
 }
 
 // The least element that doesn't meet another well, by the least one that the sibling map's pass found; 0 where there is none.
@@ -75,15 +58,7 @@ fn is_corner(list: &[u32], f: u32, v: u32) -> bool
     ensures { result ≡ is_corner list.now f v }
 {
     let row = row_at(list, f);
-    let k = side_count(row);
-    let mut i = 0;
-    while i < k {
-        i += 1;
-        if corner(row, i) == v {
-            return true;
-        }
-    }
-    false
+    (1..=side_count(row)).any(|i| corner(row, i) == v)
 }
 
 // How many corners of f are corners of g too.
@@ -92,25 +67,9 @@ fn shared_corners(list: &[u32], f: u32, g: u32) -> u32
     ensures { result ≡ shared_corners list.now f g }
 {
     let row = row_at(list, f);
-    let k = side_count(row);
-    let mut shared = 0;
-    let mut i = 0;
-    while i < k {
-        i += 1;
-        if is_corner(list, g, corner(row, i)) {
-            shared += 1;
-        }
-    }
-    shared
-}
-
-fn is_pair(a: u32, b: u32, c: u32, d: u32) -> bool
-    ensures { result ≡ both (eqb a c) (eqb b d) }
-{
-    if a != c {
-        return false;
-    }
-    b == d
+    (1..=side_count(row))
+        .filter(|i| is_corner(list, g, corner(row, *i)))
+        .count() as u32
 }
 
 // Two sides join the same two vertices.
@@ -118,14 +77,9 @@ fn is_joined(list: &[u32], s: u32, t: u32) -> bool
     requires { Side list.now s × Side list.now t }
     ensures { result ≡ joins list.now s t }
 {
-    let a = origin_of(list, s);
-    let b = destination_of(list, s);
-    let c = origin_of(list, t);
-    let d = destination_of(list, t);
-    if is_pair(a, b, c, d) {
-        return true;
-    }
-    is_pair(a, b, d, c)
+    let (a, b) = (origin_of(list, s), destination_of(list, s));
+    let (c, d) = (origin_of(list, t), destination_of(list, t));
+    (a, b) == (c, d) || (a, b) == (d, c)
 }
 
 // A side of element g joins the vertices of side s.
@@ -133,15 +87,7 @@ fn has_side(list: &[u32], g: u32, s: u32) -> bool
     requires { Element list.now g × Side list.now s × (elements list.now ≤ max_element) }
     ensures { result ≡ some_number (sides list.now g) (λ j. joins list.now s (8 * g + j)) }
 {
-    let k = side_count(row_at(list, g));
-    let mut j = 0;
-    while j < k {
-        j += 1;
-        if is_joined(list, s, side_code(g, j)) {
-            return true;
-        }
-    }
-    false
+    (1..=side_count(row_at(list, g))).any(|j| is_joined(list, s, side_code(g, j)))
 }
 
 // A side of f and a side of g join the same two vertices.
@@ -149,30 +95,20 @@ fn share_side(list: &[u32], f: u32, g: u32) -> bool
     requires { Element list.now f × Element list.now g × (elements list.now ≤ max_element) }
     ensures { result ≡ share_side list.now f g }
 {
-    let k = side_count(row_at(list, f));
-    let mut i = 0;
-    while i < k {
-        i += 1;
-        if has_side(list, g, side_code(f, i)) {
-            return true;
-        }
-    }
-    false
+    (1..=side_count(row_at(list, f))).any(|i| has_side(list, g, side_code(f, i)))
 }
 
 // f and g share no corner, one corner, or exactly two corners that are also a side of both.
+#[tactic(auto, unfolding(rules::specs::Pairing::meet_well))]
 fn meet_well(list: &[u32], f: u32, g: u32) -> bool
     requires { Element list.now f × Element list.now g × (elements list.now ≤ max_element) }
     ensures { result ≡ meet_well list.now f g }
 {
-    let shared = shared_corners(list, f, g);
-    if shared < 2 {
-        return true;
+    match shared_corners(list, f, g) {
+        0 | 1 => true,
+        2 => share_side(list, f, g),
+        _ => false,
     }
-    if 2 < shared {
-        return false;
-    }
-    share_side(list, f, g)
 }
 
 // The least element above f that doesn't meet f well; 0 where there is none.
@@ -181,12 +117,5 @@ pub fn clash_of(list: &[u32], f: u32) -> u32
     ensures { result ≡ clash_of list.now f }
 {
     let m = (list.len() / 4) as u32;
-    let mut g = f;
-    while g < m {
-        g += 1;
-        if !meet_well(list, f, g) {
-            return g;
-        }
-    }
-    0
+    (f + 1..=m).find(|g| !meet_well(list, f, *g)).unwrap_or(0)
 }
