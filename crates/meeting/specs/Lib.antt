@@ -2,4 +2,3 @@ pub mod Folds
 pub mod Clashes
 pub mod Numbers
 pub mod Places
-pub mod Asked

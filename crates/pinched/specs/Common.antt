@@ -1,18 +1,20 @@
 -- A search for a marked vertex, and refusal 20 by it: the neighbours of a are marked, and one of them, other than c and d, is a neighbour of b.
 -- Assumes nothing.
-use Rattle.std.specs.Prelude.{◌≡◌, refl, Bool, true, false, not, ◌⊎◌, List, ℕ, ◌+◌, ◌-◌, ◌≤◌, ◌<◌, eqb}
+use Rattle.std.specs.Prelude.{◌≡◌, refl, Bool, true, false, not, ◌⊎◌, List, ℕ, ◌+◌, ◌*◌, ◌-◌, ◌/◌, ◌%◌, ◌≤◌, ◌<◌, eqb}
 use Rattle.std.proofs.Common.{ap, sym, subst, ◌∙◌, arith}
 use Rattle.std.proofs.Math.Logic.{inl, inr}
 use Rattle.lists.specs.Tests.{both, either}
 use Rattle.lists.specs.TestLaws.{Means, means_true, means_false, means_one, means_both, means_either, means_not, means_eq}
 use Rattle.lists.specs.Search.{at}
+use Rattle.rules.specs.Elements.{elements}
+use Rattle.theory.specs.Sides.{SideFacts, side_facts}
 use Rattle.edit_rules.specs.Contract.{is_neighbour}
 use Rattle.theory.specs.Least.{means_some_number}
 use Rattle.theory.specs.FitRows.{Fit}
 use Rattle.theory.specs.Triangles.{Runs}
 use Rattle.theory.specs.Coarsening.{pinches_by}
 use Rattle.theory.specs.ContractTests.{Neighbours, means_neighbour, neighbour_in}
-use Rattle.pinched.specs.Marks.{Marked, Joined, joined_to, joined_parts}
+use Rattle.pinched.specs.Marks.{Marked, Joined, joined_facts, joined_to, joined_parts}
 use Rattle.pinched.specs.Corners.{Other, joined_itself, itself_joined}
 
 -- v is a vertex that M marks, other than c and d
@@ -36,6 +38,12 @@ Met L lo hi b C = (v : ℕ) × Joined L lo hi b v × C v
 abbrev pub MetAnywhere : List ℕ → ℕ → (ℕ → Type 0) → Type 0
 MetAnywhere L b C = (v : ℕ) × Neighbours L b v × C v
 
+-- it is a side of some element
+pub met_by_element : {L : List ℕ} {b : ℕ} {C : ℕ → Type 0} → MetAnywhere L b C → (f : ℕ) × (1 ≤ f) × (f < elements L + 1) × Met L (8 * f) (8 * f + 8) b C
+met_by_element {L} (v, (s, x), z) =
+    let t : SideFacts L s = elim x [ inl r ↦ side_facts L s r.side | inr r ↦ side_facts L s r.side ] in
+    (s / 8, t.element_from, omega (arith, t.element_to), (v, record { side = s; from = omega arith; below = omega arith; runs = x }, z))
+
 module _ {L : List ℕ} {b : ℕ} {C : ℕ → Type 0} where
   -- none up to p, and none from there on
   pub unmet_both : {lo p q h hi : ℕ} → (Met L lo p b C → ⊥) → (Met L q h b C → ⊥) → q ≤ p → hi ≤ h → Met L lo hi b C → ⊥
@@ -44,6 +52,15 @@ module _ {L : List ℕ} {b : ℕ} {C : ℕ → Type 0} where
 
   pub met_in : {lo hi k l : ℕ} → Met L lo hi b C → k ≤ lo → hi ≤ l → Met L k l b C
   met_in (v, j, z) k l = (v, joined_to j k l, z)
+
+-- where none of the sides of element f before side k meets such a vertex, none is met up to there
+pub unmet_before : {L : List ℕ} {b : ℕ} {C : ℕ → Type 0} (f k : ℕ) → ((x : ℕ) → 1 ≤ x → x < k → Met L (8 * f + x) (8 * f + x + 1) b C → ⊥) → k ≤ 8
+    → Met L (8 * f) (8 * f + k) b C → ⊥
+unmet_before f k g h (v, j, z) =
+    let x : ℕ = j.side % 8 in
+    let e : 8 * f + x ≡ j.side = omega (arith, j.from, j.below) in
+    let i = (joined_facts j).number_from in
+    g x i (omega (arith, j.below)) (v, record { side = j.side; from = omega arith; below = omega arith; runs = j.runs }, z)
 
 -- side s runs from x to y, and r is the other end where one is b
 module _ {n : ℕ} {L : List ℕ} (fit : Fit n L) {s x y b r : ℕ} (runs : Runs L s x y) (other : Other x y b r) {M : List ℕ} {c d : ℕ} where
@@ -55,6 +72,10 @@ module _ {n : ℕ} {L : List ℕ} (fit : Fit n L) {s x y b r : ℕ} (runs : Runs
 
   pub unmet_next : {lo hi : ℕ} → (Met L lo s b (Counts M c d) → ⊥) → (Counts M c d r → ⊥) → hi ≤ s + 1 → Met L lo hi b (Counts M c d) → ⊥
   unmet_next f g h = unmet_both f (λ x. g (next_met x)) (omega arith) h
+
+  -- the test of r is that of side s
+  pub means_here : {q : Bool} → Means q (Counts M c d r) → Means q (Met L s (s + 1) b (Counts M c d))
+  means_here m = record { says = λ t. met_next (m.says t); shows = λ x. m.shows (next_met x) }
 
   -- where none was met before s, the test of r is that of all up to s
   pub means_last : {lo : ℕ} {q : Bool} → lo ≤ s → (Met L lo s b (Counts M c d) → ⊥) → Means q (Counts M c d r)

@@ -49,10 +49,8 @@ fn mark_by_element(list: &[u32], f: u32, a: u32, marks: &mut [u32])
 {
     let row = row_at(list, f);
     let k = side_count(row);
-    let mut i = 1;
-    while i < k {
+    for i in 1..k {
         mark(other_corner(row, i, i + 1, a), marks);
-        i += 1;
     }
     mark(other_corner(row, k, 1, a), marks);
 }
@@ -63,9 +61,7 @@ fn mark_neighbours(list: &[u32], a: u32, marks: &mut [u32])
     ensures { Marked (Neighbours list.now a) marks.old marks.new }
 {
     let m = (list.len() / 4) as u32;
-    let mut f = 0;
-    while f < m {
-        f += 1;
+    for f in 1..=m {
         mark_by_element(list, f, a, marks);
     }
 }
@@ -75,16 +71,7 @@ fn counts(v: u32, c: u32, d: u32, marks: &[u32]) -> bool
     requires { v ≤ length marks.now }
     ensures { Means result (Counts marks.now c d v) }
 {
-    if v == 0 {
-        return false;
-    }
-    if v == c {
-        return false;
-    }
-    if v == d {
-        return false;
-    }
-    marks[wide(v - 1)] == 1
+    v != 0 && v != c && v != d && marks[wide(v - 1)] == 1
 }
 
 // A side of element f joins b to a marked vertex other than c and d.
@@ -94,14 +81,8 @@ fn meets_by_element(list: &[u32], f: u32, b: u32, c: u32, d: u32, marks: &[u32])
 {
     let row = row_at(list, f);
     let k = side_count(row);
-    let mut i = 1;
-    while i < k {
-        if counts(other_corner(row, i, i + 1, b), c, d, marks) {
-            return true;
-        }
-        i += 1;
-    }
-    counts(other_corner(row, k, 1, b), c, d, marks)
+    (1..k).any(|i| counts(other_corner(row, i, i + 1, b), c, d, marks))
+        || counts(other_corner(row, k, 1, b), c, d, marks)
 }
 
 // A side of the list joins b to a marked vertex other than c and d.
@@ -110,14 +91,7 @@ fn meets_marked(list: &[u32], b: u32, c: u32, d: u32, marks: &[u32]) -> bool
     ensures { Means result (MetAnywhere list.now b (Counts marks.now c d)) }
 {
     let m = (list.len() / 4) as u32;
-    let mut f = 0;
-    while f < m {
-        f += 1;
-        if meets_by_element(list, f, b, c, d, marks) {
-            return true;
-        }
-    }
-    false
+    (1..=m).any(|f| meets_by_element(list, f, b, c, d, marks))
 }
 
 // Whether a and b have a common neighbour other than c and d. The first n entries of the work are scratch.

@@ -1,10 +1,10 @@
 -- `meeting::has_side` meets its contract.
 -- Assumes nothing.
-use Rattle.std.proofs.Common.{rules, arith, ◌∙◌, ◌+◌, ◌*◌}
+use Rattle.std.proofs.Common.{rules, ◌∙◌, refl, ◌+◌, ◌*◌}
 use Rattle.std.proofs.iter.Serving.{serving}
 use Rattle.rules.specs.Pairing.{joins}
 use Rattle.meeting.specs.Numbers.{sides_read, sides_few, side_read}
-use Rattle.meeting.specs.Asked.{some_asked}
+use Rattle.sides.specs.Asked.{up_to, some_asked}
 use Rattle.meeting.proofs.has_side.Goals as goal
 
 pub any-requires-clause-callable : goal.any-requires-clause-callable
@@ -19,4 +19,4 @@ returns c =
     let a = c.args in
     let (p, begins, found) = c.any.ensures.runs in
     let n = sides_read a.list.now a.g c.row_at.ensures c.side_count.ensures in
-    some_asked 0 c.new.ensures.start (c.new.ensures.end ∙ n) c.new.ensures.exhausted p begins (λ j. joins a.list.now a.s (8 * a.g + j)) (λ x i j. absurd (omega arith)) _ _ (λ a b d e. search rules) (λ x b l h k. search rules) c.any.result found
+    some_asked p _ _ (up_to c.new.ensures.start (c.new.ensures.end ∙ n) c.new.ensures.exhausted p begins) _ _ (λ a b d e. search rules) (λ j. joins a.list.now a.s (8 * a.g + j)) refl refl (λ x b l h k. search rules) c.any.result found

@@ -5,7 +5,7 @@ use Rattle.rules.specs.Elements.{corner}
 use Rattle.rules.specs.Pairing.{is_corner}
 use Rattle.halfedge.specs.Rows.{corner_of}
 use Rattle.meeting.specs.Numbers.{sides_read, corner_read}
-use Rattle.meeting.specs.Asked.{some_asked}
+use Rattle.sides.specs.Asked.{up_to, some_asked}
 use Rattle.meeting.proofs.is_corner.Goals as goal
 
 pub returns : goal.returns
@@ -14,7 +14,7 @@ returns c =
     let a = c.args in
     let (p, begins, found) = c.any.ensures.runs in
     let n = sides_read a.list.now a.f c.row_at-row.ensures c.side_count.ensures in
-    some_asked 0 c.new.ensures.start (c.new.ensures.end ∙ n) c.new.ensures.exhausted p begins (λ j. eqb (corner a.list.now a.f j) a.v) (λ x i j. absurd (omega arith)) _ _ (λ a b d e. search rules)
+    some_asked p _ _ (up_to c.new.ensures.start (c.new.ensures.end ∙ n) c.new.ensures.exhausted p begins) _ _ (λ a b d e. search rules) (λ j. eqb (corner a.list.now a.f j) a.v) refl refl
     (λ x b l h k.
     let e : b ≡ eqb (corner_of c.row_at-row.result x) a.v = search rules in
     e ∙ ap (λ y. eqb y a.v) (corner_read a.list.now a.f c.row_at-row.ensures (omega arith) h refl)) c.any.result found
