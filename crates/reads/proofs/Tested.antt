@@ -1,6 +1,6 @@
 -- What the tests of half-edges and vertices say.
 -- Assumes nothing.
-use mathlib.Core.Option.{Option, some}
+use mathlib.Core.Option.{some}
 use mathlib.Core.Path.{◌≡◌}
 use mathlib.Core.Logic.{◌⊎◌, inl, inr}
 use Prim.Native.Nat.{ℕ, ◌*◌, ◌-◌, ◌/◌, ◌%◌, ◌≤◌}
@@ -9,8 +9,8 @@ use lib.Dec.{T}
 use lib.ListN.{length}
 use Rattle.lists.specs.TestLaws.{means_itself, means_both, means_either, means_eq, means_within}
 use Rattle.lists.specs.Search.{at}
-use Rattle.rules.specs.Elements.{is_side, Side, number}
-use Rattle.rules.specs.Queries.{Mesh, is_border_code, is_half_edge, is_entry, is_vertex, and_then, read, read_border_side, read_vertex_entry}
+use Rattle.rules.specs.Elements.{is_side, Side, number, origin}
+use Rattle.rules.specs.Queries.{Mesh, is_border_code, is_half_edge, is_entry, is_vertex, and_then, read, read_opposite, read_border_side, read_vertex_entry, read_origin}
 use Rattle.theory.specs.Sides.{side_facts}
 use Rattle.theory.specs.Reads.{was_valid, and_some}
 
@@ -41,10 +41,17 @@ module _ (M : Mesh) (c : ℕ) where
       go (inl a) = a
       go (inr b) = absurd (d (border_facts b).0)
 
--- what was read as the end of a side is a vertex
-pub end_vertex : (M : Mesh) (end : ℕ → ℕ) (o : Option ℕ) (v : ℕ) → and_then o (λ s. read (is_vertex M) (end s)) ≡ some v → T (is_vertex M v)
-end_vertex M end o v e =
-    let (s, p, q) = and_some o (λ s. read (is_vertex M) (end s)) v e in was_valid (is_vertex M) (end s) v q
+-- what was read as the end of a border half-edge is a vertex
+pub border_end : (M : Mesh) (c v : ℕ) → and_then (read_border_side M c) (read_origin M) ≡ some v → (1 ≤ v) × (v ≤ M.n)
+unfolding read_origin
+border_end M c v e =
+    let (s, p, q) = and_some (read_border_side M c) (λ s. read (is_vertex M) (origin M.list s)) v e in
+    vertex_facts M v (was_valid (is_vertex M) (origin M.list s) v q)
+
+-- what E2e holds of a side is a side where it is no border half-edge
+pub across_side : (M : Mesh) (s t : ℕ) → read_opposite M s ≡ some t → (t % 8 ≡ 0 → ⊥) → Side M.list t
+unfolding read_opposite
+across_side M s t e d = half_side M t (was_valid (is_half_edge M) _ t e) d
 
 -- a border number has the code of a border half-edge
 pub border_numbered : (M : Mesh) (b : ℕ) → (1 ≤ b) × (b ≤ length M.border) → T (is_border_code M (8 * b))

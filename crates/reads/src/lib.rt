@@ -1,400 +1,276 @@
-// What a query reads from the tables: a value that names something, or a broken entry.
+// What a query reads from a mesh: a value that names something, or nothing where an entry is broken.
 #![tactic(auto)]
 
-ghost use Rattle.std.specs.Prelude.{◌⊎◌, ◌≡◌, ◌≤◌, T, length};
+ghost use Rattle.std.specs.Prelude.{◌≡◌, ◌≤◌, T, length};
 ghost use Rattle.lists.specs.Tests.{within};
-ghost use Rattle.rules.specs.Elements.{Side};
+ghost use Rattle.rules.specs.Elements.{max_element, max_border, elements, Side, is_side};
 ghost use Rattle.rules.specs.Tables.{entry_of};
-ghost use Rattle.rules.specs.Queries.{read, and_then, is_border_code, is_half_edge, is_entry, is_vertex, read_opposite, read_border_side, read_vertex_entry, read_origin};
+ghost use Rattle.rules.specs.Queries.{and_then, is_border_code, is_half_edge, is_entry, is_vertex, read_opposite, read_border_side, read_vertex_entry, read_origin};
 ghost use Rattle.rules.specs.Queries.{read_destination, border_next, start_side, onward, next_border, loop_next};
-ghost use Rattle.reads.specs.Meshes.{mesh, Fit, EntryIn};
 ghost use Rattle.reads.specs.Readings.{read_of, prior_vertex};
 
-use halfedge::{HalfEdge, element_of, is_border, narrow_slot_of, number_of, slot_of, wide};
+use halfedge::{border_code, element_of, is_border, number_of, wide};
 use sides::{is_side, next_code, origin_of};
+use std::marker::Model;
 
-#[derive(Clone, Copy)]
-pub enum Read {
-    Value(u32),
-    Broken,
+// An element list with its tables, which may be unfit. A clause sees the mesh of the rules.
+#[derive(Drop)]
+pub struct Mesh<'a> {
+    pub n: u32,
+    pub columns: u32,
+    pub list: &'a [u32],
+    pub v2e: &'a [u32],
+    pub e2e: &'a [u32],
+    pub b2e: &'a [u32],
 }
 
-// The value where it is valid.
-fn checked(valid: bool, x: u32) -> Read
-    ensures { read_of result ≡ read (λ _. valid) x }
-{
-    if !valid {
-        return Read::Broken;
+impl<'a> Model for Mesh<'a> {
+    ghost use Rattle.rules.specs.Queries.{Mesh as Told};
+    ghost use Rattle.reads.specs.Meshes.{mesh};
+
+    ghost Value = { Told };
+
+    ghost view = { λ s. mesh s.n s.columns s.list.now s.v2e.now s.e2e.now s.b2e.now };
+}
+
+// A mesh that checks 1 and 2 let pass.
+#[derive(Drop)]
+pub struct Fitting<'a> {
+    pub mesh: &'a Mesh<'a>,
+}
+
+impl<'a> Model for Fitting<'a> {
+    ghost use Rattle.rules.specs.Queries.{Mesh as Told};
+    ghost use Rattle.reads.specs.Meshes.{Fit};
+
+    ghost Value = { Told };
+
+    ghost view = { λ s. s.mesh.now };
+
+    ghost invariant = { λ s. Fit s.mesh.now };
+}
+
+impl Mesh<'_> {
+    #[tactic(auto, unfolding(rules::specs::Queries::is_vertex))]
+    pub fn is_vertex(&self, v: u32) -> bool
+        ensures { result ≡ is_vertex self.now v }
+    {
+        1 <= v && v <= self.n
     }
-    Read::Value(x)
-}
 
-pub fn is_vertex(
-    n: u32,
-    columns: u32,
-    list: &[u32],
-    v2e: &[u32],
-    e2e: &[u32],
-    b2e: &[u32],
-    v: u32,
-) -> bool
-    ensures { result ≡ is_vertex (mesh n columns list.now v2e.now e2e.now b2e.now) v }
-{
-    if v < 1 {
-        return false;
+    pub fn is_border_number(&self, b: u32) -> bool
+        ensures { result ≡ within 1 (length self.now.border) b }
+    {
+        1 <= b && wide(b) <= self.b2e.len()
     }
-    v <= n
-}
 
-pub fn is_border_number(b2e: &[u32], b: u32) -> bool
-    ensures { result ≡ within 1 (length b2e.now) b }
-{
-    if b < 1 {
-        return false;
+    #[tactic(auto, unfolding(rules::specs::Queries::is_border_code))]
+    fn is_border_code(&self, code: u32) -> bool
+        ensures { result ≡ is_border_code self.now code }
+    {
+        is_border(code) && self.is_border_number(element_of(code))
     }
-    wide(b) <= b2e.len()
-}
 
-fn is_border_code(
-    n: u32,
-    columns: u32,
-    list: &[u32],
-    v2e: &[u32],
-    e2e: &[u32],
-    b2e: &[u32],
-    code: u32,
-) -> bool
-    ensures { result ≡ is_border_code (mesh n columns list.now v2e.now e2e.now b2e.now) code }
-{
-    if !is_border(code) {
-        return false;
+    pub fn is_side(&self, code: u32) -> bool
+        ensures { result ≡ is_side self.now.list code }
+    {
+        is_side(self.list, code)
     }
-    is_border_number(b2e, element_of(code))
-}
 
-pub fn is_half_edge(
-    n: u32,
-    columns: u32,
-    list: &[u32],
-    v2e: &[u32],
-    e2e: &[u32],
-    b2e: &[u32],
-    code: u32,
-) -> bool
-    ensures { result ≡ is_half_edge (mesh n columns list.now v2e.now e2e.now b2e.now) code }
-{
-    if is_side(list, code) {
-        return true;
+    #[tactic(auto, unfolding(rules::specs::Queries::is_half_edge))]
+    pub fn is_half_edge(&self, code: u32) -> bool
+        ensures { result ≡ is_half_edge self.now code }
+    {
+        self.is_side(code) || self.is_border_code(code)
     }
-    is_border_code(n, columns, list, v2e, e2e, b2e, code)
-}
 
-// What V2e may hold of a vertex: 0 where it is unused, or a half-edge.
-fn is_entry(
-    n: u32,
-    columns: u32,
-    list: &[u32],
-    v2e: &[u32],
-    e2e: &[u32],
-    b2e: &[u32],
-    code: u32,
-) -> bool
-    ensures { result ≡ is_entry (mesh n columns list.now v2e.now e2e.now b2e.now) code }
-{
-    if code == 0 {
-        return true;
+    // What V2e may hold of a vertex: 0 where it is unused, or a half-edge.
+    #[tactic(auto, unfolding(rules::specs::Queries::is_entry))]
+    fn is_entry(&self, code: u32) -> bool
+        ensures { result ≡ is_entry self.now code }
+    {
+        code == 0 || self.is_half_edge(code)
     }
-    is_half_edge(n, columns, list, v2e, e2e, b2e, code)
-}
 
-// The E2e entry of side s; 0, which names nothing, for a fourth side in three columns.
-fn entry_of(columns: u32, e2e: &[u32], s: u32) -> u32
-    requires { ((columns ≡ 3) ⊎ (columns ≡ 4)) × EntryIn columns e2e.now s }
-    ensures { result ≡ entry_of columns e2e.now s }
-{
-    if columns == 4 {
-        return e2e[slot_of(s)];
+    #[tactic(auto, using(crate::proofs::Tested::border_facts), unfolding(rules::specs::Queries::read_border_side))]
+    pub fn read_border_side(&self, code: u32) -> Option<u32>
+        requires { T (is_border_code self.now code) }
+        ensures { read_of result ≡ read_border_side self.now code }
+    {
+        let side = self.b2e[wide(element_of(code)) - 1];
+        self.is_side(side).then_some(side)
     }
-    if number_of(s) == 4 {
-        return 0;
+
+    #[tactic(auto, unfolding(rules::specs::Queries::read_origin))]
+    pub fn read_origin(&self, s: u32) -> Option<u32>
+        requires { Side self.now.list s }
+        ensures { read_of result ≡ read_origin self.now s }
+    {
+        let v = origin_of(self.list, s);
+        self.is_vertex(v).then_some(v)
     }
-    e2e[narrow_slot_of(s)]
-}
 
-pub fn read_opposite(
-    n: u32,
-    columns: u32,
-    list: &[u32],
-    v2e: &[u32],
-    e2e: &[u32],
-    b2e: &[u32],
-    s: u32,
-) -> Read
-    requires { Fit (mesh n columns list.now v2e.now e2e.now b2e.now) × Side list.now s }
-    ensures { read_of result ≡ read_opposite (mesh n columns list.now v2e.now e2e.now b2e.now) s }
-{
-    let opposed = entry_of(columns, e2e, s);
-    let valid = is_half_edge(n, columns, list, v2e, e2e, b2e, opposed);
-    checked(valid, opposed)
-}
-
-pub fn read_border_side(
-    n: u32,
-    columns: u32,
-    list: &[u32],
-    v2e: &[u32],
-    e2e: &[u32],
-    b2e: &[u32],
-    code: u32,
-) -> Read
-    requires { T (is_border_code (mesh n columns list.now v2e.now e2e.now b2e.now) code) }
-    ensures { read_of result ≡ read_border_side (mesh n columns list.now v2e.now e2e.now b2e.now) code }
-{
-    let side = b2e[wide(element_of(code)) - 1];
-    let valid = is_side(list, side);
-    checked(valid, side)
-}
-
-pub fn read_vertex_entry(
-    n: u32,
-    columns: u32,
-    list: &[u32],
-    v2e: &[u32],
-    e2e: &[u32],
-    b2e: &[u32],
-    v: u32,
-) -> Read
-    requires { Fit (mesh n columns list.now v2e.now e2e.now b2e.now) × T (is_vertex (mesh n columns list.now v2e.now e2e.now b2e.now) v) }
-    ensures { read_of result ≡ read_vertex_entry (mesh n columns list.now v2e.now e2e.now b2e.now) v }
-{
-    let code = v2e[wide(v) - 1];
-    let valid = is_entry(n, columns, list, v2e, e2e, b2e, code);
-    checked(valid, code)
-}
-
-pub fn read_origin(
-    n: u32,
-    columns: u32,
-    list: &[u32],
-    v2e: &[u32],
-    e2e: &[u32],
-    b2e: &[u32],
-    s: u32,
-) -> Read
-    requires { Side list.now s }
-    ensures { read_of result ≡ read_origin (mesh n columns list.now v2e.now e2e.now b2e.now) s }
-{
-    let v = origin_of(list, s);
-    let valid = is_vertex(n, columns, list, v2e, e2e, b2e, v);
-    checked(valid, v)
-}
-
-pub fn read_destination(
-    n: u32,
-    columns: u32,
-    list: &[u32],
-    v2e: &[u32],
-    e2e: &[u32],
-    b2e: &[u32],
-    s: u32,
-) -> Read
-    requires { Side list.now s }
-    ensures { read_of result ≡ read_destination (mesh n columns list.now v2e.now e2e.now b2e.now) s }
-{
-    // The next side's origin: for sides 1 and 2 one corner is read, not the row.
-    let v = origin_of(list, next_code(list, s));
-    let valid = is_vertex(n, columns, list, v2e, e2e, b2e, v);
-    checked(valid, v)
-}
-
-// The origin of a border half-edge.
-pub fn border_origin(
-    n: u32,
-    columns: u32,
-    list: &[u32],
-    v2e: &[u32],
-    e2e: &[u32],
-    b2e: &[u32],
-    code: u32,
-) -> Read
-    requires { T (is_border_code (mesh n columns list.now v2e.now e2e.now b2e.now) code) }
-    ensures { let M = mesh n columns list.now v2e.now e2e.now b2e.now in read_of result ≡ and_then (read_border_side M code) (read_destination M) }
-{
-    let side = read_border_side(n, columns, list, v2e, e2e, b2e, code);
-    let Read::Value(s) = side else {
-        return Read::Broken;
-    };
-    read_destination(n, columns, list, v2e, e2e, b2e, s)
-}
-
-pub fn border_destination(
-    n: u32,
-    columns: u32,
-    list: &[u32],
-    v2e: &[u32],
-    e2e: &[u32],
-    b2e: &[u32],
-    code: u32,
-) -> Read
-    requires { T (is_border_code (mesh n columns list.now v2e.now e2e.now b2e.now) code) }
-    ensures { let M = mesh n columns list.now v2e.now e2e.now b2e.now in read_of result ≡ and_then (read_border_side M code) (read_origin M) }
-{
-    let side = read_border_side(n, columns, list, v2e, e2e, b2e, code);
-    let Read::Value(s) = side else {
-        return Read::Broken;
-    };
-    read_origin(n, columns, list, v2e, e2e, b2e, s)
-}
-
-// The border half-edge after a border half-edge.
-pub fn border_next(
-    n: u32,
-    columns: u32,
-    list: &[u32],
-    v2e: &[u32],
-    e2e: &[u32],
-    b2e: &[u32],
-    code: u32,
-) -> Read
-    requires { let M = mesh n columns list.now v2e.now e2e.now b2e.now in Fit M × T (is_border_code M code) }
-    ensures { read_of result ≡ border_next (mesh n columns list.now v2e.now e2e.now b2e.now) code }
-{
-    let end = border_destination(n, columns, list, v2e, e2e, b2e, code);
-    let Read::Value(v) = end else {
-        return Read::Broken;
-    };
-    let following = v2e[wide(v) - 1];
-    let valid = is_border_code(n, columns, list, v2e, e2e, b2e, following);
-    checked(valid, following)
-}
-
-// The side with which the ring of a vertex begins; 0 where the vertex is unused.
-pub fn start_side(
-    n: u32,
-    columns: u32,
-    list: &[u32],
-    v2e: &[u32],
-    e2e: &[u32],
-    b2e: &[u32],
-    v: u32,
-) -> Read
-    requires { let M = mesh n columns list.now v2e.now e2e.now b2e.now in Fit M × T (is_vertex M v) }
-    ensures { read_of result ≡ start_side (mesh n columns list.now v2e.now e2e.now b2e.now) v }
-{
-    let entry = read_vertex_entry(n, columns, list, v2e, e2e, b2e, v);
-    let Read::Value(first) = entry else {
-        return Read::Broken;
-    };
-    if first == 0 {
-        return Read::Value(0);
+    #[tactic(auto, using(theory::specs::Steps::next_side_lem), unfolding(rules::specs::Queries::read_destination))]
+    pub fn read_destination(&self, s: u32) -> Option<u32>
+        requires { Side self.now.list s }
+        ensures { read_of result ≡ read_destination self.now s }
+    {
+        // The next side's origin: for sides 1 and 2 one corner is read, not the row.
+        let v = origin_of(self.list, next_code(self.list, s));
+        self.is_vertex(v).then_some(v)
     }
-    if !is_border(first) {
-        return Read::Value(first);
+
+    #[tactic(auto, using(crate::proofs::Tested::border_side), unfolding(rules::specs::Queries::and_then))]
+    pub fn border_origin(&self, code: u32) -> Option<u32>
+        requires { T (is_border_code self.now code) }
+        ensures { read_of result ≡ and_then (read_border_side self.now code) (read_destination self.now) }
+    {
+        let s = self.read_border_side(code)?;
+        self.read_destination(s)
     }
-    let side = read_border_side(n, columns, list, v2e, e2e, b2e, first);
-    let Read::Value(s) = side else {
-        return Read::Broken;
-    };
-    let begin = next_code(list, s);
-    Read::Value(begin)
+
+    #[tactic(auto, using(crate::proofs::Tested::border_side), unfolding(rules::specs::Queries::and_then))]
+    pub fn border_destination(&self, code: u32) -> Option<u32>
+        requires { T (is_border_code self.now code) }
+        ensures { read_of result ≡ and_then (read_border_side self.now code) (read_origin self.now) }
+    {
+        let s = self.read_border_side(code)?;
+        self.read_origin(s)
+    }
 }
 
-// The side after s in the ring that began with a start side; 0 where the ring stops.
-pub fn ring_next(
-    n: u32,
-    columns: u32,
-    list: &[u32],
-    v2e: &[u32],
-    e2e: &[u32],
-    b2e: &[u32],
-    start: u32,
-    s: u32,
-) -> Read
-    requires { Fit (mesh n columns list.now v2e.now e2e.now b2e.now) × Side list.now s }
-    ensures { read_of result ≡ onward (mesh n columns list.now v2e.now e2e.now b2e.now) start s }
-{
-    let across = read_opposite(n, columns, list, v2e, e2e, b2e, s);
-    let Read::Value(t) = across else {
-        return Read::Broken;
-    };
-    if is_border(t) {
-        return Read::Value(0);
+impl Fitting<'_> {
+    // m, the number of elements.
+    pub fn element_count(&self) -> u32
+        ensures count { result ≡ elements self.now.list }
+        ensures most { result ≤ max_element }
+    {
+        let mesh = self.mesh;
+        (mesh.list.len() / 4) as u32
     }
-    let turn = next_code(list, t);
-    if turn == start {
-        return Read::Value(0);
-    }
-    Read::Value(turn)
-}
 
-// The border half-edge after x, as border numbers.
-pub fn next_border(
-    n: u32,
-    columns: u32,
-    list: &[u32],
-    v2e: &[u32],
-    e2e: &[u32],
-    b2e: &[u32],
-    x: u32,
-) -> Read
-    requires { Fit (mesh n columns list.now v2e.now e2e.now b2e.now) × ((1 ≤ x) × (x ≤ length b2e.now)) }
-    ensures { read_of result ≡ next_border (mesh n columns list.now v2e.now e2e.now b2e.now) x }
-{
-    let border = HalfEdge::border(x);
-    let following = border_next(n, columns, list, v2e, e2e, b2e, border.code);
-    let Read::Value(code) = following else {
-        return Read::Broken;
-    };
-    let y = element_of(code);
-    Read::Value(y)
-}
+    // k, the number of border half-edges.
+    pub fn border_count(&self) -> u32
+        ensures count { result ≡ length self.now.border }
+        ensures most { result ≤ max_border }
+    {
+        let mesh = self.mesh;
+        mesh.b2e.len() as u32
+    }
 
-// The border number after x in the loop that began with b; 0 where the loop closes.
-pub fn loop_next(
-    n: u32,
-    columns: u32,
-    list: &[u32],
-    v2e: &[u32],
-    e2e: &[u32],
-    b2e: &[u32],
-    b: u32,
-    x: u32,
-) -> Read
-    requires { Fit (mesh n columns list.now v2e.now e2e.now b2e.now) × ((1 ≤ x) × (x ≤ length b2e.now)) }
-    ensures { read_of result ≡ loop_next (mesh n columns list.now v2e.now e2e.now b2e.now) b x }
-{
-    let following = next_border(n, columns, list, v2e, e2e, b2e, x);
-    let Read::Value(y) = following else {
-        return Read::Broken;
-    };
-    if y == b {
-        return Read::Value(0);
+    // The E2e entry of side s; 0, which names nothing, for a fourth side in three columns.
+    #[tactic(auto, using(theory::specs::Sides::side_from, crate::proofs::Entries::entry_inside, crate::proofs::Entries::row_inside), unfolding(rules::specs::Tables::entry_of, rules::specs::Tables::e2e_slot))]
+    fn entry_of(&self, s: u32) -> u32
+        requires { Side self.now.list s }
+        ensures { result ≡ entry_of self.now.columns self.now.opposites s }
+    {
+        let mesh = self.mesh;
+        let i = number_of(s);
+        if mesh.columns < i {
+            return 0;
+        }
+        mesh.e2e[wide(mesh.columns * (element_of(s) - 1) + (i - 1))]
     }
-    Read::Value(y)
-}
 
-// The vertex before the ring of v: where V2e of v is a border, that border half-edge's destination, else 0.
-pub fn prior_vertex(
-    n: u32,
-    columns: u32,
-    list: &[u32],
-    v2e: &[u32],
-    e2e: &[u32],
-    b2e: &[u32],
-    v: u32,
-) -> Read
-    requires { let M = mesh n columns list.now v2e.now e2e.now b2e.now in Fit M × T (is_vertex M v) }
-    ensures { read_of result ≡ prior_vertex (mesh n columns list.now v2e.now e2e.now b2e.now) v }
-{
-    let entry = read_vertex_entry(n, columns, list, v2e, e2e, b2e, v);
-    let Read::Value(code) = entry else {
-        return Read::Broken;
-    };
-    if code == 0 {
-        return Read::Value(0);
+    #[tactic(auto, unfolding(rules::specs::Queries::read_opposite))]
+    pub fn read_opposite(&self, s: u32) -> Option<u32>
+        requires { Side self.now.list s }
+        ensures { read_of result ≡ read_opposite self.now s }
+    {
+        let opposed = self.entry_of(s);
+        self.mesh.is_half_edge(opposed).then_some(opposed)
     }
-    if !is_border(code) {
-        return Read::Value(0);
+
+    #[tactic(auto, using(crate::proofs::Tested::vertex_facts), unfolding(rules::specs::Queries::read_vertex_entry))]
+    pub fn read_vertex_entry(&self, v: u32) -> Option<u32>
+        requires { T (is_vertex self.now v) }
+        ensures { read_of result ≡ read_vertex_entry self.now v }
+    {
+        let mesh = self.mesh;
+        let entry = mesh.v2e[wide(v) - 1];
+        mesh.is_entry(entry).then_some(entry)
     }
-    border_destination(n, columns, list, v2e, e2e, b2e, code)
+
+    // The border half-edge after a border half-edge.
+    #[tactic(auto, using(crate::proofs::Tested::border_end), unfolding(rules::specs::Queries::border_next, rules::specs::Queries::and_then))]
+    pub fn border_next(&self, code: u32) -> Option<u32>
+        requires { T (is_border_code self.now code) }
+        ensures { read_of result ≡ border_next self.now code }
+    {
+        let mesh = self.mesh;
+        let v = mesh.border_destination(code)?;
+        let next = mesh.v2e[wide(v) - 1];
+        mesh.is_border_code(next).then_some(next)
+    }
+
+    // The side with which the ring of a vertex begins; 0 where the vertex is unused.
+    #[tactic(auto, using(crate::proofs::Tested::entry_border, crate::proofs::Tested::border_side), unfolding(rules::specs::Queries::start_side, rules::specs::Queries::and_then))]
+    pub fn start_side(&self, v: u32) -> Option<u32>
+        requires { T (is_vertex self.now v) }
+        ensures { read_of result ≡ start_side self.now v }
+    {
+        let entry = self.read_vertex_entry(v)?;
+        if entry == 0 || !is_border(entry) {
+            return Some(entry);
+        }
+        let mesh = self.mesh;
+        let s = mesh.read_border_side(entry)?;
+        Some(next_code(mesh.list, s))
+    }
+
+    // The side after s in the ring that began with a start side; 0 where the ring stops.
+    #[tactic(auto, using(crate::proofs::Tested::across_side), unfolding(rules::specs::Queries::onward, rules::specs::Queries::and_then))]
+    pub fn ring_next(&self, start: u32, s: u32) -> Option<u32>
+        requires { Side self.now.list s }
+        ensures { read_of result ≡ onward self.now start s }
+    {
+        let opposed = self.read_opposite(s)?;
+        if is_border(opposed) {
+            return Some(0);
+        }
+        let mesh = self.mesh;
+        let turn = next_code(mesh.list, opposed);
+        if turn == start {
+            return Some(0);
+        }
+        Some(turn)
+    }
+
+    // The border half-edge after x, as border numbers.
+    #[tactic(auto, using(crate::proofs::Tested::border_numbered), unfolding(rules::specs::Queries::next_border, rules::specs::Queries::and_then))]
+    pub fn next_border(&self, x: u32) -> Option<u32>
+        requires { (1 ≤ x) × (x ≤ length self.now.border) }
+        ensures { read_of result ≡ next_border self.now x }
+    {
+        // That the mesh fits says how great x can be.
+        let _ = &self.mesh;
+        let next = self.border_next(border_code(x))?;
+        Some(element_of(next))
+    }
+
+    // The border number after x in the loop that began with b; 0 where the loop closes.
+    #[tactic(auto, unfolding(rules::specs::Queries::loop_next, rules::specs::Queries::and_then))]
+    pub fn loop_next(&self, b: u32, x: u32) -> Option<u32>
+        requires { (1 ≤ x) × (x ≤ length self.now.border) }
+        ensures { read_of result ≡ loop_next self.now b x }
+    {
+        let next = self.next_border(x)?;
+        if next == b {
+            return Some(0);
+        }
+        Some(next)
+    }
+
+    // The vertex before the ring of v: where V2e of v is a border, that border half-edge's destination, else 0.
+    #[tactic(auto, using(crate::proofs::Tested::entry_border), unfolding(crate::specs::Readings::prior_vertex, rules::specs::Queries::and_then))]
+    pub fn prior_vertex(&self, v: u32) -> Option<u32>
+        requires { T (is_vertex self.now v) }
+        ensures { read_of result ≡ prior_vertex self.now v }
+    {
+        let entry = self.read_vertex_entry(v)?;
+        if entry == 0 || !is_border(entry) {
+            return Some(0);
+        }
+        self.mesh.border_destination(entry)
+    }
 }
