@@ -1,147 +1,60 @@
-// Checks 1, 2 and 11. A check answers the refusal's number, 0 where it finds nothing.
+// Checks 1, 2 and 11, which come before a query's answer.
 #![tactic(auto)]
 
-ghost use Rattle.std.specs.Prelude.{true, ◌≡◌, ◌*◌, ◌≤◌, leb, eqb, length};
-ghost use Rattle.lists.specs.Tests.{both, within};
-ghost use Rattle.rules.specs.Elements.{max_element, is_side};
-ghost use Rattle.rules.specs.Queries.{is_half_edge, is_vertex};
-ghost use Rattle.reads.specs.Meshes.{mesh, Admits};
+ghost use Rattle.std.specs.Prelude.{true, ◌≡◌, ◌≤◌};
+ghost use Rattle.rules.specs.Elements.{max_element, elements};
+ghost use Rattle.rules.specs.Pairing.{sizes_fit};
+ghost use Rattle.rules.specs.Queries.{query_lengths};
+ghost use Rattle.admission.specs.Admitting.{Admits};
 
+use answer::{Reason, Refusal};
 use halfedge::wide;
-use lengths::sizes_fit;
-use reads::{is_border_number, is_half_edge, is_vertex};
-use sides::is_side;
+use reads::{Fitting, Mesh};
 
-// Check 2, for n, the columns, m and the lengths of the three tables.
-fn lengths_fit(n: u32, columns: u32, m: usize, v2e: usize, e2e: usize, b2e: usize) -> bool
-    requires { m ≤ max_element }
-    ensures { result ≡ both (within 3 4 columns) (both (eqb v2e n) (both (eqb e2e (columns * m)) (leb b2e (4 * m)))) }
+// Check 1.
+#[tactic(auto, unfolding(rules::specs::Pairing::sizes_fit, rules::specs::Pairing::call_sizes))]
+fn sizes_fit(mesh: &Mesh) -> bool
+    ensures { result ≡ sizes_fit mesh.now.n mesh.now.list }
 {
-    if columns < 3 {
-        return false;
-    }
-    if 4 < columns {
-        return false;
-    }
-    if v2e != wide(n) {
-        return false;
-    }
-    if e2e != wide(columns) * m {
-        return false;
-    }
-    b2e <= 4 * m
+    lengths::sizes_fit(mesh.n, mesh.list.len() / 4, mesh.list.len())
 }
 
-pub fn length_refusal(
-    n: u32,
-    columns: u32,
-    list: &[u32],
-    v2e: &[u32],
-    e2e: &[u32],
-    b2e: &[u32],
-) -> u32
-    ensures { Admits (mesh n columns list.now v2e.now e2e.now b2e.now) true result }
+// Check 2.
+#[tactic(auto, unfolding(rules::specs::Queries::query_lengths))]
+fn lengths_fit(mesh: &Mesh) -> bool
+    requires { elements mesh.now.list ≤ max_element }
+    ensures { result ≡ query_lengths mesh.now }
 {
-    let m = list.len() / 4;
-    if !sizes_fit(n, m, list.len()) {
-        return 1;
+    let m = mesh.list.len() / 4;
+    3 <= mesh.columns
+        && mesh.columns <= 4
+        && mesh.v2e.len() == wide(mesh.n)
+        && mesh.e2e.len() == wide(mesh.columns) * m
+        && mesh.b2e.len() <= 4 * m
+}
+
+// Checks 1 and 2.
+#[tactic(auto, using(crate::proofs::Admitted::few_elements, crate::proofs::Admitted::sizes_found, crate::proofs::Admitted::lengths_found, crate::proofs::Admitted::none_found))]
+pub fn admit<'a>(mesh: &'a Mesh<'a>) -> Result<Fitting<'a>, Refusal>
+    ensures { Admits mesh.now true result }
+{
+    if !sizes_fit(mesh) {
+        return Err(Refusal::of(Reason::Sizes));
     }
-    if !lengths_fit(n, columns, m, v2e.len(), e2e.len(), b2e.len()) {
-        return 2;
+    if !lengths_fit(mesh) {
+        return Err(Refusal::of(Reason::Lengths));
     }
-    0
+    Ok(Fitting { mesh })
 }
 
 // Check 11 after them: what is asked about is there.
-fn refusal(
-    n: u32,
-    columns: u32,
-    list: &[u32],
-    v2e: &[u32],
-    e2e: &[u32],
-    b2e: &[u32],
-    there: bool,
-) -> u32
-    ensures { Admits (mesh n columns list.now v2e.now e2e.now b2e.now) there result }
+#[tactic(auto, using(crate::proofs::Admitted::present))]
+pub fn admit_asked<'a>(mesh: &'a Mesh<'a>, there: bool) -> Result<Fitting<'a>, Refusal>
+    ensures { Admits mesh.now there result }
 {
-    let earlier = length_refusal(n, columns, list, v2e, e2e, b2e);
-    if 0 < earlier {
-        return earlier;
-    }
+    let fitting = admit(mesh)?;
     if !there {
-        return 11;
+        return Err(Refusal::of(Reason::Absent));
     }
-    0
-}
-
-pub fn half_edge_refusal(
-    n: u32,
-    columns: u32,
-    list: &[u32],
-    v2e: &[u32],
-    e2e: &[u32],
-    b2e: &[u32],
-    code: u32,
-) -> u32
-    ensures { Admits (mesh n columns list.now v2e.now e2e.now b2e.now) (is_half_edge (mesh n columns list.now v2e.now e2e.now b2e.now) code) result }
-{
-    refusal(
-        n,
-        columns,
-        list,
-        v2e,
-        e2e,
-        b2e,
-        is_half_edge(n, columns, list, v2e, e2e, b2e, code),
-    )
-}
-
-pub fn side_refusal(
-    n: u32,
-    columns: u32,
-    list: &[u32],
-    v2e: &[u32],
-    e2e: &[u32],
-    b2e: &[u32],
-    code: u32,
-) -> u32
-    ensures { Admits (mesh n columns list.now v2e.now e2e.now b2e.now) (is_side list.now code) result }
-{
-    refusal(n, columns, list, v2e, e2e, b2e, is_side(list, code))
-}
-
-pub fn vertex_refusal(
-    n: u32,
-    columns: u32,
-    list: &[u32],
-    v2e: &[u32],
-    e2e: &[u32],
-    b2e: &[u32],
-    v: u32,
-) -> u32
-    ensures { Admits (mesh n columns list.now v2e.now e2e.now b2e.now) (is_vertex (mesh n columns list.now v2e.now e2e.now b2e.now) v) result }
-{
-    refusal(
-        n,
-        columns,
-        list,
-        v2e,
-        e2e,
-        b2e,
-        is_vertex(n, columns, list, v2e, e2e, b2e, v),
-    )
-}
-
-pub fn border_refusal(
-    n: u32,
-    columns: u32,
-    list: &[u32],
-    v2e: &[u32],
-    e2e: &[u32],
-    b2e: &[u32],
-    b: u32,
-) -> u32
-    ensures { Admits (mesh n columns list.now v2e.now e2e.now b2e.now) (within 1 (length b2e.now) b) result }
-{
-    refusal(n, columns, list, v2e, e2e, b2e, is_border_number(b2e, b))
+    Ok(fitting)
 }

@@ -1,2 +1,3 @@
+pub mod Readings
 pub mod Tested
 pub mod Entries
