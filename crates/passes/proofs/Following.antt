@@ -3,11 +3,14 @@
 use borrow.Author.Tests.{ne_eqb}
 use mathlib.Core.Logic.{◌⊎◌, inl, inr}
 use mathlib.Core.Option.{Option, none, some}
-use mathlib.Core.List.{List, [], ◌∷◌}
+use mathlib.Core.List.{List, [], ◌∷◌, ◌++◌}
+use Rattle.std.proofs.Math.ListN.{drop_of_length-le}
+use Rattle.std.proofs.lemmas.List.{append-nil}
 use mathlib.Core.Path.{◌≡◌, refl, ap, sym, ◌∙◌}
 use Prim.Native.Nat.{ℕ, suc, ◌+◌, ◌<◌}
 use native.Mathlib.Omega.{arith}
 use lib.ListN.{length}
+use lib.Seq.{sets, sets-eq}
 use Rattle.rules.specs.Queries.{and_then, prepend, read_all, follow, over}
 use Rattle.passes.specs.Walks.{size_of, list_of}
 use Rattle.theory.specs.Follows.{follow_none}
@@ -93,3 +96,10 @@ pub size_some : (o : Option (List ℕ)) (k : ℕ) → size_of o ≡ some k → (
 unfolding size_of list_of
 size_some (some xs) k p = (refl, (cc))
 size_some none k p = let z : ◌≡◌ {A = ℕ} 0 1 = cc in absurd (omega arith)
+
+-- a list put over one of its length
+pub sets_whole : (zs out : List ℕ) → length zs ≡ length out → sets out 0 zs ≡ zs
+sets_whole zs out e =
+    sets-eq zs out 0 (omega (arith, e))
+    ∙ ap (λ (ys : List ℕ). zs ++ ys) (drop_of_length-le out (omega (arith, e)))
+    ∙ append-nil zs

@@ -1,4 +1,4 @@
-pub mod Following
 pub mod Standing
+pub mod Following
 pub mod Passes
 pub mod Listing

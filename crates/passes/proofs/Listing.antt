@@ -1,19 +1,28 @@
 -- What a list query answers and leaves, by the list that it finds.
 -- Assumes nothing.
-use borrow.Author.Tests.{le-leb, lt-leb}
+use borrow.Author.Tests.{le-leb, lt-leb, ne_eqb}
+use Rattle.std.proofs.lemmas.List.{length-take, length-drop}
+use mir.Val.{bool_byte}
+use lib.Dec.{eqb}
+use mathlib.Core.Bool.{not}
+use Rattle.answer.specs.declared.Refusal.{Refusal}
+use Rattle.std.specs.Prelude.{Option as Maybe, None, Result, Err}
+use Rattle.std.specs.Option.{ok_or}
 use mathlib.Core.Bool.{Bool, true, false}
 use mathlib.Core.Option.{Option, none, some}
 use mathlib.Core.List.{List, [], ◌∷◌, ◌++◌}
 use mathlib.Core.Path.{◌≡◌, refl, ap, sym, ◌∙◌}
 use Prim.Native.Nat.{ℕ, zero, suc, ◌+◌, ◌≤◌, ◌<◌}
 use native.Mathlib.Omega.{arith}
-use lib.ListN.{length, drop, length-append}
-use lib.Seq.{sets, sets-eq}
+use lib.ListN.{length, take, drop, set, length-append}
 use Rattle.rules.specs.Refusals.{Answer, gives, refused, after, onto}
-use Rattle.rules.specs.Queries.{Mesh, prepend, listed, list_leaves, listed_answer}
-use Rattle.reads.specs.Meshes.{Admits}
-use Rattle.admission.proofs.Admitted.{turned_away, admitted}
-use Rattle.passes.specs.Walks.{size_of, list_of, leading, preceded, Lists}
+use Rattle.rules.specs.Queries.{prepend, listed, list_leaves}
+use Rattle.passes.specs.Walks.{size_of, leading, preceded, Lists}
+
+-- an output with the vertex before a list at its start, where there is one
+unfoldable pub led : ℕ → List ℕ → List ℕ
+led zero out = out
+led (suc u) out = set out 0 (suc u)
 
 pub preceded_some : (u : ℕ) (zs : List ℕ) → preceded u (some zs) ≡ some (leading u ++ zs)
 unfolding preceded leading prepend
@@ -30,17 +39,13 @@ unfolding size_of
 no_size (some xs) e = let z : ◌≡◌ {A = ℕ} 0 1 = cc in absurd (omega arith)
 no_size none e = refl
 
--- stored entry by entry, and put in whole
-sets_onto : (zs out : List ℕ) → length zs ≤ length out → sets out 0 zs ≡ onto zs out
-unfolding onto
-sets_onto zs out h =
-    let e : 0 + length zs ≡ length zs = omega arith in
-    sets-eq zs out 0 (omega arith) ∙ ap (λ (i : ℕ). zs ++ drop i out) e
-
-pub led_onto : (u : ℕ) (zs out : List ℕ) → length (leading u ++ zs) ≤ length out → sets (sets out 0 (leading u)) (length (leading u)) zs ≡ onto (leading u ++ zs) out
-unfolding leading
-led_onto zero zs out h = sets_onto zs out h
-led_onto (suc u) zs out h = sets_onto (suc u ∷ zs) out h
+-- the list of a walk put after the vertex before it, and after that what the output held
+pub led_onto : (u : ℕ) (zs out : List ℕ) → length (leading u ++ zs) ≤ length out
+    → take (length (leading u)) (led u out) ++ (zs ++ drop (length zs) (drop (length (leading u)) (led u out))) ≡ onto (leading u ++ zs) out
+unfolding leading led onto
+led_onto zero zs out h = refl
+led_onto (suc u) zs [] h = absurd (omega arith)
+led_onto (suc u) zs (y ∷ ys) h = refl
 
 module _ (ys out : List ℕ) where
   abbrev by_room : Bool → Answer
@@ -75,61 +80,41 @@ module _ (u : ℕ) (o : Option (List ℕ)) (out : List ℕ) where
     short_listed h q =
         let n = needed in rw (q, e, preceded_some u zs, ← n) (lists_short (leading u ++ zs) out (omega arith))
 
-    pub all_listed : {r : Answer} {left : List ℕ} → first + size ≤ length out → r ≡ gives (first + size) 0 → left ≡ sets (sets out 0 (leading u)) first zs → Lists (preceded u o) out r left
+    pub all_listed : {r : Answer} {left : List ℕ} → first + size ≤ length out → r ≡ gives (first + size) 0
+        → left ≡ take first (led u out) ++ (zs ++ drop size (drop first (led u out))) → Lists (preceded u o) out r left
     all_listed h q p =
         let n = needed in
         let l : length (leading u ++ zs) ≤ length out = omega arith in
-        rw (q, e, preceded_some u zs, ← n, p, f, led_onto u zs out l) (lists_all (leading u ++ zs) out l)
-
--- what the writer left, at numbers and lists that are equal to its arguments
-pub wrote : {out led left zs : List ℕ} {i first : ℕ} {o : Option (List ℕ)} → left ≡ sets out i (list_of o) → out ≡ led → i ≡ first → o ≡ some zs → left ≡ sets led first zs
-unfolding list_of
-wrote p e f g = rw (e, f, g) at p
-
--- nothing is left of a list without entries
-pub no_more : (out : List ℕ) (i : ℕ) (zs : List ℕ) → length zs ≡ 0 → sets out i zs ≡ out
-no_more out i [] e = refl
-no_more out i (z ∷ zs) e = absurd (omega arith)
+        rw (q, e, preceded_some u zs, ← n, p, f, ← g, led_onto u zs out l) (lists_all (leading u ++ zs) out l)
 
 pub leading_one : (u : ℕ) → length (leading u) ≤ 1
 unfolding leading
 leading_one zero = omega arith
 leading_one (suc u) = omega arith
 
-pub leading_none : {u : ℕ} → u ≡ 0 → leading u ≡ []
+-- how many entries stand before the list
+pub first_is : (u : ℕ) → bool_byte (not (eqb u 0)) ≡ length (leading u)
 unfolding leading
-leading_none z = rw z
+first_is zero = refl
+first_is (suc u) = rw (ne_eqb (suc u) 0 (λ e. omega (arith, e))) refl
 
-pub leading_some : {u : ℕ} → (u ≡ 0 → ⊥) → leading u ≡ u ∷ []
-unfolding leading
-leading_some {u = zero} d = absurd (d refl)
-leading_some {u = suc u} d = refl
+pub led_none : {u : ℕ} (out : List ℕ) → u ≡ 0 → led u out ≡ out
+unfolding led
+led_none out z = rw z refl
 
--- a list query by what the checks before it found
-module _ (M : Mesh) {there : Bool} {k : ℕ} (x : Admits M there k) (xs : Option (List ℕ)) (out : List ℕ) where
-  abbrev Done : Answer → List ℕ → Type 0
-  Done r left =
-      (r ≡ listed_answer M there xs out) × (left ≡ list_leaves (listed_answer M there xs out) xs out)
+pub led_some : {u : ℕ} (out : List ℕ) → (u ≡ 0 → ⊥) → led u out ≡ set out 0 u
+unfolding led
+led_some {u = zero} out d = absurd (d refl)
+led_some {u = suc u} out d = refl
 
-  refused_leaves : (a : Answer) (i p q : ℕ) → a ≡ refused i p q → out ≡ list_leaves a xs out
-  unfolding list_leaves after
-  refused_leaves a i p q e = sym (ap (λ (b : Answer). list_leaves b xs out) e ∙ keeps xs)
-    where
-      keeps : (o : Option (List ℕ)) → list_leaves (refused i p q) o out ≡ out
-      keeps (some ys) = refl
-      keeps none = refl
+-- a walk that was not counted
+pub same_error : {o : Maybe ℕ} {e r : Refusal} → ◌≡◌ {A = Result ℕ Refusal} (Err r) (ok_or o e) → o ≡ None → r ≡ e
+same_error h q = grind arith
 
-  pub list_refused : {r : Answer} → 0 < k → r ≡ refused k 0 0 → Done r out
-  unfolding listed_answer
-  list_refused h e =
-      let p = turned_away M x (listed (length out) xs) h e in (p, refused_leaves _ _ _ _ (sym p ∙ e))
+-- a part of a list has its length
+pub length_part : (i j : ℕ) (xs : List ℕ) → i + j ≤ length xs → length (take j (drop i xs)) ≡ j
+length_part i j xs h = omega (arith, length-take j (drop i xs), length-drop i xs)
 
-  pub list_done : {r : Answer} {left : List ℕ} (ys : Option (List ℕ)) → k ≤ 0 → ys ≡ xs → Lists ys out r left → Done r left
-  unfolding listed_answer
-  list_done ys h e l =
-      let m = rw e at l in
-      let p = admitted M x (listed (length out) xs) h m.answer in
-      (p, m.leaves ∙ ap (λ (a : Answer). list_leaves a xs out) (sym m.answer ∙ p))
-
-  pub list_broken : {r : Answer} → k ≤ 0 → xs ≡ none → r ≡ refused 12 0 0 → Done r out
-  list_broken h e f = list_done none h (sym e) (rw f (lists_none out))
+pub filled : {xs ys part zs : List ℕ} {i j first size : ℕ} → xs ≡ ys → i ≡ first → j ≡ size → part ≡ zs
+    → take i xs ++ (part ++ drop j (drop i xs)) ≡ take first ys ++ (zs ++ drop size (drop first ys))
+filled a b k z = rw (a, b, k, z) refl

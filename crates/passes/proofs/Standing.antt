@@ -1,4 +1,4 @@
--- Where a walk stands.
+-- Where a walk goes on.
 -- Assumes nothing.
 use mathlib.Core.Bool.{Bool, true, false}
 use mathlib.Core.Logic.{◌⊎◌, inl, inr}
@@ -13,14 +13,8 @@ use Rattle.rules.specs.Queries.{Mesh, by_side, is_half_edge, read_opposite, onwa
 use Rattle.theory.specs.Steps.{next_side_lem}
 use Rattle.theory.specs.Reads.{was_valid, and_some}
 use Rattle.theory.specs.Reaching.{next_in}
-use Rattle.passes.specs.declared.Walk.{Walk}
-use Rattle.passes.specs.declared.Walk.TheVariants.{Elements, Ends, Borders}
-use Rattle.passes.specs.Walks.{next_by, Stands}
 use Rattle.reads.proofs.Readings.{at_border, at_side}
 use Rattle.reads.proofs.Tested.{half_side}
-
-pub stands_as : {w u : Walk} (M : Mesh) (x : ℕ) → w ≡ u → Stands w M x → Stands u M x
-stands_as M x e s = subst (λ w. Stands w M x) e s
 
 -- y where it is not the start, 0 where it is
 unless : (y start z : ℕ) → ◌≡◌ {A = Option ℕ} (elim (eqb y start) [ true ↦ some 0 | false ↦ some y ]) (some z) → (z ≡ 0 → ⊥) → y ≡ z
@@ -31,7 +25,7 @@ unless y start z e d = go (eqb y start) e
     go false p = cc
 
 module _ (M : Mesh) (start x y : ℕ) (d : y ≡ 0 → ⊥) where
-  onward_side : onward M start x ≡ some y → Side M.list y
+  pub onward_side : onward M start x ≡ some y → Side M.list y
   unfolding onward read_opposite
   onward_side e =
       let (t, p, q) = and_some (read_opposite M x) _ y e in by t (was_valid (is_half_edge M) _ t p) q (zero_or (t % 8))
@@ -42,14 +36,9 @@ module _ (M : Mesh) (start x y : ℕ) (d : y ≡ 0 → ⊥) where
       by t h q (inr n) =
           subst (λ (u : ℕ). Side M.list u) (unless (next M.list t) start y (sym (at_side t _ (some 0) n) ∙ q) d) (next_side_lem M.list t (half_side M t h n))
 
-  loop_border : loop_next M start x ≡ some y → (1 ≤ y) × (y ≤ length M.border)
+  pub loop_border : loop_next M start x ≡ some y → (1 ≤ y) × (y ≤ length M.border)
   unfolding loop_next
   loop_border e =
       let (z, p, q) = and_some (next_border M x) _ y e in
       let f : z ≡ y = unless z start y q d in
       rw f at (next_in M x z p)
-
-pub next_stands : (w : Walk) (M : Mesh) (start x y : ℕ) → next_by w M start x ≡ some y → (y ≡ 0 → ⊥) → Stands w M y
-next_stands Elements M start x y e d = onward_side M start x y d e
-next_stands Ends M start x y e d = onward_side M start x y d e
-next_stands Borders M start x y e d = loop_border M start x y d e

@@ -1,1 +1,2 @@
 pub mod Rings
+pub mod Answering

@@ -9,11 +9,10 @@ use native.Mathlib.Omega.{arith}
 use lib.Dec.{T}
 use lib.ListN.{length}
 use Rattle.lists.specs.TestLaws.{zero_or}
-use Rattle.rules.specs.Elements.{elements, Side, next}
+use Rattle.rules.specs.Elements.{elements, element, Side, next}
 use Rattle.rules.specs.Queries.{Mesh, and_then, by_side, by_entry, prepend, read_all, follow, over, is_half_edge, is_vertex}
 use Rattle.rules.specs.Queries.{read_vertex_entry, read_border_side, read_origin, read_destination, start_side, onward, ring_sides, ring, neighbours, loop_next, border_loop}
 use Rattle.theory.specs.Steps.{next_side_lem}
-use Rattle.passes.specs.declared.Walk.TheVariants.{Elements, Ends, Borders}
 use Rattle.reads.specs.Readings.{prior_vertex}
 use Rattle.passes.specs.Walks.{walked, preceded}
 use Rattle.theory.specs.Follows.{follow_none}
@@ -42,7 +41,7 @@ module _ (M : Mesh) (v : ℕ) where
       go c p q (inl z) = let r : some 0 ≡ some s = sym (at_unused c _ _ _ z) ∙ q in let f : 0 ≡ s = cc in absurd (d (sym f))
       go c p q (inr n) = by c (entry_half M v c p n) (sym (at_used c _ _ _ n) ∙ q) (zero_or (c % 8))
 
-  pub ring_walk : (s : ℕ) → start_side M v ≡ some s → walked Elements M s (elements M.list) s ≡ ring M v
+  pub ring_walk : (s : ℕ) → start_side M v ≡ some s → walked (λ x. some (element x)) (onward M s) (elements M.list) s ≡ ring M v
   unfolding ring ring_sides
   ring_walk s e = ap (over _) (sym (and_then_lem _ e))
 
@@ -113,7 +112,7 @@ module _ (M : Mesh) (v : ℕ) where
       go (some c) e = entry_before c e
       go none e = refl
 
-  pub neighbours_walk : (s u : ℕ) → start_side M v ≡ some s → prior_vertex M v ≡ some u → preceded u (walked Ends M s (elements M.list) s) ≡ neighbours M v
+  pub neighbours_walk : (s u : ℕ) → start_side M v ≡ some s → prior_vertex M v ≡ some u → preceded u (walked (read_destination M) (onward M s) (elements M.list) s) ≡ neighbours M v
   unfolding ring_sides ends
   neighbours_walk s u e p =
       ap (λ (o : Option (List ℕ)). preceded u (over (read_destination M) o)) (sym (and_then_lem _ e)) ∙ sym (neighbours_by ∙ and_then_lem _ p)
@@ -135,7 +134,7 @@ unfolding read_all and_then prepend
 read_each [] = refl
 read_each (x ∷ xs) = ap (prepend x) (read_each xs)
 
-pub border_walk : (M : Mesh) (b : ℕ) → walked Borders M b (length M.border) b ≡ border_loop M b
+pub border_walk : (M : Mesh) (b : ℕ) → walked some (loop_next M b) (length M.border) b ≡ border_loop M b
 unfolding border_loop over
 border_walk M b = go (follow (loop_next M b) (length M.border) b)
   where

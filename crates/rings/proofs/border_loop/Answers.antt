@@ -1,25 +1,19 @@
 -- `rings::border_loop` meets its contract: a walk over the border numbers from b.
 -- Assumes nothing.
-use Rattle.lists.specs.TestLaws.{means_within}
-use Rattle.passes.proofs.Listing.{list_refused, list_done}
-use Rattle.rings.proofs.Rings.{border_walk}
-use Rattle.passes.specs.Walks.{preceded}
-use Rattle.rules.specs.Queries.{border_loop_answer, border_loop_leaves}
-use native.Mathlib.Omega.{arith}
+use Rattle.std.proofs.lemmas.Result.{err_from_is_err_and}
+use Rattle.rings.proofs.Answering.{loop_refused, loop_done}
 use Rattle.rings.proofs.border_loop.Goals as goal
 
-pub returns-then-refusal-gt0 : goal.returns-then-refusal-gt0
-unfolding border_loop_answer border_loop_leaves
-returns-then-refusal-gt0 c = record { result_value = (list_refused _ c.border_refusal-refusal.ensures _ _ c.if-refusal-gt0.true c.refuse.ensures).0; out_after = (list_refused _ c.border_refusal-refusal.ensures _ _ c.if-refusal-gt0.true c.refuse.ensures).1 }
+pub returns-in_err-fitting-clause-result_value : goal.returns-in_err-fitting-clause-result_value
+returns-in_err-fitting-clause-result_value c =
+    let p = err_from_is_err_and c.from_residual.result c.from_residual.ensures.1 in
+    rw (p.1, p.2) (loop_refused _ _ _ c.is_border_number.ensures c.in_err-fitting.ensures).0
 
-pub overflow_cast-k : goal.overflow_cast-k
-overflow_cast-k c = let f = c.border_refusal-refusal.ensures.fit c.if-refusal-gt0.false in omega (arith, f.border, f.elements)
+pub returns-in_err-fitting-clause-out_after : goal.returns-in_err-fitting-clause-out_after
+returns-in_err-fitting-clause-out_after c = (loop_refused _ _ _ c.is_border_number.ensures c.in_err-fitting.ensures).1
 
-pub list_walk-requires : goal.list_walk-requires
-list_walk-requires c = let x = c.border_refusal-refusal.ensures in
-    let f = x.fit c.if-refusal-gt0.false in
-    record { fact = (f, λ d. (means_within 1 _ _).says (x.found c.if-refusal-gt0.false)); limit_le_max_border = omega (arith, f.border, f.elements) }
+pub returns-clause-result_value : goal.returns-clause-result_value
+returns-clause-result_value c = (loop_done _ _ _ c.is_border_number.ensures c.in_ok-fitting.ensures c.border_count.ensures.count c.list_walk.ensures).0
 
-pub returns : goal.returns
-unfolding border_loop_answer border_loop_leaves preceded
-returns c = record { result_value = (list_done _ c.border_refusal-refusal.ensures _ _ _ c.if-refusal-gt0.false (border_walk _ _) c.list_walk.ensures).0; out_after = (list_done _ c.border_refusal-refusal.ensures _ _ _ c.if-refusal-gt0.false (border_walk _ _) c.list_walk.ensures).1 }
+pub returns-clause-out_after : goal.returns-clause-out_after
+returns-clause-out_after c = (loop_done _ _ _ c.is_border_number.ensures c.in_ok-fitting.ensures c.border_count.ensures.count c.list_walk.ensures).1
