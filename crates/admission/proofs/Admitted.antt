@@ -1,6 +1,6 @@
 -- How a call goes on by what the checks before it found.
 -- Assumes nothing.
-use Rattle.std.specs.Prelude.{Bool, true, false, ◌≡◌, refl, ◌*◌, ◌≤◌, T, length, Ok, Err}
+use Rattle.std.specs.Prelude.{Bool, true, false, ◌≡◌, refl, ◌*◌, ◌≤◌, T, length, Result, Ok, Err}
 use Rattle.std.proofs.Common.{◌∙◌}
 use Rattle.answer.specs.Numbers.{placed}
 use Rattle.answer.specs.declared.Reason.TheVariants.{Sizes, Lengths, Absent}
@@ -8,11 +8,11 @@ use Rattle.answer.specs.declared.Refusal.{Refusal}
 use Rattle.lists.specs.TestLaws.{means_both, means_eq, means_le, means_within}
 use Rattle.rules.specs.Elements.{elements, max_element}
 use Rattle.rules.specs.Pairing.{sizes_fit}
-use Rattle.rules.specs.Refusals.{length_checks}
+use Rattle.rules.specs.Refusals.{Answer, length_checks}
 use Rattle.rules.specs.Queries.{Mesh, query_lengths, asked, defined}
 use Rattle.theory.specs.FitRows.{means_sizes}
 use Rattle.reads.specs.Meshes.{Fit}
-use Rattle.admission.specs.Admitting.{Admits}
+use Rattle.admission.specs.Admitting.{settle, Admits}
 
 holds : {b : Bool} → b ≡ true → T b
 holds e = rw e tt
@@ -57,3 +57,7 @@ module _ {M : Mesh} (there : Bool) where
     pub present : there ≡ true → Admits M there (Ok F)
     unfolding defined
     present e = record { passed = (x.passed.0, holds e); settled = λ a. x.settled (defined there a) ∙ rw e refl }
+
+-- what a caller then answers
+pub settled : {M : Mesh} {there : Bool} {r : Result Mesh Refusal} (x : Admits M there r) (a : Answer) → asked M (defined there a) ≡ settle r a
+settled x a = x.settled a

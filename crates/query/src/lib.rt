@@ -33,7 +33,7 @@ fn found(x: Option<u32>) -> Answer
 }
 
 // The E2e or B2e entry of a half-edge.
-#[tactic(auto, using(reads::proofs::Tested::half_border, reads::proofs::Tested::half_side, crate::proofs::Answering::settled), unfolding(rules::specs::Queries::opposite_answer, rules::specs::Queries::opposite))]
+#[tactic(auto, using(reads::proofs::Tested::half_border, reads::proofs::Tested::half_side, admission::proofs::Admitted::settled), unfolding(rules::specs::Queries::opposite_answer, rules::specs::Queries::opposite))]
 pub fn opposite(mesh: &Mesh, code: u32) -> Answer
     ensures { numbers result ≡ opposite_answer mesh.now code }
 {
@@ -45,7 +45,7 @@ pub fn opposite(mesh: &Mesh, code: u32) -> Answer
 }
 
 // The half-edge after a half-edge, in its element or along the border.
-#[tactic(auto, using(reads::proofs::Tested::half_border, reads::proofs::Tested::half_side, crate::proofs::Answering::settled), unfolding(rules::specs::Queries::next_answer, rules::specs::Queries::found))]
+#[tactic(auto, using(reads::proofs::Tested::half_border, reads::proofs::Tested::half_side, admission::proofs::Admitted::settled), unfolding(rules::specs::Queries::next_answer, rules::specs::Queries::found))]
 pub fn next(mesh: &Mesh, code: u32) -> Answer
     ensures { numbers result ≡ next_answer mesh.now code }
 {
@@ -57,7 +57,7 @@ pub fn next(mesh: &Mesh, code: u32) -> Answer
 }
 
 // The side before a side in its element.
-#[tactic(auto, using(crate::proofs::Answering::settled), unfolding(rules::specs::Queries::previous_answer))]
+#[tactic(auto, using(admission::proofs::Admitted::settled), unfolding(rules::specs::Queries::previous_answer))]
 pub fn previous(mesh: &Mesh, code: u32) -> Answer
     ensures { numbers result ≡ previous_answer mesh.now code }
 {
@@ -66,7 +66,7 @@ pub fn previous(mesh: &Mesh, code: u32) -> Answer
 }
 
 // The element of a side.
-#[tactic(auto, using(crate::proofs::Answering::settled), unfolding(rules::specs::Queries::element_answer))]
+#[tactic(auto, using(admission::proofs::Admitted::settled), unfolding(rules::specs::Queries::element_answer))]
 pub fn element(mesh: &Mesh, code: u32) -> Answer
     ensures { numbers result ≡ element_answer mesh.now code }
 {
@@ -75,7 +75,7 @@ pub fn element(mesh: &Mesh, code: u32) -> Answer
 }
 
 // The vertex from which a half-edge runs.
-#[tactic(auto, using(reads::proofs::Tested::half_border, reads::proofs::Tested::half_side, crate::proofs::Answering::settled), unfolding(rules::specs::Queries::origin_answer))]
+#[tactic(auto, using(reads::proofs::Tested::half_border, reads::proofs::Tested::half_side, admission::proofs::Admitted::settled), unfolding(rules::specs::Queries::origin_answer))]
 pub fn origin(mesh: &Mesh, code: u32) -> Answer
     ensures { numbers result ≡ origin_answer mesh.now code }
 {
@@ -87,7 +87,7 @@ pub fn origin(mesh: &Mesh, code: u32) -> Answer
 }
 
 // The vertex to which a half-edge runs.
-#[tactic(auto, using(reads::proofs::Tested::half_border, reads::proofs::Tested::half_side, crate::proofs::Answering::settled), unfolding(rules::specs::Queries::destination_answer))]
+#[tactic(auto, using(reads::proofs::Tested::half_border, reads::proofs::Tested::half_side, admission::proofs::Admitted::settled), unfolding(rules::specs::Queries::destination_answer))]
 pub fn destination(mesh: &Mesh, code: u32) -> Answer
     ensures { numbers result ≡ destination_answer mesh.now code }
 {
@@ -99,7 +99,7 @@ pub fn destination(mesh: &Mesh, code: u32) -> Answer
 }
 
 // The element across a side, 0 at a border.
-#[tactic(auto, using(crate::proofs::Answering::settled), unfolding(rules::specs::Queries::across_answer, rules::specs::Queries::found, rules::specs::Queries::and_then))]
+#[tactic(auto, using(admission::proofs::Admitted::settled), unfolding(rules::specs::Queries::across_answer, rules::specs::Queries::found, rules::specs::Queries::and_then))]
 pub fn across(mesh: &Mesh, code: u32) -> Answer
     ensures { numbers result ≡ across_answer mesh.now code }
 {
@@ -114,7 +114,7 @@ pub fn across(mesh: &Mesh, code: u32) -> Answer
 }
 
 // 1 for a border half-edge, 0 for a side.
-#[tactic(auto, using(crate::proofs::Answering::settled), unfolding(rules::specs::Queries::half_edge_border_answer))]
+#[tactic(auto, using(admission::proofs::Admitted::settled), unfolding(rules::specs::Queries::half_edge_border_answer))]
 pub fn halfedge_is_border(mesh: &Mesh, code: u32) -> Answer
     ensures { numbers result ≡ half_edge_border_answer mesh.now code }
 {
@@ -123,7 +123,7 @@ pub fn halfedge_is_border(mesh: &Mesh, code: u32) -> Answer
 }
 
 // 1 for a vertex whose V2e entry is a border, 2 for one whose entry is 0, 0 for another.
-#[tactic(auto, using(crate::proofs::Answering::settled), unfolding(rules::specs::Queries::vertex_border_answer, rules::specs::Queries::found, rules::specs::Queries::and_then))]
+#[tactic(auto, using(admission::proofs::Admitted::settled), unfolding(rules::specs::Queries::vertex_border_answer, rules::specs::Queries::found, rules::specs::Queries::and_then))]
 pub fn vertex_is_border(mesh: &Mesh, v: u32) -> Answer
     ensures { numbers result ≡ vertex_border_answer mesh.now v }
 {

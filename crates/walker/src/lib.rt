@@ -1,17 +1,16 @@
 // A walker: a record that each call moves on by one element of the ring.
 #![tactic(auto)]
 
-ghost use Rattle.std.specs.Prelude.{◌≡◌};
+ghost use Rattle.std.specs.Prelude.{◌≡◌, ◌<◌, [], ◌∷◌, IfSome};
+ghost use Rattle.rules.specs.Elements.{max_element};
 ghost use Rattle.rules.specs.Queries.{goes_to, walker_start, walker_step};
-ghost use Rattle.reads.specs.Meshes.{mesh, Fit};
 ghost use Rattle.reads.specs.Readings.{read_of};
-ghost use Rattle.walker.specs.Walkers.{record_of, moved_of, left_by, called_by};
+ghost use Rattle.walker.specs.Walkers.{record_of, record_in, left_by};
 
-use admission::{length_refusal, vertex_refusal};
-use answer::{Answer, Reason, give, refuse};
-use halfedge::{element_of, wide};
-use reads::{Read, ring_next, start_side};
-use sides::is_side;
+use admission::{admit, admit_asked};
+use answer::{Answer, Reason, Refusal, give};
+use halfedge::element_of;
+use reads::{Fitting, Mesh};
 
 // The ring's start side, the side whose element comes next (0 when the ring is over), and the count handed out.
 #[derive(Clone, Copy)]
@@ -21,166 +20,77 @@ pub struct Walker {
     pub handed: u32,
 }
 
-// What a walker is called for: to start at a vertex, or to step.
-#[derive(Clone, Copy)]
-pub enum Call {
-    Start(u32),
-    Step,
-}
+impl Walker {
+    // The side that the record goes on to, 0 at the ring's end.
+    #[tactic(auto, unfolding(rules::specs::Queries::goes_to, rules::specs::Queries::and_then))]
+    fn next(&self, fitting: &Fitting) -> Option<u32>
+        ensures side { read_of result ≡ goes_to fitting.now (record_of self.now) }
+        ensures count { IfSome result (λ _. self.now.handed < max_element) }
+    {
+        let m = fitting.element_count();
+        if !fitting.mesh.is_side(self.start)
+            || !fitting.mesh.is_side(self.following)
+            || m <= self.handed
+        {
+            return None;
+        }
+        let turn = fitting.ring_next(self.start, self.following)?;
+        if turn != 0 && m <= self.handed + 1 {
+            return None;
+        }
+        Some(turn)
+    }
 
-// What a walker call answers, and the record that it leaves.
-#[derive(Clone, Copy)]
-pub struct Moved {
-    pub answer: Answer,
-    pub walker: Walker,
-}
-
-// The side that the record goes on to, 0 at the ring's end.
-fn goes_to(
-    w: Walker,
-    n: u32,
-    columns: u32,
-    list: &[u32],
-    v2e: &[u32],
-    e2e: &[u32],
-    b2e: &[u32],
-) -> Read
-    requires { Fit (mesh n columns list.now v2e.now e2e.now b2e.now) }
-    ensures { read_of result ≡ goes_to (mesh n columns list.now v2e.now e2e.now b2e.now) (record_of w) }
-{
-    if !is_side(list, w.start) {
-        return Read::Broken;
-    }
-    if !is_side(list, w.following) {
-        return Read::Broken;
-    }
-    if list.len() / 4 <= wide(w.handed) {
-        return Read::Broken;
-    }
-    let turn = ring_next(n, columns, list, v2e, e2e, b2e, w.start, w.following);
-    let Read::Value(t) = turn else {
-        return Read::Broken;
-    };
-    if t == 0 {
-        return Read::Value(0);
-    }
-    if list.len() / 4 <= wide(w.handed) + 1 {
-        return Read::Broken;
-    }
-    Read::Value(t)
-}
-
-fn step_at(
-    w: Walker,
-    n: u32,
-    columns: u32,
-    list: &[u32],
-    v2e: &[u32],
-    e2e: &[u32],
-    b2e: &[u32],
-) -> Moved
-    ensures { moved_of result ≡ walker_step (mesh n columns list.now v2e.now e2e.now b2e.now) (record_of w) }
-{
-    let refusal = length_refusal(n, columns, list, v2e, e2e, b2e);
-    if 0 < refusal {
-        return Moved {
-            answer: refuse(refusal),
-            walker: w,
-        };
-    }
-    if w.following == 0 {
-        return Moved {
-            answer: give(0),
-            walker: w,
-        };
-    }
-    let turn = goes_to(w, n, columns, list, v2e, e2e, b2e);
-    let Read::Value(t) = turn else {
-        return Moved {
-            answer: refuse(Reason::Broken),
-            walker: w,
-        };
-    };
-    Moved {
-        answer: give(element_of(w.following)),
-        walker: Walker {
-            start: w.start,
-            following: t,
-            handed: w.handed + 1,
-        },
-    }
-}
-
-fn start_at(
-    w: Walker,
-    n: u32,
-    columns: u32,
-    list: &[u32],
-    v2e: &[u32],
-    e2e: &[u32],
-    b2e: &[u32],
-    v: u32,
-) -> Moved
-    ensures { moved_of result ≡ walker_start (mesh n columns list.now v2e.now e2e.now b2e.now) v (record_of w) }
-{
-    let refusal = vertex_refusal(n, columns, list, v2e, e2e, b2e, v);
-    if 0 < refusal {
-        return Moved {
-            answer: refuse(refusal),
-            walker: w,
-        };
-    }
-    let begun = start_side(n, columns, list, v2e, e2e, b2e, v);
-    let Read::Value(s) = begun else {
-        return Moved {
-            answer: refuse(Reason::Broken),
-            walker: w,
-        };
-    };
-    Moved {
-        answer: give(0),
-        walker: Walker {
-            start: s,
-            following: s,
+    // Sets the record to the start of the ring of v.
+    #[tactic(auto, using(admission::proofs::Admitted::settled), unfolding(rules::specs::Queries::walker_start, rules::specs::Queries::start_answer, rules::specs::Queries::walked, rules::specs::Queries::started, rules::specs::Queries::found, rules::specs::Queries::and_then))]
+    pub fn start(&mut self, mesh: &Mesh, v: u32) -> Answer
+        ensures { left_by result self.new ≡ walker_start mesh.now v (record_of self.old) }
+    {
+        let fitting = admit_asked(mesh, mesh.is_vertex(v))?;
+        let start = fitting.start_side(v).ok_or(Refusal::of(Reason::Broken))?;
+        *self = Walker {
+            start,
+            following: start,
             handed: 0,
-        },
+        };
+        give(0)
+    }
+
+    // The element that comes next, 0 after the ring's last; the record moves on.
+    #[tactic(auto, using(admission::proofs::Admitted::settled), unfolding(rules::specs::Queries::walker_step, rules::specs::Queries::walked, rules::specs::Queries::moved, rules::specs::Queries::found, rules::specs::Queries::and_then, rules::specs::Queries::defined))]
+    pub fn step(&mut self, mesh: &Mesh) -> Answer
+        ensures { left_by result self.new ≡ walker_step mesh.now (record_of self.old) }
+    {
+        let fitting = admit(mesh)?;
+        if self.following == 0 {
+            return give(0);
+        }
+        let next = self.next(&fitting).ok_or(Refusal::of(Reason::Broken))?;
+        let element = element_of(self.following);
+        self.following = next;
+        self.handed += 1;
+        give(element)
     }
 }
 
-// A call on a record by value.
-pub fn call_at(
-    w: Walker,
-    n: u32,
-    columns: u32,
-    list: &[u32],
-    v2e: &[u32],
-    e2e: &[u32],
-    b2e: &[u32],
-    call: Call,
-) -> Moved
-    ensures { moved_of result ≡ called_by call (mesh n columns list.now v2e.now e2e.now b2e.now) (record_of w) }
-{
-    match call {
-        Call::Start(v) => start_at(w, n, columns, list, v2e, e2e, b2e, v),
-        Call::Step => step_at(w, n, columns, list, v2e, e2e, b2e),
+// A record that a host holds as three numbers.
+impl From<[u32; 3]> for Walker {
+    ghost from_gives = { λ w r. record_of r ≡ record_in w };
+
+    fn from(numbers: [u32; 3]) -> Walker {
+        let [start, following, handed] = numbers;
+        Walker {
+            start,
+            following,
+            handed,
+        }
     }
 }
 
-// A call on a record that is lent: it is set to the ring's start, or its element comes out and it moves on.
-pub fn move_on(
-    w: &mut Walker,
-    n: u32,
-    columns: u32,
-    list: &[u32],
-    v2e: &[u32],
-    e2e: &[u32],
-    b2e: &[u32],
-    call: Call,
-) -> Answer
-    ensures { left_by result w.new ≡ called_by call (mesh n columns list.now v2e.now e2e.now b2e.now) (record_of w.old) }
-{
-    let before = *w;
-    let moved = call_at(before, n, columns, list, v2e, e2e, b2e, call);
-    *w = moved.walker;
-    moved.answer
+impl From<Walker> for [u32; 3] {
+    ghost from_gives = { λ w r. r ≡ w.start ∷ w.following ∷ w.handed ∷ [] };
+
+    fn from(walker: Walker) -> [u32; 3] {
+        [walker.start, walker.following, walker.handed]
+    }
 }
