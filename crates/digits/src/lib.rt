@@ -16,19 +16,13 @@ pub struct Number {
 pub fn byte(text: &[u8], j: usize) -> u8
     ensures { result ≡ at text.now j }
 {
-    if j < text.len() {
-        return text[j];
-    }
-    0
+    text.get(j).copied().unwrap_or(0)
 }
 
 pub fn is_digit(b: u8) -> bool
     ensures { result ≡ digit b }
 {
-    if b < b'0' {
-        return false;
-    }
-    b <= b'9'
+    b.is_ascii_digit()
 }
 
 // What a digit counts.
@@ -36,7 +30,7 @@ fn digit_of(b: u8) -> u32
     requires { 48 ≤ b }
     ensures { result ≡ b - 48 }
 {
-    (b - b'0') as u32
+    u32::from(b - b'0')
 }
 
 // The digits from p on.
@@ -44,23 +38,13 @@ pub fn number_at(text: &[u8], p: usize) -> Number
     ensures digits_value { (result.digits ≡ run text.now p) × (result.value ≡ value text.now p result.digits) }
     ensures digits_bound { result.digits ≤ 8 }
 {
-    let mut x: u32 = 0;
-    let mut at = p;
-    let mut i = 0;
-    while i < 8 {
-        let b = byte(text, at);
+    let mut value = 0;
+    for i in 0..8 {
+        let b = byte(text, p + i);
         if !is_digit(b) {
-            return Number {
-                digits: i,
-                value: x,
-            };
+            return Number { digits: i, value };
         }
-        x = 10 * x + digit_of(b);
-        at += 1;
-        i += 1;
+        value = 10 * value + digit_of(b);
     }
-    Number {
-        digits: i,
-        value: x,
-    }
+    Number { digits: 8, value }
 }
