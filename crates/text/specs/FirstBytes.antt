@@ -1,6 +1,6 @@
 -- The first 8,192 bytes of a text tell all that `parse` says of it: a text in form has at most 7,218, and no longer one is read further.
 -- Assumes nothing.
-use Rattle.std.specs.Prelude.{true, ◌⊎◌, ◌≡◌, length, take}
+use Rattle.std.specs.Prelude.{true, Err, ◌⊎◌, ◌≡◌, length, take}
 use Rattle.std.proofs.Math.Bool.{not}
 use mathlib.Core.List.{List}
 use Rattle.std.proofs.Math.Logic.{inl, inr}
@@ -16,7 +16,7 @@ use Rattle.digits.specs.Counting.{run_le, value_same}
 use Rattle.text.specs.Form.{place, good_field, line_of_field, first_bad_field, the_n, the_m, good_head, fields, first_bad}
 use Rattle.text.specs.FormLaws.{place_le, head_bounds, bad_head, bad_field, bad_end, form_head}
 use Rattle.text.specs.Reading.{parsed, list_after, parsed_bad}
-use Rattle.text.specs.declared.Parsed.TheVariants.{Bad}
+use Rattle.text.specs.declared.ParseError.TheVariants.{Bad}
 
 -- two texts that agree below place b
 module _ (t u : List ℕ) (b : ℕ) (same : (j : ℕ) → j < b → at t j ≡ at u j) where
@@ -109,7 +109,7 @@ module _ (t : List ℕ) (room : ℕ) where
   pub parsed_first_bytes : parsed (take 8192 t) room ≡ parsed t room
   parsed_first_bytes = elim short_or_bad [
     | inl e ↦ ap (λ (s : List ℕ). parsed s room) e
-    | inr d ↦ parsed_bad (take 8192 t) room (λ z. d (sym (first_bytes t) ∙ z)) ∙ ap Bad (first_bytes t) ∙ sym (parsed_bad t room d)
+    | inr d ↦ parsed_bad (take 8192 t) room (λ z. d (sym (first_bytes t) ∙ z)) ∙ ap (λ (i : ℕ). Err (Bad i)) (first_bytes t) ∙ sym (parsed_bad t room d)
   ]
 
   pub list_first_bytes : (L : List ℕ) → list_after (parsed t room) (take 8192 t) L ≡ list_after (parsed t room) t L
