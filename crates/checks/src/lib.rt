@@ -1,8 +1,8 @@
 // Checks 6 and 7 over a list of fit rows, by what the sibling map tells, and the least side of each vertex.
+// n, list and work stay parameters: work is lent as a `&mut` too, and a struct would owe a clause in each function that it holds the same reference.
 #![tactic(auto)]
 
 ghost use Rattle.std.specs.Prelude.{◌≡◌, ◌+◌, ◌≤◌, ◌<◌, length};
-ghost use Rattle.lists.specs.Search.{at};
 ghost use Rattle.lists.specs.Stores.{Kept};
 ghost use Rattle.lists.specs.TestLaws.{Means};
 ghost use Rattle.rules.specs.Refusals.{gives, crowded_side, alike_side};
@@ -14,41 +14,17 @@ ghost use Rattle.checks.specs.Pairs.{pair_checks};
 
 use answer::{Answer, Reason, give_two, refuse_side};
 use buffers::clear_first;
-use halfedge::{code_at, row, slot_of, wide};
+use halfedge::{code_at, slot_of, wide};
 use sides::origin_of;
 
-// The side that begins at place p is the least so far of its origin x; where x is 0 no side begins there.
-fn put_first(n: usize, list: &[u32], work: &mut [u32], p: usize, x: u32)
-    requires { Fit n list.now × (n ≤ length work.old) × (p < length list.now) × (x ≡ at list.now p) × FirstsFrom n list.now (p + 1) work.old }
+// The side that begins at place p is the least so far of its origin; where the list has 0 no side begins.
+fn put_first(n: usize, list: &[u32], work: &mut [u32], p: usize)
+    requires { Fit n list.now × (n ≤ length work.old) × (p < length list.now) × FirstsFrom n list.now (p + 1) work.old }
     ensures { Kept n work.old work.new × FirstsFrom n list.now p work.new }
 {
-    if x == 0 {
-        return;
-    }
-    let i = wide(x) - 1;
-    work[i] = code_at(p);
-}
-
-fn put_row(n: usize, list: &[u32], work: &mut [u32], a: usize)
-    requires { Fit n list.now × (n ≤ length work.old) × (a + 4 ≤ length list.now) × FirstsFrom n list.now (a + 4) work.old }
-    ensures { Kept n work.old work.new × FirstsFrom n list.now a work.new }
-{
-    let e = a + 4;
-    let corners = row(&list[a..e]);
-    put_first(n, list, work, a + 3, corners[3]);
-    put_first(n, list, work, a + 2, corners[2]);
-    put_first(n, list, work, a + 1, corners[1]);
-    put_first(n, list, work, a, corners[0]);
-}
-
-fn put_rows(n: usize, list: &[u32], work: &mut [u32])
-    requires { Fit n list.now × (n ≤ length work.old) × FirstsFrom n list.now (length list.now) work.old }
-    ensures { Kept n work.old work.new × FirstsFrom n list.now 0 work.new }
-{
-    let mut a = list.len();
-    while 0 < a {
-        a -= 4;
-        put_row(n, list, work, a);
+    let x = list[p];
+    if x != 0 {
+        work[wide(x) - 1] = code_at(p);
     }
 }
 
@@ -58,7 +34,9 @@ pub fn first_sides(n: usize, list: &[u32], work: &mut [u32])
     ensures { Kept n work.old work.new × Firsts n list.now work.new }
 {
     clear_first(n, work);
-    put_rows(n, list, work);
+    for p in (0..list.len()).rev() {
+        put_first(n, list, work, p);
+    }
 }
 
 // Three or more sides join the vertices of the side that begins at place p.
@@ -67,10 +45,7 @@ fn is_crowded(n: usize, list: &[u32], work: &[u32], p: usize) -> bool
     ensures { Means result (CrowdedAt list.now p) }
 {
     let t = work[n + p];
-    if t == 0 {
-        return false;
-    }
-    work[n + slot_of(t)] != code_at(p)
+    t != 0 && work[n + slot_of(t)] != code_at(p)
 }
 
 // Check 6: the least side whose two vertices three or more sides join; 0 where there is none.
@@ -78,14 +53,10 @@ fn crowded_side(n: usize, list: &[u32], work: &[u32]) -> u32
     requires { Mapped n list.now work.now }
     ensures { result ≡ crowded_side list.now }
 {
-    let mut p = 0;
-    while p < list.len() {
-        if is_crowded(n, list, work, p) {
-            return code_at(p);
-        }
-        p += 1;
+    match (0..list.len()).find(|p| is_crowded(n, list, work, *p)) {
+        Some(p) => code_at(p),
+        None => 0,
     }
-    0
 }
 
 // Another side runs alike with the side that begins at place p.
@@ -98,10 +69,7 @@ fn is_alike(n: usize, list: &[u32], work: &[u32], p: usize) -> bool
         return false;
     }
     let s = code_at(p);
-    if t == s {
-        return false;
-    }
-    origin_of(list, t) == origin_of(list, s)
+    t != s && origin_of(list, t) == origin_of(list, s)
 }
 
 // Check 7, where check 6 found nothing: the least side that another one runs alike with; 0 where there is none.
@@ -109,14 +77,10 @@ fn alike_side(n: usize, list: &[u32], work: &[u32]) -> u32
     requires { Mapped n list.now work.now × (crowded_side list.now ≡ 0) }
     ensures { result ≡ alike_side list.now }
 {
-    let mut p = 0;
-    while p < list.len() {
-        if is_alike(n, list, work, p) {
-            return code_at(p);
-        }
-        p += 1;
+    match (0..list.len()).find(|p| is_alike(n, list, work, *p)) {
+        Some(p) => code_at(p),
+        None => 0,
     }
-    0
 }
 
 // Checks 6 and 7, told whether no two sides run alike: of three sides at an edge two do, so only where two do can either find something.
