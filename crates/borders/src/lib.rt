@@ -2,6 +2,8 @@
 //
 // The work holds for each vertex its least side, which becomes V2e; for each place of the list the sibling, which becomes E2e; and then
 // B2e, as many places again.
+//
+// n, list and work stay parameters: work is lent as a `&mut`, and a struct would owe a clause in each function that it holds the same reference.
 #![tactic(auto)]
 
 ghost use Rattle.std.specs.Prelude.{◌≡◌, ◌+◌, ◌*◌, ◌-◌, ◌≤◌, ◌<◌, length};
@@ -35,46 +37,34 @@ fn number(n: usize, list: &[u32], work: &mut [u32]) -> Counts
     requires numbering { Numbering n list.now 0 0 0 work.old }
     ensures { Numbering n list.now (length list.now) result.borders result.sides work.new }
 {
-    let mut borders = 0;
-    let mut sides = 0;
-    let mut p = 0;
-    while p < list.len() {
-        let counts = number_place(n, list, work, p, borders, sides);
-        borders = counts.borders;
-        sides = counts.sides;
-        p += 1;
+    let mut counts = Counts {
+        borders: 0,
+        sides: 0,
+    };
+    for p in 0..list.len() {
+        counts = number_place(n, list, work, p, counts);
     }
-    Counts { borders, sides }
+    counts
 }
 
 // Counts the side at place p, if there is one. A side that is its own sibling is a border side.
-fn number_place(
-    n: usize,
-    list: &[u32],
-    work: &mut [u32],
-    p: usize,
-    borders: u32,
-    sides: u32,
-) -> Counts
+fn number_place(n: usize, list: &[u32], work: &mut [u32], p: usize, counts: Counts) -> Counts
     requires cases { Matched n list.now }
     requires p_in_bounds { p < length list.now }
-    requires numbering { Numbering n list.now p borders sides work.old }
+    requires numbering { Numbering n list.now p counts.borders counts.sides work.old }
     ensures { Numbering n list.now (p + 1) result.borders result.sides work.new }
 {
     let sibling = work[n + p];
     if sibling == 0 {
-        return Counts { borders, sides };
+        return counts;
     }
-    let c = sides + 1;
+    let sides = counts.sides + 1;
     if sibling != code_at(p) {
-        return Counts { borders, sides: c };
+        return Counts { sides, ..counts };
     }
-    let b = borders + 1;
-    put_border(n, list, work, p, b);
-    Counts {
-        borders: b,
-        sides: c,
-    }
+    let borders = counts.borders + 1;
+    put_border(n, list, work, p, borders);
+    Counts { borders, sides }
 }
 
 // Gives the border side at place p the number b.
