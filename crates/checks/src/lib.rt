@@ -3,6 +3,7 @@
 #![tactic(auto)]
 
 ghost use Rattle.std.specs.Prelude.{◌≡◌, ◌+◌, ◌≤◌, ◌<◌, length};
+ghost use Rattle.lists.specs.Search.{at};
 ghost use Rattle.lists.specs.Stores.{Kept};
 ghost use Rattle.lists.specs.TestLaws.{Means};
 ghost use Rattle.rules.specs.Refusals.{gives, crowded_side, alike_side};
@@ -14,18 +15,30 @@ ghost use Rattle.checks.specs.Pairs.{pair_checks};
 
 use answer::{Answer, Reason, give_two, refuse_side};
 use buffers::clear_first;
-use halfedge::{code_at, slot_of, wide};
+use halfedge::{code_at, row, slot_of, wide};
 use sides::origin_of;
 
-// The side that begins at place p is the least so far of its origin; where the list has 0 no side begins.
-fn put_first(n: usize, list: &[u32], work: &mut [u32], p: usize)
-    requires { Fit n list.now × (n ≤ length work.old) × (p < length list.now) × FirstsFrom n list.now (p + 1) work.old }
+// The side that begins at place p is the least so far of its origin x; where x is 0 no side begins there.
+fn put_first(n: usize, list: &[u32], work: &mut [u32], p: usize, x: u32)
+    requires { Fit n list.now × (n ≤ length work.old) × (p < length list.now) × (x ≡ at list.now p) × FirstsFrom n list.now (p + 1) work.old }
     ensures { Kept n work.old work.new × FirstsFrom n list.now p work.new }
 {
-    let x = list[p];
     if x != 0 {
         work[wide(x) - 1] = code_at(p);
     }
+}
+
+// A row is read at once and put from its last corner: tried with one place of the list at a time, which took half as long again.
+fn put_row(n: usize, list: &[u32], work: &mut [u32], a: usize)
+    requires { Fit n list.now × (n ≤ length work.old) × (a + 4 ≤ length list.now) × FirstsFrom n list.now (a + 4) work.old }
+    ensures { Kept n work.old work.new × FirstsFrom n list.now a work.new }
+{
+    let e = a + 4;
+    let corners = row(&list[a..e]);
+    put_first(n, list, work, a + 3, corners[3]);
+    put_first(n, list, work, a + 2, corners[2]);
+    put_first(n, list, work, a + 1, corners[1]);
+    put_first(n, list, work, a, corners[0]);
 }
 
 // At each vertex the least side with that origin; 0 where there is none.
@@ -34,8 +47,8 @@ pub fn first_sides(n: usize, list: &[u32], work: &mut [u32])
     ensures { Kept n work.old work.new × Firsts n list.now work.new }
 {
     clear_first(n, work);
-    for p in (0..list.len()).rev() {
-        put_first(n, list, work, p);
+    for f in (0..list.len() / 4).rev() {
+        put_row(n, list, work, 4 * f);
     }
 }
 
