@@ -1,10 +1,11 @@
 -- Whether a vertex is used, by the entries of the list.
 -- Assumes nothing.
-use Rattle.std.specs.Prelude.{◌≡◌, true, false, List, ℕ, ◌*◌, ◌≤◌, ◌<◌, length}
+use Rattle.std.specs.Prelude.{◌≡◌, Bool, true, false, List, ℕ, ◌*◌, ◌≤◌, ◌<◌, eqb, length}
+use Rattle.std.specs.List.{IsAnyAnswer}
 use Rattle.std.proofs.Math.Path.{ap, sym}
 use Rattle.std.proofs.Common.{◌∙◌, arith}
 use Rattle.std.proofs.Math.Dec.{not_T}
-use Rattle.lists.specs.TestLaws.{Test, pass, fail, test, true_of, false_of}
+use Rattle.lists.specs.TestLaws.{Test, pass, fail, test, true_of, false_of, means_eq, passed, failed}
 use Rattle.lists.specs.Search.{at}
 use Rattle.rules.specs.Elements.{elements, is_side, slot, origin, side_at}
 use Rattle.edit_rules.specs.Contract.{is_used}
@@ -30,3 +31,8 @@ module _ (L : List ℕ) (v : ℕ) where
       sym
       (false_of (is_used L v)
       (not_T (is_used L v) (λ t. let (q, (a, e)) = (means_used L v).says t in f (slot q) (slot_below L q a) e)))
+
+  -- by a look at each entry
+  pub used_by : 1 ≤ v → length L ≡ 4 * elements L → (r : Bool) → IsAnyAnswer (λ y b. eqb y v ≡ b) L r → r ≡ is_used L v
+  used_by from fours true (p, h, x) = used from fours p h (passed (means_eq (at L p) v) (x 0))
+  used_by from fours false f = unused (λ p h e. failed (means_eq (at L p) v) (f p 0 (omega arith) h) e)

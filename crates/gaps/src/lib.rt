@@ -4,7 +4,6 @@
 ghost use Rattle.std.specs.Prelude.{◌≡◌, ◌*◌, ◌-◌, ◌%◌, ◌≤◌, length, take};
 ghost use Rattle.rules.specs.Elements.{elements, origin, destination};
 ghost use Rattle.edit_rules.specs.Contract.{without_row, without_both, without_edge, renamed, merged, is_used};
-ghost use Rattle.edit_rules.specs.Contract.{instead as instead_of};
 ghost use Rattle.theory.specs.Coarsening.{all_used};
 ghost use Rattle.gaps.specs.Closing.{fewer_by, ToClose};
 
@@ -27,13 +26,8 @@ fn without_both(m: u32, f: u32, g: u32, list: &mut [u32])
     requires fact { f ≡ g → ⊥ }
     ensures { (length list.new ≡ length list.old) × (take (4 * (m - 2)) list.new ≡ without_both f g (take (4 * m) list.old)) }
 {
-    if f < g {
-        without_row(m, g, list);
-        without_row(m - 1, f, list);
-        return;
-    }
-    without_row(m, f, list);
-    without_row(m - 1, g, list);
+    without_row(m, f.max(g), list);
+    without_row(m - 1, f.min(g), list);
 }
 
 // How many of m rows stay: t is the entry of the side in E2e, its partner or a border half-edge.
@@ -59,24 +53,13 @@ fn without_edge(m: u32, list: &mut [u32], s: u32, t: u32)
     without_both(m, element_of(s), element_of(t), list);
 }
 
-// The number c, or `new` where c is `old`.
-fn instead(old: u32, new: u32, c: u32) -> u32
-    ensures { result ≡ instead_of old new c }
-{
-    if c == old {
-        return new;
-    }
-    c
-}
-
 // Every `old` becomes `new`.
 pub fn rename(old: u32, new: u32, list: &mut [u32])
     ensures { list.new ≡ renamed old new list.old }
 {
-    let mut p = 0;
-    while p < list.len() {
-        list[p] = instead(old, new, list[p]);
-        p += 1;
+    // Each entry is written, so that a compiler may take several at once.
+    for c in list.iter_mut() {
+        *c = if *c == old { new } else { *c };
     }
 }
 
@@ -87,7 +70,7 @@ pub fn merge(m: u32, list: &mut [u32], s: u32, t: u32, a: u32, b: u32)
 {
     without_edge(m, list, s, t);
     let rows = 4 * wide(fewer(m, t));
-    rename(b, a, &mut list[0..rows]);
+    rename(b, a, &mut list[..rows]);
 }
 
 // Whether v is a corner of some element.
@@ -95,14 +78,7 @@ fn is_used(list: &[u32], v: u32) -> bool
     requires { (1 ≤ v) × (length list.now ≡ 4 * elements list.now) }
     ensures { result ≡ is_used list.now v }
 {
-    let mut p = 0;
-    while p < list.len() {
-        if list[p] == v {
-            return true;
-        }
-        p += 1;
-    }
-    false
+    list.contains(&v)
 }
 
 // Whether each of three vertices is a corner of some element.
@@ -110,11 +86,5 @@ pub fn all_used(list: &[u32], a: u32, c: u32, d: u32) -> bool
     requires { (1 ≤ a) × (1 ≤ c) × (1 ≤ d) × (length list.now ≡ 4 * elements list.now) }
     ensures { result ≡ all_used list.now a c d }
 {
-    if !is_used(list, a) {
-        return false;
-    }
-    if !is_used(list, c) {
-        return false;
-    }
-    is_used(list, d)
+    is_used(list, a) && is_used(list, c) && is_used(list, d)
 }
