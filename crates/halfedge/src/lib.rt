@@ -25,14 +25,13 @@ impl HalfEdge {
 
     pub const MAX_BORDER: u32 = 4_000_000;
 
+    // Kept as functions that answer code 0 for none, and not From or TryFrom: document 01 names side, border and from_code.
+
     // Side i of element f.
     pub fn side(f: u32, i: u32) -> HalfEdge
         ensures { result.code ≡ side_code f i }
     {
-        if !is_within(1, HalfEdge::MAX_ELEMENT, f) {
-            return HalfEdge { code: 0 };
-        }
-        if !is_within(1, 4, i) {
+        if !is_within(1, HalfEdge::MAX_ELEMENT, f) || !is_within(1, 4, i) {
             return HalfEdge { code: 0 };
         }
         HalfEdge {
@@ -191,28 +190,23 @@ fn by_kind(row: [u32; 4], in_triangle: u32, in_quadrilateral: u32) -> u32
     ensures { result ≡ by_kind row in_triangle in_quadrilateral }
 {
     if row[3] == 0 {
-        return in_triangle;
+        in_triangle
+    } else {
+        in_quadrilateral
     }
-    in_quadrilateral
 }
 
 fn is_within(low: u32, high: u32, x: u32) -> bool
     ensures { result ≡ within low high x }
 {
-    if x < low {
-        return false;
-    }
-    x <= high
+    low <= x && x <= high
 }
 
 // Entry i of a part; 0 past its end.
 fn entry(part: &[u32], i: usize) -> u32
     ensures { result ≡ at part.now i }
 {
-    if i < part.len() {
-        return part[i];
-    }
-    0
+    part.get(i).copied().unwrap_or(0)
 }
 
 // x as an index.

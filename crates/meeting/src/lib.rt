@@ -16,6 +16,7 @@ use halfedge::{corner, element_of, side_code, side_count, slot_of, wide};
 use sides::{destination_of, origin_of, row_at};
 
 // Sides 1 and 2 of element f have their siblings in one element, and that isn't f.
+// n, list and work stay parameters: callers hold the work as `&mut`, and lend it for this pass alone.
 fn is_folded(n: usize, list: &[u32], work: &[u32], f: u32) -> bool
     requires { Mapped n list.now work.now × Element list.now f }
     ensures { result ≡ is_folded list.now f }
@@ -34,7 +35,7 @@ fn folded_element(n: usize, list: &[u32], work: &[u32]) -> u32
     (1..=m).find(|f| is_folded(n, list, work, *f)).unwrap_or(0)
 }
 
-// The lesser of two elements, 0 being none.
+// The lesser of two elements, 0 being none. Kept beside siblings' lesser_element, whose second element counts whatever it is.
 fn lesser_of(a: u32, b: u32) -> u32
     ensures { LesserOf a b result }
 {

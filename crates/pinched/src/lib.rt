@@ -75,6 +75,7 @@ fn counts(v: u32, c: u32, d: u32, marks: &[u32]) -> bool
 }
 
 // A side of element f joins b to a marked vertex other than c and d.
+// Kept apart from mark_by_element: a closure for both would hold the marks as `&mut` in one and as `&` in the other.
 fn meets_by_element(list: &[u32], f: u32, b: u32, c: u32, d: u32, marks: &[u32]) -> bool
     requires { Markable list.now marks.now × Element list.now f }
     ensures { Means result (Met list.now (8 * f) (8 * f + 8) b (Counts marks.now c d)) }

@@ -1,13 +1,17 @@
 -- What the row of a side's element says of the side.
 -- Assumes nothing.
-use mathlib.Core.Path.{◌≡◌, ap, sym, subst, ◌∙◌}
+use mathlib.Core.Bool.{Bool, true, false}
+use mathlib.Core.Logic.{◌⊎◌, inl, inr}
+use mathlib.Core.Path.{◌≡◌, refl, ap, sym, subst, ◌∙◌}
 use mathlib.Core.List.{List}
 use Prim.Native.Nat.{ℕ, ◌+◌, ◌*◌, ◌/◌, ◌%◌, ◌≤◌, ◌<◌}
 use native.Mathlib.Omega.{arith}
+use lib.Dec.{leb}
 use lib.ListN.{length}
+use borrow.Author.Tests.{le-leb, lt-leb}
 use Rattle.lists.specs.Tests.{both, within}
 use Rattle.rules.specs.Elements.{elements, sides, is_side, Side, row, slot, origin, destination, next_number, next}
-use Rattle.halfedge.specs.Rows.{row_of, corner_of, turned, next_side, next_early, three_sides, row_sides, part_corner, row_corner, row_turned}
+use Rattle.halfedge.specs.Rows.{row_of, sides_of, corner_of, turned, next_side, next_early, three_sides, row_sides, part_corner, row_corner, row_turned}
 use Rattle.theory.specs.Sides.{side_facts}
 use Rattle.theory.specs.Steps.{Numbered, next_numbered}
 
@@ -19,6 +23,29 @@ side_by L s e d = rw (e, d)
 -- an element has three sides at least
 pub element_sides : (L : List ℕ) (f : ℕ) → 3 ≤ sides L f
 element_sides L f = subst (λ (k : ℕ). 3 ≤ k) (row_sides L f) (three_sides (row_of (row L f)))
+
+-- the same for an element f that is there: no number, a number that every element has, and one by the row of f
+module _ (L : List ℕ) (s f i : ℕ) (e : f ≡ s / 8) (d : i ≡ s % 8) where
+  module _ (from : 1 ≤ f) (to : f ≤ elements L) where
+    by_number : is_side L s ≡ within 1 (sides L f) i
+    by_number = side_by L s e d ∙ simp (le-leb 1 _ from, le-leb _ _ to)
+
+    pub no_number : i < 1 → false ≡ is_side L s
+    no_number h = sym (by_number ∙ simp (lt-leb 1 _ h))
+
+    pub early_side : 1 ≤ i → i < 4 → true ≡ is_side L s
+    early_side a b = let h : i ≤ sides L f = omega (arith, element_sides L f) in sym (by_number ∙ simp (le-leb 1 _ a, le-leb _ _ h))
+
+    pub by_count : 1 ≤ i → {r : List ℕ} {k : ℕ} → r ≡ row_of (row L f) → k ≡ sides_of r → leb i k ≡ is_side L s
+    by_count a er ek = let h : _ ≡ sides L f = ek ∙ ap sides_of er ∙ row_sides L f in sym (by_number ∙ simp (le-leb 1 _ a, sym h))
+
+  pub no_element : (f < 1) ⊎ (elements L < f) → false ≡ is_side L s
+  no_element (inl h) = sym (side_by L s e d ∙ simp (lt-leb 1 _ h))
+  no_element (inr h) = sym (side_by L s e d ∙ none (leb 1 f))
+    where
+      none : (b : Bool) → both (both b (leb f (elements L))) (within 1 (sides L f) i) ≡ false
+      none true = simp (lt-leb _ _ h)
+      none false = refl
 
 -- the side s, read by its element f, its number i and the row r of that element
 module _ (L : List ℕ) (s : ℕ) (a : Side L s) {f : ℕ} (ef : f ≡ s / 8) where

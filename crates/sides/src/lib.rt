@@ -17,8 +17,7 @@ fn part_at(list: &[u32], f: u32) -> &[u32]
     ensures { result.now ≡ row_in list.now f }
 {
     let a = 4 * wide(f - 1);
-    let e = a + 4;
-    &list[a..e]
+    &list[a..a + 4]
 }
 
 // The row of element f.
@@ -29,25 +28,17 @@ pub fn row_at(list: &[u32], f: u32) -> [u32; 4]
     row(part_at(list, f))
 }
 
+#[tactic(auto, using(crate::proofs::Sided::no_number, crate::proofs::Sided::early_side))]
 pub fn is_side(list: &[u32], code: u32) -> bool
     ensures { result ≡ is_side list.now code }
 {
     let f = element_of(code);
     let i = number_of(code);
-    if f < 1 {
-        return false;
-    }
-    if list.len() / 4 < wide(f) {
-        return false;
-    }
-    if i < 1 {
+    if f < 1 || list.len() / 4 < wide(f) {
         return false;
     }
     // Every element has three sides, so its row is read for a fourth alone.
-    if i < 4 {
-        return true;
-    }
-    i <= side_count(row_at(list, f))
+    1 <= i && (i < 4 || i <= side_count(row_at(list, f)))
 }
 
 pub fn next_code(list: &[u32], s: u32) -> u32
