@@ -20,7 +20,7 @@ use Rattle.theory.specs.Answers.{room_enough, room_short, past_check}
 use Rattle.theory.specs.Calls.{lengths_known}
 use Rattle.theory.specs.Calls as calls
 use Rattle.buffers.specs.Whole.{onto_full}
-use Rattle.tabulate.specs.Results.{Roomy, Holds, Tabulated, front_long, as_long}
+use Rattle.tabulate.specs.Results.{Roomy, Scratched}
 
 -- the four buffers
 abbrev pub lent : List ℕ → List ℕ → List ℕ → List ℕ → Buffers
@@ -72,17 +72,6 @@ module _ (n c m k : ℕ) (w V2e E2e B2e : List ℕ) (long : Lengths n c m k w V2
         border = part_copied (n + 4 * m) (n + 4 * m + k) k w B2e B2e' refl z;
       }
 
--- the scratch buffer is the front of the work buffer
-pub holds_front : (n : ℕ) (L w r : List ℕ) → length w ≡ n + 12 * elements L → borders L ≤ 4 * elements L → Holds n L w → Holds n L (w ++ r)
-holds_front n L w r l b x =
-    let front : (a k : ℕ) → a + k ≤ length w → part a k (w ++ r) ≡ part a k w =
-    λ a k h. sym (part_take a k (length w) (w ++ r) h (simp length-append (omega arith))) ∙ ap (part a k) (take-append_seam w r) in
-    record {
-      vertices = front 0 n (omega arith) ∙ x.vertices;
-      opposites = front n (4 * elements L) (omega arith) ∙ x.opposites;
-      border = front (n + 4 * elements L) (borders L) (omega arith) ∙ x.border;
-    }
-
 pub counts_are : (n : ℕ) (L : List ℕ) (k e : ℕ) → list_answer n L ≡ gives k e → k ≡ borders L
 unfolding list_answer
 counts_are n L k e g =
@@ -112,26 +101,9 @@ checked n L V2e E2e B2e work s l =
     let (v, e, r) = lengths_known n (elements L) (eqb (length E2e) (columns L * elements L)) V2e work l in
     record { sizes = sizes; vertices = a; size = b; fours = c; v2e_long = v; e2e_long = (means_eq _ _).says e; room = omega (arith, r) }
 
--- checks 3 to 8 were made in the front of the work, which has become W, and t is their answer
-pub record Scratched (n : ℕ) (L : List ℕ) (t : Answer) (work W : List ℕ) : Type 0 where
-  pub stated : t ≡ list_answer n L
-  pub holds : (k e : ℕ) → t ≡ gives k e → Holds n L W
-  pub long : length W ≡ length work
-
 -- the work has room for them
 pub roomy : {n : ℕ} {L V2e E2e work : List ℕ} → Checked n L V2e E2e work → Roomy n L work
 roomy x = record { sizes = x.sizes; room = x.room }
-
--- n as an index is a
-pub scratched : {n : ℕ} {L work : List ℕ} (x : Roomy n L work) {a : ℕ} (index : a ≡ n) {t : Answer} {w : List ℕ} →
-    Tabulated n L (list_answer n L) t (take (a + 12 * elements L - 0) work) w → Scratched n L t work (w ++ drop (a + 12 * elements L - 0) work)
-scratched {n} {L} x index {w = w} y =
-    let few : borders L ≤ 4 * elements L = omega (arith, borders_bound L, ((means_sizes n L).says x.sizes).1.1) in
-    record {
-      stated = y.answer;
-      holds = λ k e g. holds_front n L w _ (y.long ∙ front_long x index) few (y.holds k e g);
-      long = as_long x index y;
-    }
 
 -- a refusal leaves the tables as they were
 module _ {n : ℕ} {L : List ℕ} {t : Answer} {work W : List ℕ} (s : Scratched n L t work W) {V2e E2e B2e : List ℕ} where

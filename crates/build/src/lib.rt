@@ -13,7 +13,7 @@ use buffers::{clear, copy};
 use columns::{columns_of, put};
 use halfedge::wide;
 use lengths::{lengths_fit, sizes_fit};
-use tabulate::tabulate;
+use tabulate::tabulate_front;
 
 // The tables are copied out of the work buffer, E2e in its own columns.
 fn commit(
@@ -53,8 +53,7 @@ pub fn build_fit(
 {
     let m = list.len() / 4;
     let vertices = wide(n);
-    let end = vertices + 12 * m;
-    let t = tabulate(n, list, &mut work[0..end])?;
+    let t = tabulate_front(n, list, work)?;
     let k = wide(t.first);
     if b2e.len() < k {
         return refuse_at(Reason::Borders, t.first, 0);

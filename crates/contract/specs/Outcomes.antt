@@ -7,7 +7,7 @@ use Rattle.rules.specs.Refusals.{Answer, gives, refused}
 use Rattle.edit_rules.specs.Edits.{Edited, Lent, with_work, held, new_answer}
 use Rattle.edit_rules.specs.Contract.{contract}
 use Rattle.theory.specs.Answers.{gives_refused, given_accepted}
-use Rattle.build.specs.Building.{Scratched}
+use Rattle.tabulate.specs.Results.{Scratched}
 use Rattle.edits.specs.Trying.{number, tabled}
 use Rattle.edits.specs.Fronts.{Ready, fitting, checked_front}
 use Rattle.edits.specs.Pointed.{old_refused, edit_refused, edit_tried}

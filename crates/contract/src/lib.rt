@@ -19,12 +19,13 @@ ghost use Rattle.contract.specs.Stages.{Admissible, Admitted, Contractible, padd
 
 use answer::{Answer, Reason, give, refuse};
 use buffers::{clear, copy};
-use edits::{build_front, columns_held, counts_fit, entry_of, is_splittable, is_there, try_old};
+use edits::{build_front, check_lent, entry_of, is_splittable, is_there};
 use gaps::{all_used, fewer, merge, rename};
 use halfedge::{is_border, wide};
 use pinched::is_pinched;
 use points::close_point;
 use sides::{destination_of, origin_of, previous_code};
+use tabulate::tabulate_front;
 
 // The edge of a side from a to b, with the third corners of the triangles on it: c, and d beyond the edge, or c again on a border.
 #[derive(Clone, Copy)]
@@ -49,9 +50,10 @@ fn beyond_of(list: &[u32], s: u32, t: u32) -> u32
     ensures { result ≡ beyond list.now s }
 {
     if is_border(t) {
-        return third_of(list, s);
+        third_of(list, s)
+    } else {
+        third_of(list, t)
     }
-    third_of(list, t)
 }
 
 // The edge of side s; t is its entry in E2e.
@@ -262,7 +264,7 @@ fn contract_fit(
     let n = size[0];
     let m = size[1];
     let rows = 4 * wide(m);
-    let k = try_old(n, &list[0..rows], work)?.first;
+    let k = tabulate_front(n, &list[0..rows], work)?.first;
     let t = admit(n, k, &list[0..rows], work, code)?.first;
     write(size, columns, list, v2e, e2e, b2e, points, work, code, t)
 }
@@ -285,16 +287,8 @@ pub fn contract(
 {
     let n = size[0];
     let m = size[1];
-    if !counts_fit(n, m) {
-        return refuse(Reason::Sizes);
-    }
-    if points.len() < 3 * wide(n) {
-        return refuse(Reason::Lengths);
-    }
-    let columns = columns_held(n, m, list, v2e.len(), e2e.len(), work.len());
-    if columns == 0 {
-        return refuse(Reason::Lengths);
-    }
+    let has_points = 3 * wide(n) <= points.len();
+    let columns = check_lent(n, m, has_points, list, v2e.len(), e2e.len(), work.len())?;
     let a = contract_fit(size, columns, list, v2e, e2e, b2e, points, work, code);
     clear(work);
     a

@@ -1,6 +1,6 @@
 -- What is held stands at the fronts of the buffers that are lent: checked there, and written there.
 -- Assumes nothing.
-use Rattle.std.specs.Prelude.{◌≡◌, List, ◌++◌, ℕ, ◌+◌, ◌*◌, ◌≤◌, length, take, drop}
+use Rattle.std.specs.Prelude.{Bool, Ok, ◌≡◌, List, ◌++◌, ℕ, ◌+◌, ◌*◌, ◌≤◌, length, take, drop}
 use Rattle.std.proofs.Common.{ap, sym, ◌∙◌, arith, take-append-drop, length-take-le}
 use Rattle.rules.specs.Elements.{max_vertex, max_element, elements}
 use Rattle.rules.specs.Tables.{b2e, columns, e2e, v2e}
@@ -9,14 +9,20 @@ use Rattle.edit_rules.specs.Edits.{Lent, held}
 use Rattle.theory.specs.FitRows.{means_sizes}
 use Rattle.theory.specs.Entries.{length_v2e}
 use Rattle.theory.specs.Columns.{length_e2e}
-use Rattle.build.specs.Building.{Built, Checked}
-use Rattle.edits.specs.Holding.{Held}
+use Rattle.tabulate.specs.Results.{Roomy}
+use Rattle.build.specs.Building.{Built, Checked, roomy}
+use Rattle.edits.specs.Holding.{Held, counts_say, Looked, passed}
 use Rattle.edits.specs.HeldRows.{held_length, held_elements}
 
 -- checks 1 and 2 found nothing; the list that is held has c columns
 pub record Ready (w : Lent) (c : ℕ) : Type 0 where
   pub sizes : (w.n ≤ max_vertex) × (w.m ≤ max_element)
   pub long : Held w.n w.m w.list (length w.vertices) (length w.opposites) (length w.work) c
+
+-- what they found
+pub ready : (w : Lent) {others : Bool} {c : ℕ}
+    → Looked w.n w.m others w.list (length w.vertices) (length w.opposites) (length w.work) (Ok c) → Ready w c
+ready w y = let x = passed y in record { sizes = counts_say w.n w.m x.0; long = x.2 }
 
 -- the same, but the work buffer needs no room for a second list
 pub record Fitting (w : Lent) (c : ℕ) : Type 0 where
@@ -37,12 +43,6 @@ fitting w x =
       opposites = x.long.opposites;
       room = omega (arith, x.long.room);
     }
-
--- there is room to try the list in the work buffer
-pub record ToTry (n : ℕ) (L work : List ℕ) : Type 0 where
-  pub vertices : List ℕ
-  pub opposites : List ℕ
-  pub checked : Checked n L vertices opposites work
 
 module _ (w : Lent) {c : ℕ} (x : Fitting w c) where
   abbrev front : List ℕ
@@ -67,10 +67,9 @@ module _ (w : Lent) {c : ℕ} (x : Fitting w c) where
 
   -- by where they end, as it was worked out
   module _ {p : ℕ} (rows : p ≡ 4 * w.m) where
-    pub to_try : ToTry w.n (take p w.list) w.work
-    to_try =
-        rw rows
-        (record { vertices = take w.n w.vertices; opposites = take (c * w.m) w.opposites; checked = checked_front })
+    -- there is room to try the list in the work buffer
+    pub to_try : Roomy w.n (take p w.list) w.work
+    to_try = rw rows (roomy checked_front)
 
     pub checked_at : {q r : ℕ} → q ≡ w.n → r ≡ c * w.m
         → Checked w.n (take p w.list) (take q w.vertices) (take r w.opposites) w.work × (c ≡ columns (take p w.list))

@@ -1,17 +1,19 @@
 -- What an edit is lent, and the checks that every edit makes first.
 -- Assumes nothing.
-use Rattle.std.specs.Prelude.{◌≡◌, refl, Bool, ◌⊎◌, List, ℕ, ◌+◌, ◌*◌, ◌≤◌, leb, eqb, length, take, get_or}
+use Rattle.std.specs.Prelude.{Result, Ok, Err, ◌≡◌, refl, Bool, ◌⊎◌, List, ℕ, ◌+◌, ◌*◌, ◌≤◌, leb, eqb, length, take, get_or}
 use Rattle.std.proofs.Common.{ap, ◌∙◌}
 use Rattle.std.proofs.Math.Path.{sym}
 use Rattle.std.proofs.Math.Bool.{true, false}
 use Rattle.std.proofs.Math.Logic.{inl, inr}
 use native.Mathlib.Omega.{arith}
 use Rattle.lists.specs.Tests.{both, either, within}
-use Rattle.lists.specs.TestLaws.{Test, pass, fail, test, true_of, false_of, Means, means_both, means_not, means_le}
+use Rattle.lists.specs.TestLaws.{true_of, false_of, Means, means_both, means_not, means_le}
 use Rattle.rules.specs.Elements.{max_vertex, max_element, element, number, is_side}
 use Rattle.rules.specs.Tables.{columns, borders}
 use Rattle.edit_rules.specs.Edits.{Lent, is_there, counts_fit}
-use Rattle.theory.specs.Columns.{three_or_four}
+use Rattle.answer.specs.Numbers.{placed}
+use Rattle.answer.specs.declared.Reason.TheVariants.{Sizes, Lengths}
+use Rattle.answer.specs.declared.Refusal.{Refusal}
 
 abbrev pub lent_edit : ℕ → ℕ → List ℕ → List ℕ → List ℕ → List ℕ → List ℕ → Lent
 lent_edit n m L V2e E2e B2e work =
@@ -57,36 +59,13 @@ module _ (c n m list v e work : ℕ) where
 abbrev pub holds : ℕ → ℕ → List ℕ → ℕ → ℕ → ℕ → Bool
 holds n m L = room_for (columns (take (4 * m) L)) n m (length L)
 
--- the columns of the list that is held; 0 where a length is too short
-unfoldable pub columns_held : ℕ → ℕ → List ℕ → ℕ → ℕ → ℕ → ℕ
-columns_held n m L v e work = elim (holds n m L v e work) [ true ↦ columns (take (4 * m) L) | false ↦ 0 ]
-
 module _ (n m : ℕ) (L : List ℕ) (v e work : ℕ) where
   pub means_holds : Means (holds n m L v e work) ((4 * m ≤ length L) × ((n ≤ v) × ((columns (take (4 * m) L) * m ≤ e) × (n + 16 * m ≤ work))))
   means_holds = means_room (columns (take (4 * m) L)) n m (length L) v e work
 
   -- the list is too short
-  pub short : (4 * m ≤ length L → ⊥) → 0 ≡ columns_held n m L v e work
-  unfolding columns_held
-  short f =
-      let t = (means_not means_holds).shows (λ (a, b). f a) in
-      rw (false_of (holds n m L v e work) t, columns_held)
-
-  -- or its columns are c, and it goes by the room in them
-  pub by_room : {c : ℕ} → c ≡ columns (take (4 * m) L) → columns_held n m L v e work ≡ elim (room_for c n m (length L) v e work) [ true ↦ c | false ↦ 0 ]
-  unfolding columns_held
-  by_room g = sym (ap (λ (k : ℕ). elim (room_for k n m (length L) v e work) [ true ↦ k | false ↦ 0 ]) g)
-
-  -- and so by what was found: 0 for check 2, else the columns
-  pub found_short : columns_held n m L v e work ≡ 0 → holds n m L v e work ≡ false
-  unfolding columns_held
-  found_short z = go (test (holds n m L v e work))
-    where
-      go : Test (holds n m L v e work) → holds n m L v e work ≡ false
-      go (fail t d) = d
-      go (pass t d) =
-          let c : columns (take (4 * m) L) ≡ 0 = sym (rw (d, columns_held)) ∙ z in
-          absurd (elim (three_or_four (take (4 * m) L)) [ inl h ↦ omega arith | inr h ↦ omega arith ])
+  pub short : (4 * m ≤ length L → ⊥) → holds n m L v e work ≡ false
+  short f = false_of (holds n m L v e work) ((means_not means_holds).shows (λ (a, b). f a))
 
   pub record Held (c : ℕ) : Type 0 where
     pub passed : holds n m L v e work ≡ true
@@ -96,16 +75,32 @@ module _ (n m : ℕ) (L : List ℕ) (v e work : ℕ) where
     pub opposites : c * m ≤ e
     pub room : n + 16 * m ≤ work
 
-  pub found_long : {c : ℕ} → c ≡ columns_held n m L v e work → (c ≡ 0 → ⊥) → Held c
-  unfolding columns_held
-  found_long {c} f d = go (test (holds n m L v e work))
-    where
-      go : Test (holds n m L v e work) → Held c
-      go (fail t h) = absurd (d (f ∙ (rw (h, columns_held))))
-      go (pass t h) =
-          let (p, (q, (r, s))) = means_holds.says t in
-          let g : c ≡ columns (take (4 * m) L) = f ∙ (rw (h, columns_held)) in
-          record { passed = h; columned = g; list = p; vertices = q; opposites = rw g r; room = s }
+  -- its columns are c, and it goes by the room in them
+  module _ {c : ℕ} (g : c ≡ columns (take (4 * m) L)) where
+    by_room : holds n m L v e work ≡ room_for c n m (length L) v e work
+    by_room = sym (ap (λ (k : ℕ). room_for k n m (length L) v e work) g)
+
+    pub found_short : room_for c n m (length L) v e work ≡ false → holds n m L v e work ≡ false
+    found_short d = by_room ∙ d
+
+    pub found_long : room_for c n m (length L) v e work ≡ true → Held c
+    found_long d =
+        let h = by_room ∙ d in
+        let (p, (q, (r, s))) = means_holds.says (rw h tt) in
+        record { passed = h; columned = g; list = p; vertices = q; opposites = rw g r; room = s }
+
+-- what checks 1 and 2 say, `others` for the lengths of what else is lent: 1, 2, or the columns of the list that is held
+pub data Looked (n m : ℕ) (others : Bool) (L : List ℕ) (v e work : ℕ) (r : Result ℕ Refusal) : Type 0 where
+  too_large : counts_fit n m ≡ false → r ≡ Err (placed Sizes 0 0) → Looked n m others L v e work r
+  too_short : counts_fit n m ≡ true → both others (holds n m L v e work) ≡ false → r ≡ Err (placed Lengths 0 0) → Looked n m others L v e work r
+  fits : {c : ℕ} → counts_fit n m ≡ true → others ≡ true → Held n m L v e work c → r ≡ Ok c → Looked n m others L v e work r
+
+-- they found nothing
+pub passed : {n m v e work c : ℕ} {others : Bool} {L : List ℕ} → Looked n m others L v e work (Ok c)
+    → (counts_fit n m ≡ true) × (others ≡ true) × Held n m L v e work c
+passed (too_large a q) = absurd (cc)
+passed (too_short a b q) = absurd (cc)
+passed {c = c} (fits {c = k} a b h q) = let same : c ≡ k = cc in (a, b, rw same h)
 
 -- a half-edge is there by what its tests say: its side's, its border's, and its border number b against k
 pub there_by : (L : List ℕ) (c : ℕ) {side border : Bool} {b k : ℕ} → side ≡ is_side L c → border ≡ eqb (number c) 0 → b ≡ element c → k ≡ borders L →

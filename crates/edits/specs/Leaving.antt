@@ -1,16 +1,20 @@
 -- What any edit answers and leaves. x is what it makes of the list, from the trial of the old list to the whole call.
 -- Assumes nothing.
-use Rattle.std.specs.Prelude.{◌≡◌, refl, Bool, true, false, List, [], ℕ, T, length}
+use Rattle.std.specs.Prelude.{Result, Ok, Err, ◌≡◌, refl, Bool, true, false, List, [], ℕ, T, length}
 use Rattle.std.proofs.Math.Path.{ap, sym}
 use Rattle.std.proofs.Common.{◌∙◌}
+use Rattle.lists.specs.Tests.{both}
 use Rattle.rules.specs.Elements.{elements}
 use Rattle.rules.specs.Pairing.{sizes_fit}
 use Rattle.rules.specs.Refusals.{Answer, gives, refused, list_answer, room_check, after}
-use Rattle.edit_rules.specs.Edits.{Edited, becomes, refuses, Lent, with_work, held, once_accepted, new_answer, edit_sizes, edit_lengths, edit_answer, written, edit_leaves}
+use Rattle.edit_rules.specs.Edits.{Edited, becomes, refuses, Lent, with_work, held, once_accepted, new_answer, has_room, edit_sizes, edit_lengths, edit_answer, written, edit_leaves}
 use Rattle.theory.specs.FitRows.{Fit}
 use Rattle.theory.specs.Answers.{fit_passed}
 use Rattle.theory.specs.Calls as calls
-use Rattle.edits.specs.Holding.{lent_edit}
+use Rattle.answer.specs.Numbers.{numbers, placed}
+use Rattle.answer.specs.declared.Reason.TheVariants.{Sizes, Lengths}
+use Rattle.answer.specs.declared.Refusal.{Refusal}
+use Rattle.edits.specs.Holding.{lent_edit, Looked, too_large, too_short, fits, passed}
 
 -- buffers that are as long as what they hold, but for B2e; the work apart
 abbrev pub tight : ℕ → List ℕ → List ℕ → List ℕ → List ℕ → Lent
@@ -94,3 +98,19 @@ module _ (w : Lent) (others : Bool) (x : Edited) where
   pub unlengthened : {a : Answer} → edit_sizes w ≡ true → edit_lengths w others ≡ false → a ≡ refused 2 0 0 → Whole a w
   unfolding after edit_answer edit_leaves
   unlengthened = calls.unlengthened leaves_by (edit_sizes w) (edit_lengths w others) rest w.work
+
+  -- what checks 1 and 2 say
+  abbrev pub Seen : Result ℕ Refusal → Type 0
+  Seen = Looked w.n w.m others w.list (length w.vertices) (length w.opposites) (length w.work)
+
+  pub denied : {d : Refusal} → Seen (Err d) → Whole (numbers (Err d)) w
+  unfolding edit_sizes edit_lengths has_room
+  denied {d = d} (too_large a q) =
+      let e : d ≡ placed Sizes 0 0 = cc in unsized a (ap (λ (r : Refusal). numbers (Err r)) e)
+  denied {d = d} (too_short a b q) =
+      let e : d ≡ placed Lengths 0 0 = cc in unlengthened a b (ap (λ (r : Refusal). numbers (Err r)) e)
+  denied (fits a b h q) = absurd (cc)
+
+  pub admitted : {c : ℕ} → Seen (Ok c) → (edit_sizes w ≡ true) × (edit_lengths w others ≡ true)
+  unfolding edit_sizes edit_lengths has_room
+  admitted y = let x = passed y in (x.0, (λ i. both (x.1 i) (x.2.passed i)))

@@ -1,6 +1,6 @@
 -- An edit of a mesh with points, which are under check 2 too: what it answers and leaves. x is what it makes of the list, and `new` of the points.
 -- Assumes nothing.
-use Rattle.std.specs.Prelude.{◌≡◌, Bool, true, false, List, [], ℕ, Float, length}
+use Rattle.std.specs.Prelude.{Err, ◌≡◌, Bool, true, false, List, [], ℕ, Float, length}
 use Rattle.std.proofs.Math.Path.{refl, ap}
 use Rattle.std.proofs.Common.{sym, ◌∙◌}
 use Rattle.std.proofs.Math.ListN.{replicate}
@@ -9,20 +9,10 @@ use Rattle.rules.specs.Refusals.{Answer, gives, refused, list_answer, after}
 use Rattle.edit_rules.specs.Edits.{Edited, Lent, with_work, held, has_room, once_accepted, new_answer, edit_sizes, edit_lengths, edit_answer, written, edit_leaves}
 use Rattle.edit_rules.specs.Split.{has_points}
 use Rattle.theory.specs.Calls as calls
-use Rattle.edits.specs.Holding.{holds}
+use Rattle.answer.specs.Numbers.{numbers}
+use Rattle.answer.specs.declared.Refusal.{Refusal}
 use Rattle.edits.specs.Leaving as leaving
-use Rattle.edits.specs.Leaving.{after_refusal, after_answer, Left, work_apart, rest, leaves_by, unsized, unlengthened}
-
--- check 2, by the points and by the other lengths
-module _ (w : Lent) where
-  pub without_points : edit_lengths w false ≡ false
-  unfolding edit_lengths
-  without_points = refl
-
-  pub with_points : {others b : Bool} → others ≡ true
-      → holds w.n w.m w.list (length w.vertices) (length w.opposites) (length w.work) ≡ b → edit_lengths w others ≡ b
-  unfolding has_room edit_lengths
-  with_points e f = ap (λ (x : Bool). both x (has_room w w.n w.m)) e ∙ f
+use Rattle.edits.specs.Leaving.{after_refusal, after_answer, Left, work_apart, rest, leaves_by, Seen}
 
 module _ (w : Lent) (P : List Float) (x : Edited) (new : List Float) where
   abbrev others : Bool
@@ -73,11 +63,8 @@ module _ (w : Lent) (P : List Float) (x : Edited) (new : List Float) where
   stays : {a : Answer} {r i j : ℕ} → a ≡ refused r i j → (a ≡ edit_answer w others x) × (w ≡ edit_leaves w others x) → Whole a w P
   stays f (e, l) = (e, (l, points_by e (sym (after_refusal new P f))))
 
-  pub refused_1 : {a : Answer} → edit_sizes w ≡ false → a ≡ refused 1 0 0 → Whole a w P
-  refused_1 e f = stays f (unsized w others x e f)
-
-  pub refused_2 : {a : Answer} → edit_sizes w ≡ true → edit_lengths w others ≡ false → a ≡ refused 2 0 0 → Whole a w P
-  refused_2 e d f = stays f (unlengthened w others x e d f)
+  pub denied : {d : Refusal} → Seen w others x (Err d) → Whole (numbers (Err d)) w P
+  denied y = stays refl (leaving.denied w others x y)
 
   -- it was cleared
   pub finished : {a : Answer} {w' : Lent} {P' : List Float} {work : List ℕ} {l : ℕ} → (edit_sizes w ≡ true) × (edit_lengths w others ≡ true)

@@ -11,7 +11,8 @@ use Rattle.rules.specs.Refusals.{Answer, gives}
 use Rattle.theory.specs.Sides.{side_facts, slot_below}
 use Rattle.theory.specs.Pairings.{partner_opposed}
 use Rattle.theory.specs.Entries.{wide_paired, wide_border}
-use Rattle.build.specs.Building.{Checked, Scratched, counts_are}
+use Rattle.tabulate.specs.Results.{Scratched}
+use Rattle.build.specs.Building.{Checked, counts_are}
 
 -- the E2e of the list, in four columns, stands from n on
 pub record Tabled (n : ℕ) (L w : List ℕ) : Type 0 where

@@ -1,5 +1,4 @@
-// What edits share: checks 1 and 2, where buffers may be longer than what they hold, the trial of the old list, whether the half-edge named is
-// there, what the tables of the old list say of a side, a row put in its place, and the tables of the new list.
+// What edits share: checks 1 and 2, where buffers may be longer than what they hold, whether the half-edge named is there, what the tables of the old list say of a side, a row put in its place, and the tables of the new list.
 #![tactic(auto)]
 
 ghost use Rattle.std.specs.Prelude.{◌≡◌, ◌⊎◌, ◌*◌, ◌≤◌, eqb, length, take};
@@ -11,27 +10,23 @@ ghost use Rattle.edit_rules.specs.Edits.{counts_fit, with_row, is_there};
 ghost use Rattle.edit_rules.specs.Split.{is_splittable};
 ghost use Rattle.halfedge.specs.Rows.{row_of};
 ghost use Rattle.answer.specs.Numbers.{numbers};
-ghost use Rattle.build.specs.Building.{Scratched};
-ghost use Rattle.edits.specs.Holding.{lent_edit, room_for, columns_held};
+ghost use Rattle.edits.specs.Holding.{lent_edit, room_for, Looked};
 ghost use Rattle.edits.specs.Trying.{Tabled};
-ghost use Rattle.edits.specs.Fronts.{Fitting, ToTry, Fronted};
+ghost use Rattle.edits.specs.Fronts.{Fitting, Fronted};
 
-use answer::Answer;
+use answer::{Answer, Reason, Refusal};
 use buffers::copy;
 use build::build_fit;
 use columns::columns_of;
 use halfedge::{HalfEdge, element_of, is_border, side_count, slot_of, wide};
 use sides::{is_side, row_at};
-use tabulate::tabulate;
 
 // Check 1, which reads n and m only.
+#[tactic(auto, unfolding(edit_rules::specs::Edits::counts_fit))]
 pub fn counts_fit(n: u32, m: u32) -> bool
     ensures { result ≡ counts_fit n m }
 {
-    if HalfEdge::MAX_VERTEX < n {
-        return false;
-    }
-    m <= HalfEdge::MAX_ELEMENT
+    n <= HalfEdge::MAX_VERTEX && m <= HalfEdge::MAX_ELEMENT
 }
 
 // Whether buffers of these lengths have room for n vertices and m elements.
@@ -49,41 +44,36 @@ pub fn has_room(
 {
     let vertices = wide(n);
     let elements = wide(m);
-    if list < 4 * elements {
-        return false;
-    }
-    if v2e < vertices {
-        return false;
-    }
-    if e2e < wide(columns) * elements {
-        return false;
-    }
-    vertices + 16 * elements <= work
+    4 * elements <= list
+        && vertices <= v2e
+        && wide(columns) * elements <= e2e
+        && vertices + 16 * elements <= work
 }
 
-// Check 2, where check 1 found nothing: the columns of the first m rows, or 0 where a buffer is too short for what it holds.
-pub fn columns_held(n: u32, m: u32, list: &[u32], v2e: usize, e2e: usize, work: usize) -> u32
-    requires { (n ≤ max_vertex) × (m ≤ max_element) }
-    ensures { result ≡ columns_held n m list.now v2e e2e work }
+// Checks 1 and 2 of an edit: the columns of the first m rows. `others` says whether what else is lent to the edit is long enough.
+pub fn check_lent(
+    n: u32,
+    m: u32,
+    others: bool,
+    list: &[u32],
+    v2e: usize,
+    e2e: usize,
+    work: usize,
+) -> Result<u32, Refusal>
+    ensures { Looked n m others list.now v2e e2e work result }
 {
+    if !counts_fit(n, m) {
+        return Err(Refusal::of(Reason::Sizes));
+    }
     let rows = 4 * wide(m);
-    if list.len() < rows {
-        return 0;
+    if !others || list.len() < rows {
+        return Err(Refusal::of(Reason::Lengths));
     }
     let columns = columns_of(&list[0..rows]);
     if !has_room(n, m, columns, list.len(), v2e, e2e, work) {
-        return 0;
+        return Err(Refusal::of(Reason::Lengths));
     }
-    columns
-}
-
-// The list as it is, tried in the front of the work buffer, where its tables are left.
-pub fn try_old(n: u32, list: &[u32], work: &mut [u32]) -> Answer
-    requires { ToTry n list.now work.old }
-    ensures { Scratched n list.now (numbers result) work.old work.new }
-{
-    let end = wide(n) + 12 * (list.len() / 4);
-    tabulate(n, list, &mut work[0..end])
+    Ok(columns)
 }
 
 // Whether a side or one of the k border half-edges of the list has this code.
@@ -91,17 +81,7 @@ pub fn is_there(list: &[u32], k: u32, code: u32) -> bool
     requires { k ≡ borders list.now }
     ensures { result ≡ is_there list.now code }
 {
-    if is_side(list, code) {
-        return true;
-    }
-    if !is_border(code) {
-        return false;
-    }
-    let b = element_of(code);
-    if b < 1 {
-        return false;
-    }
-    b <= k
+    is_side(list, code) || is_border(code) && (1..=k).contains(&element_of(code))
 }
 
 pub fn is_triangle(list: &[u32], f: u32) -> bool
@@ -125,17 +105,11 @@ pub fn is_splittable(n: usize, list: &[u32], work: &[u32], s: u32) -> bool
     requires { Tabled n list.now work.now }
     ensures { result ≡ is_splittable list.now s }
 {
-    if !is_side(list, s) {
-        return false;
-    }
-    if !is_triangle(list, element_of(s)) {
+    if !is_side(list, s) || !is_triangle(list, element_of(s)) {
         return false;
     }
     let t = entry_of(n, list, work, s);
-    if is_border(t) {
-        return true;
-    }
-    is_triangle(list, element_of(t))
+    is_border(t) || is_triangle(list, element_of(t))
 }
 
 // The row of element f is replaced.

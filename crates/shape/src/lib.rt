@@ -11,7 +11,7 @@ use answer::{Answer, Reason, give_two, refuse};
 use buffers::clear;
 use halfedge::wide;
 use lengths::sizes_fit;
-use tabulate::tabulate;
+use tabulate::tabulate_front;
 
 // more − less as a signed number, in two's complement in an answer's 56 bits.
 fn give_signed(more: u32, less: u32) -> Answer
@@ -30,9 +30,8 @@ fn shape_fit(n: u32, list: &[u32], work: &mut [u32]) -> Answer
     ensures result_value { numbers result ≡ list_shape n list.now }
     ensures work_len_unchanged { length work.new ≡ length work.old }
 {
+    let edges = tabulate_front(n, list, work)?.second;
     let m = list.len() / 4;
-    let end = wide(n) + 12 * m;
-    let edges = tabulate(n, list, &mut work[0..end])?.second;
     give_signed(n + m as u32, edges)
 }
 

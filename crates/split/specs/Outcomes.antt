@@ -11,7 +11,7 @@ use Rattle.edit_rules.specs.Edits.{Lent, with_work, new_answer, is_there, held, 
 use Rattle.edit_rules.specs.Split.{is_splittable, can_hold, split, placed}
 use Rattle.theory.specs.Answers.{gives_refused, given_accepted}
 use Rattle.theory.specs.SplitTests.{vertex, new, gone, unfit, full, splits}
-use Rattle.build.specs.Building.{Scratched}
+use Rattle.tabulate.specs.Results.{Scratched}
 use Rattle.edits.specs.Trying.{number, tabled}
 use Rattle.edits.specs.Pointed.{old_refused, edit_refused, edit_made}
 use Rattle.edits.specs.Fronts.{Ready, fitting, checked_front}

@@ -15,21 +15,20 @@ ghost use Rattle.split.specs.Stages.{Admissible, ToWrite, Admitted, Written, Out
 use answer::{Answer, Reason, give_two, refuse, refuse_at};
 use buffers::clear;
 use edits::{
-    build_front, columns_held, counts_fit, entry_of, has_room, is_splittable, is_there, put_row,
-    try_old,
+    build_front, check_lent, counts_fit, entry_of, has_room, is_splittable, is_there, put_row,
 };
 use halfedge::{element_of, is_border, next_side, number_of, wide};
 use points::place_midpoint;
 use sides::{destination_of, origin_of, row_at};
+use tabulate::tabulate_front;
 
 // The row with v for corner i.
-fn with_corner(row: [u32; 4], i: u32, v: u32) -> [u32; 4]
+fn with_corner(mut row: [u32; 4], i: u32, v: u32) -> [u32; 4]
     requires { (1 ≤ i) × (i ≤ 4) }
     ensures { result ≡ set row (i - 1) v }
 {
-    let mut new = row;
-    new[wide(i - 1)] = v;
-    new
+    row[wide(i - 1)] = v;
+    row
 }
 
 // The triangle of side s, in a list that holds m rows, halved: v takes the place of its destination, and the old row, with v for its origin,
@@ -62,10 +61,7 @@ fn split_rows(m: u32, list: &mut [u32], s: u32, t: u32, v: u32)
 fn by_border(t: u32, border: u32, inner: u32) -> u32
     ensures { result ≡ by_border t border inner }
 {
-    if is_border(t) {
-        return border;
-    }
-    inner
+    if is_border(t) { border } else { inner }
 }
 
 // Whether n and m are at most their maxima, and buffers of these lengths can hold them.
@@ -82,13 +78,7 @@ fn can_hold(
     requires { (columns ≡ 3) ⊎ (columns ≡ 4) }
     ensures { result ≡ holds_by n m columns list v2e e2e points work }
 {
-    if !counts_fit(n, m) {
-        return false;
-    }
-    if points < 3 * wide(n) {
-        return false;
-    }
-    has_room(n, m, columns, list, v2e, e2e, work)
+    counts_fit(n, m) && 3 * wide(n) <= points && has_room(n, m, columns, list, v2e, e2e, work)
 }
 
 // What follows the trial of the old list, with k border half-edges, and comes before anything is written: 11, 15, 19 and, by the new k, 9. If
@@ -188,7 +178,7 @@ fn split_fit(
     let n = size[0];
     let m = size[1];
     let rows = 4 * wide(m);
-    let k = try_old(n, &list[0..rows], work)?.first;
+    let k = tabulate_front(n, &list[0..rows], work)?.first;
     let admitted = admit(n, m, columns, k, list, v2e, e2e, b2e, points, work, code)?;
     write(
         size,
@@ -224,16 +214,8 @@ pub fn split(
 {
     let n = size[0];
     let m = size[1];
-    if !counts_fit(n, m) {
-        return refuse(Reason::Sizes);
-    }
-    if points.len() < 3 * wide(n) {
-        return refuse(Reason::Lengths);
-    }
-    let columns = columns_held(n, m, list, v2e.len(), e2e.len(), work.len());
-    if columns == 0 {
-        return refuse(Reason::Lengths);
-    }
+    let has_points = 3 * wide(n) <= points.len();
+    let columns = check_lent(n, m, has_points, list, v2e.len(), e2e.len(), work.len())?;
     let a = split_fit(size, columns, list, v2e, e2e, b2e, points, work, code);
     clear(work);
     a

@@ -1,6 +1,6 @@
 -- What a swap leaves on its way.
 -- Assumes nothing.
-use Rattle.std.specs.Prelude.{◌≡◌, refl, true, false, ◌⊎◌, ℕ, ◌+◌, ◌*◌, ◌/◌, ◌%◌, ◌≤◌, eqb}
+use Rattle.std.specs.Prelude.{◌≡◌, refl, Bool, true, false, ◌⊎◌, ℕ, ◌+◌, ◌*◌, ◌/◌, ◌%◌, ◌≤◌, eqb}
 use Rattle.std.proofs.Math.Path.{ap, sym}
 use Rattle.std.proofs.Common.{◌∙◌, inl, inr, arith}
 use mathlib.Core.List.{List, [], ◌∷◌}
@@ -8,7 +8,7 @@ use Rattle.std.proofs.Math.Dec.{not_T}
 use Rattle.std.proofs.Math.ListN.{length, take}
 use Rattle.std.proofs.Math.Seq.{take_all}
 use Rattle.lists.specs.Tests.{both}
-use Rattle.lists.specs.TestLaws.{Test, pass, fail, test, true_of, false_of, means_not}
+use Rattle.lists.specs.TestLaws.{zero_or, Test, pass, fail, test, true_of, false_of, means_not}
 use Rattle.lists.specs.Search.{at}
 use Rattle.rules.specs.Elements.{elements, row, sides, is_side, Side, slot, origin, previous_number, previous}
 use Rattle.rules.specs.Tables.{partner, is_border, columns, wide, v2e, e2e}
@@ -26,7 +26,8 @@ use Rattle.theory.specs.Replacing.{Replaced, same_columns, same_size}
 use Rattle.theory.specs.Swapping.{Diagonal, means_swappable, across, swapped_replaced}
 use Rattle.halfedge.specs.Rows.{row_of, corner_of, previous_side, row_at, row_corner, row_turned}
 use Rattle.buffers.specs.Whole.{onto_full}
-use Rattle.build.specs.Building.{Built, Checked, Scratched}
+use Rattle.tabulate.specs.Results.{Scratched}
+use Rattle.build.specs.Building.{Built, Checked}
 use Rattle.edits.specs.Holding.{lent_edit}
 use Rattle.edits.specs.Leaving.{tight, after_refusal, after_answer, Left, accepted_fit}
 
@@ -185,6 +186,14 @@ at_border L s z = sym (false_of (is_swappable L s) (not_T (is_swappable L s) (λ
 pub by_triangles : (L : List ℕ) (s : ℕ) → Side L s → (partner L s ≡ 0 → ⊥) → is_swappable L s ≡ both (eqb (sides L (s / 8)) 3) (eqb (sides L (partner L s / 8)) 3)
 unfolding is_swappable
 by_triangles L s a d = rw (true_of (is_side L s) a, false_of (is_border L s) ((means_not (means_border L s)).shows d)) refl
+
+pub not_triangle : (L : List ℕ) (s : ℕ) → Side L s → eqb (sides L (s / 8)) 3 ≡ false → false ≡ is_swappable L s
+not_triangle L s a e = go (zero_or (partner L s))
+  where
+    go : (partner L s ≡ 0) ⊎ (partner L s ≡ 0 → ⊥) → false ≡ is_swappable L s
+    go (inl z) = at_border L s z
+    go (inr d) =
+        sym (by_triangles L s a d ∙ ap (λ (b : Bool). both b (eqb (sides L (partner L s / 8)) 3)) e)
 
 -- the edit by its two tests
 module _ (n : ℕ) (L : List ℕ) (s : ℕ) where

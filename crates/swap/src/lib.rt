@@ -19,9 +19,10 @@ ghost use Rattle.swap.specs.Swaps.{Flips, ToSwap};
 use answer::{Answer, Reason, refuse};
 use buffers::clear;
 use build::build_fit;
-use edits::{columns_held, counts_fit, entry_of, is_there, is_triangle, put_row, try_old};
+use edits::{check_lent, entry_of, is_there, is_triangle, put_row};
 use halfedge::{corner, element_of, is_border, number_of, previous_side, wide};
 use sides::{is_side, row_at};
+use tabulate::tabulate_front;
 
 // The corner of a triangle before the origin of its side i.
 fn third(row: [u32; 4], i: u32) -> u32
@@ -89,17 +90,11 @@ fn is_swappable(n: usize, list: &[u32], work: &[u32], s: u32) -> bool
     requires { Tabled n list.now work.now }
     ensures { result ≡ is_swappable list.now s }
 {
-    if !is_side(list, s) {
+    if !is_side(list, s) || !is_triangle(list, element_of(s)) {
         return false;
     }
     let t = entry_of(n, list, work, s);
-    if is_border(t) {
-        return false;
-    }
-    if !is_triangle(list, element_of(s)) {
-        return false;
-    }
-    is_triangle(list, element_of(t))
+    !is_border(t) && is_triangle(list, element_of(t))
 }
 
 // All that follows checks 1 and 2, in buffers that are as long as what they hold. The work buffer isn't cleared yet.
@@ -118,7 +113,7 @@ fn swap_fit(
     ensures work_len_unchanged { length work.new ≡ length work.old }
 {
     let vertices = wide(n);
-    let k = try_old(n, list, work)?.first;
+    let k = tabulate_front(n, list, work)?.first;
     if !is_there(list, k, code) {
         return refuse(Reason::Absent);
     }
@@ -144,13 +139,7 @@ pub fn swap(
     ensures result_value { numbers result ≡ swap_answer (lent_edit n m list.old v2e.old e2e.old b2e.old work.old) code }
     ensures work_after { lent_edit n m list.new v2e.new e2e.new b2e.new work.new ≡ swap_leaves (lent_edit n m list.old v2e.old e2e.old b2e.old work.old) code }
 {
-    if !counts_fit(n, m) {
-        return refuse(Reason::Sizes);
-    }
-    let columns = columns_held(n, m, list, v2e.len(), e2e.len(), work.len());
-    if columns == 0 {
-        return refuse(Reason::Lengths);
-    }
+    let columns = check_lent(n, m, true, list, v2e.len(), e2e.len(), work.len())?;
     let vertices = wide(n);
     let elements = wide(m);
     let rows = 4 * elements;

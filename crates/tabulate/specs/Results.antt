@@ -3,11 +3,13 @@
 use Rattle.std.specs.Prelude.{◌≡◌, refl, Bool, true, false, not, ℕ, ◌+◌, ◌*◌, ◌-◌, ◌/◌, ◌≤◌, T, eqb, length, take, drop}
 use Rattle.std.proofs.Math.Path.{ap, sym}
 use Rattle.std.proofs.Common.{subst, ◌∙◌, arith, length-take, length-append, length-drop}
+use Rattle.std.proofs.Math.Seq.{take-append_seam}
+use Rattle.theory.specs.FitRows.{means_sizes}
 use mathlib.Core.List.{List, ◌++◌}
 use Rattle.lists.specs.TestLaws.{Means}
 use Rattle.lists.specs.Search.{at}
 use Rattle.lists.specs.SearchLaws.{count_bound}
-use Rattle.lists.specs.Parts.{part}
+use Rattle.lists.specs.Parts.{part, part_take}
 use Rattle.lists.specs.Stores.{Kept}
 use Rattle.rules.specs.Elements.{max_element, elements, side_at, slot, side_with, first_number, count_sides}
 use Rattle.rules.specs.Pairing.{unfit_corner, repeated_corner, sizes_fit, Element}
@@ -98,6 +100,34 @@ module _ {n : ℕ} {L work : List ℕ} (x : Roomy n L work) {a : ℕ} (index : a
   pub as_long : {stated t : Answer} {w : List ℕ} → Tabulated n L stated t (take (a + 12 * elements L - 0) work) w →
       length (w ++ drop (a + 12 * elements L - 0) work) ≡ length work
   as_long y = simp (length-append, length-drop) (omega (arith, y.long ∙ front_long, x.room))
+
+-- the scratch buffer is the front of the work buffer
+pub holds_front : (n : ℕ) (L w r : List ℕ) → length w ≡ n + 12 * elements L → borders L ≤ 4 * elements L → Holds n L w → Holds n L (w ++ r)
+holds_front n L w r l b x =
+    let front : (a k : ℕ) → a + k ≤ length w → part a k (w ++ r) ≡ part a k w =
+    λ a k h. sym (part_take a k (length w) (w ++ r) h (simp length-append (omega arith))) ∙ ap (part a k) (take-append_seam w r) in
+    record {
+      vertices = front 0 n (omega arith) ∙ x.vertices;
+      opposites = front n (4 * elements L) (omega arith) ∙ x.opposites;
+      border = front (n + 4 * elements L) (borders L) (omega arith) ∙ x.border;
+    }
+
+-- checks 3 to 8 were made in the front of the work, which has become W, and t is their answer
+pub record Scratched (n : ℕ) (L : List ℕ) (t : Answer) (work W : List ℕ) : Type 0 where
+  pub stated : t ≡ list_answer n L
+  pub holds : (k e : ℕ) → t ≡ gives k e → Holds n L W
+  pub long : length W ≡ length work
+
+-- n as an index is a
+pub scratched : {n : ℕ} {L work : List ℕ} (x : Roomy n L work) {a : ℕ} (index : a ≡ n) {t : Answer} {w : List ℕ} →
+    Tabulated n L (list_answer n L) t (take (a + 12 * elements L - 0) work) w → Scratched n L t work (w ++ drop (a + 12 * elements L - 0) work)
+scratched {n} {L} x index {w = w} y =
+    let few : borders L ≤ 4 * elements L = omega (arith, borders_bound L, ((means_sizes n L).says x.sizes).1.1) in
+    record {
+      stated = y.answer;
+      holds = λ k e g. holds_front n L w _ (y.long ∙ front_long x index) few (y.holds k e g);
+      long = as_long x index y;
+    }
 
 -- w₀ has become w, which holds the sibling map; n as an index is a
 pub record Grouping (n a : ℕ) (L w₀ w : List ℕ) : Type 0 where

@@ -9,7 +9,7 @@ ghost use Rattle.theory.specs.FitRows.{Fit};
 ghost use Rattle.answer.specs.Numbers.{numbers};
 ghost use Rattle.borders.specs.Numbers.{Ready};
 ghost use Rattle.ordered.specs.Standing.{Standing};
-ghost use Rattle.tabulate.specs.Results.{Sized, fit_pairs, list_pairs, Paired, paired_answer, Tabulated};
+ghost use Rattle.tabulate.specs.Results.{Sized, fit_pairs, list_pairs, Paired, paired_answer, Tabulated, Roomy, Scratched};
 
 use answer::{Answer, Reason, give, give_two, refuse_at};
 use borders::number_borders;
@@ -80,4 +80,13 @@ pub fn tabulate(n: u32, list: &[u32], work: &mut [u32]) -> Answer
 {
     let f = pair(n, list, work)?.first;
     tabulate_paired(n, list, work, f)
+}
+
+// The same in the front of a buffer that may be longer, where the tables are left.
+pub fn tabulate_front(n: u32, list: &[u32], work: &mut [u32]) -> Answer
+    requires { Roomy n list.now work.old }
+    ensures { Scratched n list.now (numbers result) work.old work.new }
+{
+    let end = wide(n) + 12 * (list.len() / 4);
+    tabulate(n, list, &mut work[0..end])
 }

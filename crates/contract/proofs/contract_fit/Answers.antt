@@ -9,8 +9,8 @@ use Rattle.edits.specs.Fronts.{fitting, to_try}
 use Rattle.contract.specs.Outcomes.{old_denied, admissible, new_denied, new_allowed, all_done}
 use Rattle.contract.proofs.contract_fit.Goals as goal
 
-pub try_old-requires : goal.try_old-requires
-try_old-requires c =
+pub tabulate_front-requires : goal.tabulate_front-requires
+tabulate_front-requires c =
     let a = c.args in
     let w = lent_sized a.size.now a.list.now a.v2e.now a.e2e.now a.b2e.now a.work.now in
     to_try w (fitting w c.requires.0) (omega arith)
