@@ -55,13 +55,6 @@ Lengths n c m k w V2e E2e B2e =
     (n + 4 * m + k ≤ length w) × (length V2e ≡ n) × (length E2e ≡ c * m) × (k ≤ length B2e)
 
 module _ (n c m k : ℕ) (w V2e E2e B2e : List ℕ) (long : Lengths n c m k w V2e E2e B2e) where
-  -- E2e in four columns, and its own length
-  pub to_put : let table = take (n + 4 * m - n) (drop n w) in (length table ≡ 4 * elements table) × (length E2e ≡ c * elements table)
-  to_put =
-      let table = take (n + 4 * m - n) (drop n w) in
-      let l : length table ≡ 4 * m = simp (length-take, length-drop) (omega arith) in
-      let e : elements table ≡ m = omega arith in (omega arith, long.2 ∙ ap (λ (i : ℕ). c * i) (sym e))
-
   pub copied : {V2e' E2e' B2e' : List ℕ} → V2e' ≡ onto (take (n - 0) w) V2e → E2e' ≡ narrowed c (take (n + 4 * m - n) (drop n w))
       → B2e' ≡ onto (take (n + 4 * m + k - (n + 4 * m)) (drop (n + 4 * m) w)) B2e → Copied n c m k w B2e V2e' E2e' B2e'
   copied {V2e'} {E2e'} {B2e'} x y z =

@@ -1,4 +1,6 @@
-// What edits share: checks 1 and 2, where buffers may be longer than what they hold, whether the half-edge named is there, what the tables of the old list say of a side, a row put in its place, and the tables of the new list.
+// What edits share: checks 1 and 2, where buffers may be longer than what they hold, whether the half-edge named is there, what the tables of
+// the old list say of a side, a row put in its place, and the tables of the new list.
+// The buffers are kept as parameters: with a struct of `&mut` buffers each function would owe a clause for each, that it holds the same reference.
 #![tactic(auto)]
 
 ghost use Rattle.std.specs.Prelude.{◌≡◌, ◌⊎◌, ◌*◌, ◌≤◌, eqb, length, take};

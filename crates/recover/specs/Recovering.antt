@@ -23,9 +23,8 @@ use Rattle.theory.specs.Columns.{three_or_four, length_widened, narrowed, narrow
 use Rattle.theory.specs.Built.{borders_bound}
 use Rattle.walk.specs.Layout.{Sizes, Walking}
 use Rattle.links.specs.Links.{LinkedBy}
-use Rattle.tabulate.specs.Results.{Sized}
+use Rattle.tabulate.specs.Results.{Sized, holds_front}
 use Rattle.buffers.specs.Whole.{onto_full}
-use Rattle.build.specs.Building.{holds_front}
 use Rattle.recover.specs.Faults.{agree, OwnTables, faulted, agreement}
 
 -- E2e has three columns or four

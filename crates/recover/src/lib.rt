@@ -1,4 +1,5 @@
 // Recovery: V2e and E2e back to the element list.
+// The buffers are kept as parameters: with a struct of `&mut` buffers each function would owe a clause for each, that it holds the same reference.
 #![tactic(auto)]
 
 ghost use Rattle.std.specs.Prelude.{◌⊎◌, ◌≡◌, ◌+◌, ◌*◌, ◌≤◌, eqb, length, take};
@@ -42,10 +43,7 @@ fn is_theirs(n: usize, m: usize, columns: u32, v2e: &[u32], e2e: &[u32], work: &
     ensures { result ≡ agree (take n work.now) (narrowed columns (part n (4 * m) work.now)) v2e.now e2e.now }
 {
     let end = n + 4 * m;
-    if !buffers::is_same(&work[0..n], v2e) {
-        return false;
-    }
-    columns::is_put(columns, &work[n..end], e2e)
+    buffers::is_same(&work[0..n], v2e) && columns::is_put(columns, &work[n..end], e2e)
 }
 
 // The list that the walk gives is put into `list`; the list that was there is kept behind the scratch buffer.
@@ -118,13 +116,7 @@ fn tables_fit(m: usize, list: usize, e2e: usize) -> bool
     requires { m ≤ max_element }
     ensures { result ≡ both (eqb list (4 * m)) (either (eqb e2e (3 * m)) (eqb e2e (4 * m))) }
 {
-    if list != 4 * m {
-        return false;
-    }
-    if e2e == 3 * m {
-        return true;
-    }
-    e2e == 4 * m
+    list == 4 * m && (e2e == 3 * m || e2e == 4 * m)
 }
 
 // The accepted list of m elements that has exactly these tables; or 10 where none has, which leaves the element list as it was. The work

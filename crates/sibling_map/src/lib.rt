@@ -1,4 +1,5 @@
 // Edges of any number of plates, document 02, point 12: an element list to the sibling of each side and the least side of each vertex.
+// The buffers are kept as parameters: with a struct of `&mut` buffers each function would owe a clause for each, that it holds the same reference.
 #![tactic(auto)]
 
 ghost use Rattle.std.specs.Prelude.{◌≡◌, ◌+◌, ◌*◌, ◌≤◌, length};
