@@ -1,7 +1,8 @@
 -- How a call goes on by what the checks before it found.
 -- Assumes nothing.
-use Rattle.std.specs.Prelude.{Bool, true, false, ◌≡◌, refl, ◌*◌, ◌≤◌, T, length, Result, Ok, Err}
-use Rattle.std.proofs.Common.{◌∙◌}
+use Rattle.std.specs.Prelude.{Bool, true, false, ◌≡◌, refl, ◌*◌, ◌≤◌, T, length, ℕ, Option, None, Result, Ok, Err}
+use Rattle.std.specs.Option.{ok_or}
+use Rattle.std.proofs.Common.{◌∙◌, arith}
 use Rattle.answer.specs.Numbers.{placed}
 use Rattle.answer.specs.declared.Reason.TheVariants.{Sizes, Lengths, Absent}
 use Rattle.answer.specs.declared.Refusal.{Refusal}
@@ -61,3 +62,7 @@ module _ {M : Mesh} (there : Bool) where
 -- what a caller then answers
 pub settled : {M : Mesh} {there : Bool} {r : Result Mesh Refusal} (x : Admits M there r) (a : Answer) → asked M (defined there a) ≡ settle r a
 settled x a = x.settled a
+
+-- a broken entry is refused
+pub same_error : {o : Option ℕ} {e r : Refusal} → ◌≡◌ {A = Result ℕ Refusal} (Err r) (ok_or o e) → o ≡ None → r ≡ e
+same_error h q = grind arith

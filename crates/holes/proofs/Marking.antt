@@ -3,7 +3,8 @@
 -- Assumes nothing.
 use mathlib.Core.Path.{◌≡◌, refl, ap, sym, subst, ◌∙◌}
 use mathlib.Core.Logic.{◌⊎◌, inl, inr}
-use mathlib.Core.Option.{some}
+use mathlib.Core.Option.{none, some}
+use Rattle.theory.specs.Reads.{nothing}
 use mathlib.Core.List.{List}
 use Prim.Native.Nat.{ℕ, suc, ◌+◌, ◌-◌, ◌≤◌, ◌<◌}
 use native.Mathlib.Omega.{arith}
@@ -210,11 +211,11 @@ module _ (M : Mesh) where
 
     -- x is marked: either it is b, and the loop is whole, or nothing comes back to b
     module _ (W : List ℕ) (x c : ℕ) (w : Walk b h U W x c) (closed : mark M W x ≡ 0 → ⊥) where
-      pub lost_there : (x ≡ b → ⊥) → Followed M b h 0 U W
+      pub lost_there : (x ≡ b → ⊥) → Followed M b h none U W
       lost_there n =
           record {
             kept = w.kept;
-            found = λ d. absurd (d refl);
+            found = λ d e. absurd (nothing e);
             lost = λ z.
                 no_loop M (λ z. In M z × (mark M W z ≡ 0 → ⊥)) b (o.inside, start w.begun)
                 (λ z (i, d). (i, λ y f. on z y i d f (w.onward z y i d f)));
@@ -229,8 +230,13 @@ module _ (M : Mesh) where
           on z y i d f (inl (p, q)) = ((next_in M z y f, λ g. closed (ap (mark M W) (sym q) ∙ g)), λ g. n (sym q ∙ g))
           on z y i d f (inr (p, q)) = ((next_in M z y f, λ g. d (sym p ∙ g)), q)
 
-      pub loop_whole : x ≡ b → Followed M b h c U W
-      loop_whole same = record { kept = w.kept; found = λ d. looped; lost = λ z. absurd (omega (arith, once)) }
+      pub loop_whole : x ≡ b → Followed M b h (some c) U W
+      loop_whole same =
+          record {
+            kept = w.kept;
+            found = λ d e. let q : c ≡ d = cc in subst (λ (i : ℕ). Looped M b h i U W) q looped;
+            lost = λ z. absurd (nothing (sym z));
+          }
         where
           start_marked : mark M W b ≡ h
           start_marked = go (w.over b o.inside)

@@ -106,123 +106,122 @@ module _ (M : Mesh) where
             room = omega (arith, s.room);
           }
 
-      module _ (r : ℕ) (W : List ℕ) (f : Followed M (b + 1) (h + 1) r U W) where
-        -- its loop doesn't come back
-        pub never_back : r ≡ 0 → Numbered M (b + 1) W none
-        never_back e = unnumbered (b + 1) (b + 1) W i (f.lost e)
+      -- its loop doesn't come back
+      pub never_back : (W : List ℕ) → Followed M (b + 1) (h + 1) none U W → Numbered M (b + 1) W none
+      never_back W f = unnumbered (b + 1) (b + 1) W i (f.lost refl)
 
+      module _ (r : ℕ) (W : List ℕ) (f : Followed M (b + 1) (h + 1) (some r) U W) where
         pub as_long : length (set W (k + h) r) ≡ length U
         as_long = length-set W (k + h) r ∙ f.kept.long
 
         -- its loop is a hole more
-        module _ (found : r ≡ 0 → ⊥) where
-          x : Looped M (b + 1) (h + 1) r U W
-          x = f.found found
+        x : Looped M (b + 1) (h + 1) r U W
+        x = f.found r refl
 
-          -- it is the least of its loop: the lesser ones are marked, and what they lead to
-          leads : least_of M (b + 1) ≡ b + 1
-          leads =
-              let l = least_of_lem M (b + 1) i x.back in
-              elim (lt_or_eq (least_of M (b + 1)) (b + 1) (omega (arith, l.least (b + 1) i.0 (itself M (b + 1))))) [
-                | inl less ↦
-                    let (j, e) = (returns M (b + 1) i x.back (least_of M (b + 1)) l.reached).0 in
-                    absurd
-                    ((kept M (λ z. In M z × (mark M U z ≡ 0 → ⊥))
-                    (λ z y (a, d) g. (next_in M z y g, λ q. d (sym (s.closed.alike z y a d g) ∙ q)))
-                    j (least_of M (b + 1)) (b + 1) (l.inside, s.all (least_of M (b + 1)) l.inside.0 (omega arith)) e).1 unmarked)
-                | inr e ↦ e
-              ]
+        -- it is the least of its loop: the lesser ones are marked, and what they lead to
+        leads : least_of M (b + 1) ≡ b + 1
+        leads =
+            let l = least_of_lem M (b + 1) i x.back in
+            elim (lt_or_eq (least_of M (b + 1)) (b + 1) (omega (arith, l.least (b + 1) i.0 (itself M (b + 1))))) [
+              | inl less ↦
+                  let (j, e) = (returns M (b + 1) i x.back (least_of M (b + 1)) l.reached).0 in
+                  absurd
+                  ((kept M (λ z. In M z × (mark M U z ≡ 0 → ⊥))
+                  (λ z y (a, d) g. (next_in M z y g, λ q. d (sym (s.closed.alike z y a d g) ∙ q)))
+                  j (least_of M (b + 1)) (b + 1) (l.inside, s.all (least_of M (b + 1)) l.inside.0 (omega arith)) e).1 unmarked)
+              | inr e ↦ e
+            ]
 
-          one_more : holes_up_to M (b + 1) ≡ h + 1
-          one_more =
-              let one : b + 1 ≡ suc b = omega arith in
-              ap (holes_up_to M) one ∙ hole_more M b (rw one at leads) ∙ omega (arith, s.many)
+        one_more : holes_up_to M (b + 1) ≡ h + 1
+        one_more =
+            let one : b + 1 ≡ suc b = omega arith in
+            ap (holes_up_to M) one ∙ hole_more M b (rw one at leads) ∙ omega (arith, s.many)
 
-          -- what has the new mark has the new hole, and the other way round
-          of_loop : (z : ℕ) → In M z → mark M W z ≡ h + 1 → Back M z × (least_of M z ≡ b + 1) × (hole_of M z ≡ h + 1)
-          unfolding hole_of
-          of_loop z j e =
-              let r = x.reached z j e in
-              let l = sym (same_least M (b + 1) z i x.back r) ∙ leads in
-              ((returns M (b + 1) i x.back z r).1, l, ap (holes_up_to M) l ∙ one_more)
+        -- what has the new mark has the new hole, and the other way round
+        of_loop : (z : ℕ) → In M z → mark M W z ≡ h + 1 → Back M z × (least_of M z ≡ b + 1) × (hole_of M z ≡ h + 1)
+        unfolding hole_of
+        of_loop z j e =
+            let r = x.reached z j e in
+            let l = sym (same_least M (b + 1) z i x.back r) ∙ leads in
+            ((returns M (b + 1) i x.back z r).1, l, ap (holes_up_to M) l ∙ one_more)
 
-          in_loop : (z : ℕ) → In M z → hole_of M z ≡ h + 1 → mark M W z ≡ h + 1
-          unfolding hole_of
-          in_loop z j e =
-              let back = hole_back M z (λ q. omega arith) in
-              let l = least_of_lem M z j back in
-              let same = leads_one M (least_of M z) (b + 1) l.inside.0 i.0 (least_leads M z j back) leads (e ∙ sym one_more) in
-              x.marked z (returns M z j back (b + 1) (subst (Reachable M z) same l.reached)).0
+        in_loop : (z : ℕ) → In M z → hole_of M z ≡ h + 1 → mark M W z ≡ h + 1
+        unfolding hole_of
+        in_loop z j e =
+            let back = hole_back M z (λ q. omega arith) in
+            let l = least_of_lem M z j back in
+            let same = leads_one M (least_of M z) (b + 1) l.inside.0 i.0 (least_leads M z j back) leads (e ∙ sym one_more) in
+            x.marked z (returns M z j back (b + 1) (subst (Reachable M z) same l.reached)).0
 
-          W' : List ℕ
-          W' = set W (k + h) r
+        W' : List ℕ
+        W' = set W (k + h) r
 
-          same_entry : (z : ℕ) → In M z → at W' (z - 1) ≡ at W (z - 1)
-          unfolding W'
-          same_entry z (from, to) = at_other W (k + h) r (z - 1) (λ e. omega arith)
+        same_entry : (z : ℕ) → In M z → at W' (z - 1) ≡ at W (z - 1)
+        unfolding W'
+        same_entry z (from, to) = at_other W (k + h) r (z - 1) (λ e. omega arith)
 
-          same_mark : (z : ℕ) → In M z → mark M W' z ≡ mark M W z
-          same_mark z i = ap (mark_of k) (same_entry z i)
+        same_mark : (z : ℕ) → In M z → mark M W' z ≡ mark M W z
+        same_mark z i = ap (mark_of k) (same_entry z i)
 
-          pub one_hole_more : Marked M (b + 1) (h + 1) (set W (k + h) r)
-          unfolding W'
-          one_hole_more =
-              record {
-                room = omega (arith, s.room, as_long);
-                closed =
-                    record {
-                      up_to = λ z j. rw (same_mark z j) (x.closed.up_to z j);
-                      alike = λ z y j d e.
-                          same_mark y (next_in M z y e) ∙ x.closed.alike z y j (λ q. d (same_mark z j ∙ q)) e ∙ sym (same_mark z j);
-                      pending = λ z j e.
-                          let p = x.closed.pending z j (sym (same_mark z j) ∙ e) in
-                          record { above = rw (same_entry z j) p.above; next = rw (same_entry z j) p.next };
-                    };
-                known = λ z j d. known z j (λ q. d (same_mark z j ∙ q)) (x.over z j);
-                all = all;
-                many = sym one_more;
-                measured = measured;
-              }
-            where
-              known : (z : ℕ) → In M z → (mark M W z ≡ 0 → ⊥)
-                  → (mark M W z ≡ mark M U z) ⊎ ((mark M U z ≡ 0) × (mark M W z ≡ h + 1)) → Known M (b + 1) W' z
-              known z j d (inl e) =
-                  let y = s.known z j (λ q. d (e ∙ q)) in
-                  record { back = y.back; earlier = omega (arith, y.earlier); hole = same_mark z j ∙ e ∙ y.hole }
-              known z j d (inr (e, g)) =
-                  let (back, least, hole) = of_loop z j g in
-                  record { back = back; earlier = omega (arith, least); hole = same_mark z j ∙ g ∙ sym hole }
+        pub one_hole_more : Marked M (b + 1) (h + 1) (set W (k + h) r)
+        unfolding W'
+        one_hole_more =
+            record {
+              room = omega (arith, s.room, as_long);
+              closed =
+                  record {
+                    up_to = λ z j. rw (same_mark z j) (x.closed.up_to z j);
+                    alike = λ z y j d e.
+                        same_mark y (next_in M z y e) ∙ x.closed.alike z y j (λ q. d (same_mark z j ∙ q)) e ∙ sym (same_mark z j);
+                    pending = λ z j e.
+                        let p = x.closed.pending z j (sym (same_mark z j) ∙ e) in
+                        record { above = rw (same_entry z j) p.above; next = rw (same_entry z j) p.next };
+                  };
+              known = λ z j d. known z j (λ q. d (same_mark z j ∙ q)) (x.over z j);
+              all = all;
+              many = sym one_more;
+              measured = measured;
+            }
+          where
+            known : (z : ℕ) → In M z → (mark M W z ≡ 0 → ⊥)
+                → (mark M W z ≡ mark M U z) ⊎ ((mark M U z ≡ 0) × (mark M W z ≡ h + 1)) → Known M (b + 1) W' z
+            known z j d (inl e) =
+                let y = s.known z j (λ q. d (e ∙ q)) in
+                record { back = y.back; earlier = omega (arith, y.earlier); hole = same_mark z j ∙ e ∙ y.hole }
+            known z j d (inr (e, g)) =
+                let (back, least, hole) = of_loop z j g in
+                record { back = back; earlier = omega (arith, least); hole = same_mark z j ∙ g ∙ sym hole }
 
-              all : (z : ℕ) → 1 ≤ z → z ≤ b + 1 → mark M W' z ≡ 0 → ⊥
-              all z from to q = go (lt_or_eq z (b + 1) (omega arith)) (x.over z j)
-                where
-                  j : In M z
-                  j = (from, omega (arith, i.1))
+            all : (z : ℕ) → 1 ≤ z → z ≤ b + 1 → mark M W' z ≡ 0 → ⊥
+            all z from to q = go (lt_or_eq z (b + 1) (omega arith)) (x.over z j)
+              where
+                j : In M z
+                j = (from, omega (arith, i.1))
 
-                  go : (z < b + 1) ⊎ (z ≡ b + 1) → (mark M W z ≡ mark M U z) ⊎ ((mark M U z ≡ 0) × (mark M W z ≡ h + 1)) → ⊥
-                  go l (inr (e, g)) = omega (arith, sym (same_mark z j) ∙ q)
-                  go (inl l) (inl e) = s.all z from (omega arith) (sym e ∙ sym (same_mark z j) ∙ q)
-                  go (inr l) (inl e) = omega (arith, ap (mark M W) l ∙ x.marked (b + 1) (itself M (b + 1)), sym (same_mark z j) ∙ q)
+                go : (z < b + 1) ⊎ (z ≡ b + 1) → (mark M W z ≡ mark M U z) ⊎ ((mark M U z ≡ 0) × (mark M W z ≡ h + 1)) → ⊥
+                go l (inr (e, g)) = omega (arith, sym (same_mark z j) ∙ q)
+                go (inl l) (inl e) = s.all z from (omega arith) (sym e ∙ sym (same_mark z j) ∙ q)
+                go (inr l) (inl e) = omega (arith, ap (mark M W) l ∙ x.marked (b + 1) (itself M (b + 1)), sym (same_mark z j) ∙ q)
 
-              measured : (j : ℕ) → j < h + 1 → at W' (k + j) ≡ count_numbers k (λ c. eqb (hole_of M c) (j + 1))
-              measured j l = go (lt_or_eq j h (omega arith))
-                where
-                  go : (j < h) ⊎ (j ≡ h) → at W' (k + j) ≡ count_numbers k (λ c. eqb (hole_of M c) (j + 1))
-                  go (inl m) = at_other W (k + h) r (k + j) (λ e. omega arith) ∙ f.kept.entries (k + j) (omega arith) ∙ s.measured j m
-                  go (inr e) =
-                      ap (λ (a : ℕ). at W' (k + a)) e
-                      ∙ at_same W (k + h) r (omega (arith, s.room, f.kept.long, holes_short b h U s, i))
-                      ∙ x.counted
-                      ∙ count_same (λ a. eqb (at W a) (h + 1)) (λ a. eqb (hole_of M (a + 1)) (h + 1)) k both
-                      ∙ ap (λ (a : ℕ). count_numbers k (λ c. eqb (hole_of M c) (a + 1))) (sym e)
-                    where
-                      entry_of_lem : (z : ℕ) → mark M W z ≡ h + 1 → at W (z - 1) ≡ h + 1
-                      entry_of_lem z e = sym (mark_entry k (at W (z - 1)) (λ q. omega arith)).1 ∙ e
+            measured : (j : ℕ) → j < h + 1 → at W' (k + j) ≡ count_numbers k (λ c. eqb (hole_of M c) (j + 1))
+            measured j l = go (lt_or_eq j h (omega arith))
+              where
+                go : (j < h) ⊎ (j ≡ h) → at W' (k + j) ≡ count_numbers k (λ c. eqb (hole_of M c) (j + 1))
+                go (inl m) = at_other W (k + h) r (k + j) (λ e. omega arith) ∙ f.kept.entries (k + j) (omega arith) ∙ s.measured j m
+                go (inr e) =
+                    ap (λ (a : ℕ). at W' (k + a)) e
+                    ∙ at_same W (k + h) r (omega (arith, s.room, f.kept.long, holes_short b h U s, i))
+                    ∙ x.counted
+                    ∙ count_same (λ a. eqb (at W a) (h + 1)) (λ a. eqb (hole_of M (a + 1)) (h + 1)) k both
+                    ∙ ap (λ (a : ℕ). count_numbers k (λ c. eqb (hole_of M c) (a + 1))) (sym e)
+                  where
+                    entry_of_lem : (z : ℕ) → mark M W z ≡ h + 1 → at W (z - 1) ≡ h + 1
+                    entry_of_lem z e = sym (mark_entry k (at W (z - 1)) (λ q. omega arith)).1 ∙ e
 
-                      both : (a : ℕ) → a < k → eqb (at W a) (h + 1) ≡ eqb (hole_of M (a + 1)) (h + 1)
-                      both a m =
-                          let back : a + 1 - 1 ≡ a = omega arith in
-                          let z : In M (a + 1) = (omega arith, omega arith) in
-                          means_one (means_eq (at W a) (h + 1)) (means_eq (hole_of M (a + 1)) (h + 1))
-                          (λ q. (of_loop (a + 1) z (ap (mark_of k) (ap (at W) back ∙ q) ∙ mark_number k (h + 1) opens.most)).2)
-                          (λ q. ap (at W) (sym back) ∙ entry_of_lem (a + 1) (in_loop (a + 1) z q))
+                    both : (a : ℕ) → a < k → eqb (at W a) (h + 1) ≡ eqb (hole_of M (a + 1)) (h + 1)
+                    both a m =
+                        let back : a + 1 - 1 ≡ a = omega arith in
+                        let z : In M (a + 1) = (omega arith, omega arith) in
+                        means_one (means_eq (at W a) (h + 1)) (means_eq (hole_of M (a + 1)) (h + 1))
+                        (λ q. (of_loop (a + 1) z (ap (mark_of k) (ap (at W) back ∙ q) ∙ mark_number k (h + 1) opens.most)).2)
+                        (λ q. ap (at W) (sym back) ∙ entry_of_lem (a + 1) (in_loop (a + 1) z q))

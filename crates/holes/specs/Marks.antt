@@ -70,11 +70,11 @@ module _ (M : Mesh) where
     pub marked : (z : ℕ) → Reachable M b z → mark W z ≡ h
     pub counted : r ≡ count (λ j. eqb (at W j) h) k
 
-  -- or, with 0, it doesn't come back
-  pub record Followed (b h r : ℕ) (U W : List ℕ) : Type 0 where
+  -- or, with none, it doesn't come back
+  pub record Followed (b h : ℕ) (r : Option ℕ) (U W : List ℕ) : Type 0 where
     pub kept : Kept k U W
-    pub found : (r ≡ 0 → ⊥) → Looped b h r U W
-    pub lost : r ≡ 0 → border_loop M b ≡ none
+    pub found : (c : ℕ) → r ≡ some c → Looped b h c U W
+    pub lost : r ≡ none → border_loop M b ≡ none
 
   -- what is known of a border half-edge that is marked, once 1 to b are
   pub record Known (b : ℕ) (W : List ℕ) (z : ℕ) : Type 0 where

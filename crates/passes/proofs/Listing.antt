@@ -5,9 +5,6 @@ use Rattle.std.proofs.lemmas.List.{length-take, length-drop}
 use mir.Val.{bool_byte}
 use lib.Dec.{eqb}
 use mathlib.Core.Bool.{not}
-use Rattle.answer.specs.declared.Refusal.{Refusal}
-use Rattle.std.specs.Prelude.{Option as Maybe, None, Result, Err}
-use Rattle.std.specs.Option.{ok_or}
 use mathlib.Core.Bool.{Bool, true, false}
 use mathlib.Core.Option.{Option, none, some}
 use mathlib.Core.List.{List, [], ◌∷◌, ◌++◌}
@@ -106,10 +103,6 @@ pub led_some : {u : ℕ} (out : List ℕ) → (u ≡ 0 → ⊥) → led u out �
 unfolding led
 led_some {u = zero} out d = absurd (d refl)
 led_some {u = suc u} out d = refl
-
--- a walk that was not counted
-pub same_error : {o : Maybe ℕ} {e r : Refusal} → ◌≡◌ {A = Result ℕ Refusal} (Err r) (ok_or o e) → o ≡ None → r ≡ e
-same_error h q = grind arith
 
 -- a part of a list has its length
 pub length_part : (i j : ℕ) (xs : List ℕ) → i + j ≤ length xs → length (take j (drop i xs)) ≡ j

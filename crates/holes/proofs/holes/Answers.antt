@@ -1,33 +1,45 @@
 -- `holes::holes` meets its contract.
 -- Assumes nothing.
-use Prim.Native.Nat.{◌+◌, ◌*◌, ◌≤◌, ◌<◌}
 use native.Mathlib.Omega.{arith}
+use mathlib.Core.Path.{ap, ◌∙◌}
+use Prim.Native.Nat.{◌+◌, ◌*◌, ◌≤◌, ◌<◌}
 use lib.ListN.{length}
+use Rattle.std.proofs.lemmas.Result.{err_from_is_err_and}
 use Rattle.rules.specs.Elements.{elements}
+use Rattle.rules.specs.Queries.{Mesh}
 use Rattle.holes.proofs.Whole.{turned_away, short, done}
 use Rattle.holes.proofs.holes.Goals as goal
 
-pub returns-then-refusal-gt0 : goal.returns-then-refusal-gt0
-returns-then-refusal-gt0 c =
-    let (answer, left) = turned_away _ _ _ _ c.length_refusal-refusal.ensures c.if-refusal-gt0.true c.refuse.ensures in
-    record { result_value = answer; work_after = left }
+pub returns-in_err-fitting-clause-result_value : goal.returns-in_err-fitting-clause-result_value
+returns-in_err-fitting-clause-result_value c =
+    let p = err_from_is_err_and c.from_residual.result c.from_residual.ensures.1 in
+    rw (p.1, p.2) (turned_away _ _ _ _ c.in_err-fitting.ensures).0
 
-pub returns-then-work-wide : goal.returns-then-work-wide
-returns-then-work-wide c =
-    let args = c.args in
-    let few : length args.work.now < args.n + 16 * elements args.list.now = omega (arith, c.wide.ensures, c.if-work-wide.true) in
-    let (answer, left) = short _ _ _ _ c.length_refusal-refusal.ensures c.if-refusal-gt0.false few c.refuse-then-work-wide.ensures in
-    record { result_value = answer; work_after = left }
+pub returns-in_err-fitting-clause-work_after : goal.returns-in_err-fitting-clause-work_after
+returns-in_err-fitting-clause-work_after c = (turned_away _ _ _ _ c.in_err-fitting.ensures).1
 
-pub holes_fit-a-requires : goal.holes_fit-a-requires
-holes_fit-a-requires c =
-    let fit = c.length_refusal-refusal.ensures.fit c.if-refusal-gt0.false in
-    (fit, omega (arith, c.wide.ensures, c.if-work-wide.false, fit.border))
+pub returns-then-work-wide-clause-result_value : goal.returns-then-work-wide-clause-result_value
+returns-then-work-wide-clause-result_value c =
+    let few : length c.args.work.now < c.args.mesh.now.n + 16 * elements c.args.mesh.now.list =
+    omega (arith, c.if-work-wide.true, c.wide.ensures, c.wide-2.ensures, c.element_count.ensures.count, ap (λ (M : Mesh). M.n) c.mesh.view_is, ap (λ (M : Mesh). elements M.list) c.in_ok-fitting.ensures.passed.0) in
+    c.refuse.ensures ∙ (short _ _ _ _ c.in_ok-fitting.ensures few).0
 
-pub returns : goal.returns
-returns c =
-    let args = c.args in
-    let enough : args.n + 16 * elements args.list.now ≤ length args.work.now = omega (arith, c.wide.ensures, c.if-work-wide.false) in
-    let found = c.holes_fit-a.ensures in
-    let (answer, left) = done _ _ _ _ c.length_refusal-refusal.ensures c.if-refusal-gt0.false enough (found.outcome, found.work_len_unchanged) c.clear.ensures in
-    record { result_value = answer; work_after = left }
+pub returns-then-work-wide-clause-work_after : goal.returns-then-work-wide-clause-work_after
+returns-then-work-wide-clause-work_after c =
+    let few : length c.args.work.now < c.args.mesh.now.n + 16 * elements c.args.mesh.now.list =
+    omega (arith, c.if-work-wide.true, c.wide.ensures, c.wide-2.ensures, c.element_count.ensures.count, ap (λ (M : Mesh). M.n) c.mesh.view_is, ap (λ (M : Mesh). elements M.list) c.in_ok-fitting.ensures.passed.0) in
+    (short _ _ _ _ c.in_ok-fitting.ensures few).1
+
+pub returns-clause-result_value : goal.returns-clause-result_value
+returns-clause-result_value c =
+    let enough : c.args.mesh.now.n + 16 * elements c.args.mesh.now.list ≤ length c.args.work.now =
+    omega (arith, c.if-work-wide.false, c.wide.ensures, c.wide-2.ensures, c.element_count.ensures.count, ap (λ (M : Mesh). M.n) c.mesh.view_is, ap (λ (M : Mesh). elements M.list) c.in_ok-fitting.ensures.passed.0) in
+    let outcome = rw c.in_ok-fitting.ensures.passed.0 at c.holes_fit-answer.ensures.outcome in
+    (done _ _ _ _ c.in_ok-fitting.ensures enough (outcome, c.holes_fit-answer.ensures.work_len_unchanged) c.clear.ensures).0
+
+pub returns-clause-work_after : goal.returns-clause-work_after
+returns-clause-work_after c =
+    let enough : c.args.mesh.now.n + 16 * elements c.args.mesh.now.list ≤ length c.args.work.now =
+    omega (arith, c.if-work-wide.false, c.wide.ensures, c.wide-2.ensures, c.element_count.ensures.count, ap (λ (M : Mesh). M.n) c.mesh.view_is, ap (λ (M : Mesh). elements M.list) c.in_ok-fitting.ensures.passed.0) in
+    let outcome = rw c.in_ok-fitting.ensures.passed.0 at c.holes_fit-answer.ensures.outcome in
+    (done _ _ _ _ c.in_ok-fitting.ensures enough (outcome, c.holes_fit-answer.ensures.work_len_unchanged) c.clear.ensures).1

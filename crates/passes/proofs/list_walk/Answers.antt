@@ -6,8 +6,9 @@ use mathlib.Core.Path.{◌≡◌, refl, sym, ◌∙◌, ap}
 use Prim.Native.Nat.{◌-◌}
 use native.Mathlib.Omega.{arith}
 use Rattle.reads.specs.Readings.{read_of}
+use Rattle.admission.proofs.Admitted.{same_error}
 use Rattle.passes.proofs.Following.{size_some}
-use Rattle.passes.proofs.Listing.{none_listed, short_listed, all_listed, first_is, led, led_none, led_some, same_error, length_part, filled}
+use Rattle.passes.proofs.Listing.{none_listed, short_listed, all_listed, first_is, led, led_none, led_some, length_part, filled}
 use Rattle.passes.proofs.list_walk.Goals.{then-prior-ne0, else-prior-ne0}
 use Rattle.passes.proofs.list_walk.Goals as goal
 

@@ -2,7 +2,7 @@
 -- Assumes nothing.
 use mathlib.Core.Path.{sym}
 use Rattle.std.proofs.lemmas.Result.{err_from_is_err_and}
-use Rattle.passes.proofs.Listing.{same_error}
+use Rattle.admission.proofs.Admitted.{same_error}
 use Rattle.rings.proofs.Rings.{start_side_lem}
 use Rattle.rings.proofs.Answering.{neighbours_refused, neighbours_unbegun, neighbours_broken, neighbours_done}
 use Rattle.rings.proofs.neighbours.Goals as goal
