@@ -7,7 +7,7 @@ use Rattle.std.proofs.Math.Bool.{true, not}
 use Prim.Native.Nat.{ℕ, zero, suc, ◌+◌, ◌*◌, ◌-◌, ◌≤◌, ◌<◌}
 use native.Mathlib.Omega.{arith}
 use Rattle.std.proofs.Math.ListN.{length}
-use borrow.Author.Tests.{eq-eqb, ne_eqb, le-leb, lt-leb, eqb-true, eqb-false}
+use borrow.Author.Tests.{eq-eqb, ne_eqb, le-leb, lt-leb}
 use Rattle.lists.specs.Tests.{same}
 use Rattle.lists.specs.SearchLaws.{Least, le_or_lt}
 use Rattle.lists.specs.Steps.{None, none_yet, none_more, found_here, found_none}
@@ -15,10 +15,9 @@ use Rattle.lists.specs.TestLaws.{means_not, means_same, true_of, false_of}
 use Rattle.off_rules.specs.Off.{Item, items, item, word, is_off, is_whole, is_decimal, the_n, the_m, face_item, is_good, form_items, bad_item, in_form}
 use Rattle.off_items.specs.Parting.{line_at, rest, rest_all, some_byte, first_item}
 use Rattle.off_items.specs.Words.{word_at, word_inside}
-use Rattle.off_items.specs.Reading.{is_of, first_other, To, Pass}
+use Rattle.off_items.specs.Reading.{is_of, first_other, To, Passes, Stops}
 use Rattle.off.specs.Passing.{item_after, other_is}
 use Rattle.off_items.specs.declared.Kind.{Kind}
-use Rattle.off_items.specs.declared.Outcome.{Outcome}
 
 -- item i is not what the form has there
 abbrev pub bad : List Item → ℕ → Bool
@@ -69,8 +68,7 @@ module _ {t : List ℕ} {i p : ℕ} (x : Read t i p) where
       }
 
   -- n items of one kind, which the form has there, were passed, or a bad one among them was found
-  module _ {k : Kind} {n : ℕ} {r : Outcome} (y : Pass k t p n r)
-      (kind : (j : ℕ) → j < n → is_good its (i + j) ≡ is_of k (word its (i + j))) where
+  module _ (k : Kind) {n : ℕ} (kind : (j : ℕ) → j < n → is_good its (i + j) ≡ is_of k (word its (i + j))) where
     other : Least (λ j. not (is_of k (word (rest t p) j))) n (first_other k (rest t p) n)
     other = other_is k (rest t p) n
 
@@ -88,22 +86,20 @@ module _ {t : List ℕ} {i p : ℕ} (x : Read t i p) where
           (subst (λ (u : Bool). T (not (not u))) (of_there (a - i) (omega arith)) (other.before (a - i) (omega arith)))
     ]
 
-    pub read_on : r.good ≡ true → Read t (i + n) r.at
-    read_on g =
-        let e : first_other k (rest t p) n ≡ n = eqb-true _ n (sym y.good ∙ g) in
+    pub read_on : {a : ℕ} → Passes k t p n a → Read t (i + n) a
+    read_on y =
         record {
           inside = y.inside;
-          left = y.left g ∙ ap (drop n) x.left ∙ drop-drop n i its;
-          none = good_to n (omega arith);
+          left = y.left ∙ ap (drop n) x.left ∙ drop-drop n i its;
+          none = good_to n (omega (arith, y.good));
         }
 
-    pub read_bad : i + n ≤ form_items its → r.good ≡ false → BadAt t r.at
-    read_bad h g =
+    pub read_bad : {q : ℕ} → Stops k t p n q → i + n ≤ form_items its → BadAt t q
+    read_bad y h =
         let o = first_other k (rest t p) n in
-        let d = eqb-false o n (sym y.good ∙ g) in
-        let l : o < n = omega (arith, other.bound, d) in
+        let l : o < n = y.bad in
         let e = sym (of_there o l) ∙ false_of (is_of k (word (rest t p) o)) (other.found l) in
-        bad_there o y.inside (omega arith) (good_to o (omega arith)) e (y.line g)
+        bad_there o y.inside (omega arith) (good_to o (omega arith)) e y.line
 
 -- what the form has at each item
 module _ (x : List Item) where

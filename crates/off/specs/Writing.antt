@@ -1,6 +1,6 @@
 -- The rows of the faces, read one after another from a text that was judged.
 -- Assumes nothing.
-use Rattle.std.specs.Prelude.{◌≡◌, true, false, not, List, ◌++◌, ℕ, suc, ◌+◌, ◌*◌, ◌-◌, ◌/◌, ◌%◌, ◌≤◌, ◌<◌, T, leb, length, get_or, set, replicate}
+use Rattle.std.specs.Prelude.{◌≡◌, Result, true, false, not, List, ◌++◌, ℕ, suc, ◌+◌, ◌*◌, ◌-◌, ◌/◌, ◌%◌, ◌≤◌, ◌<◌, T, leb, length, get_or, set, replicate}
 use Rattle.std.proofs.Math.Path.{refl, ap}
 use Rattle.std.proofs.Common.{sym, subst, ◌∙◌, add-one, drop-drop, le-leb, eqb-true}
 use Rattle.std.proofs.Math.Logic.{inl, inr}
@@ -9,6 +9,7 @@ use Rattle.std.proofs.Math.Dec.{not_T}
 use Rattle.std.proofs.Math.ListN.{drop}
 use Rattle.std.proofs.lemmas.List.Edits.{sets}
 use Rattle.std.proofs.lemmas.Bool.{lt-leb}
+use Rattle.std.specs.Result.{IsOk}
 use Rattle.lists.specs.Tests.{within}
 use Rattle.lists.specs.Search.{tab}
 use Rattle.lists.specs.SearchLaws.{least_is, le_or_lt, length_tab, at_tab}
@@ -17,12 +18,12 @@ use Rattle.lists.specs.TestLaws.{twice, means_eq, means_within, true_of}
 use Rattle.theory.specs.Least.{means_no_number}
 use Rattle.off_rules.specs.Off.{Item, items, item, word, is_whole, number_of, the_m, face_item, corners, corner_number, is_good, form_items, bad_item, in_form, unfit_face, row_entry, corner_entry}
 use Rattle.off_items.specs.Parting.{rest}
-use Rattle.off_items.specs.Reading.{Next}
+use Rattle.off_items.specs.Reading.{IsNext, Next}
 use Rattle.off_items.specs.declared.Kind.TheVariants.{Whole}
-use Rattle.off_items.specs.declared.Outcome.{Outcome}
+use Rattle.off_items.specs.declared.Found.{Found}
 use Rattle.off.specs.Passing.{item_after}
 use Rattle.off.specs.Judging.{bad, face_least, face_later, good_whole}
-use Rattle.off.specs.Heads.{whole_small, count_value, count_left}
+use Rattle.off.specs.Heads.{whole_small, count_there, count_value, count_left}
 
 -- an entry of the list by its face and its corner, both counted from 1
 pub by_place : (x : List Item) (f i : ℕ) → 1 ≤ f → 1 ≤ i → i ≤ 4 → corner_entry x (4 * (f - 1) + (i - 1)) ≡ row_entry x f i
@@ -79,28 +80,34 @@ module _ (t : List ℕ) (p : ℕ) where
 
 module _ (t : List ℕ) (p : ℕ) (fit : Fit (rest t p)) where
   -- the corner count, and so many corners
-  module _ {count : Outcome} (n : Next Whole t p count) where
-    pub counted : count.value ≡ number_of (word (rest t p) 0)
-    counted = count_value (rest t p) 0 refl (fit.whole 0 (omega arith)) n
+  pub count_first : (r : Result Found ℕ) → Next Whole t p r → IsOk r
+  count_first r n = count_there t p (rest t p) 0 refl (fit.whole 0 (omega arith)) r n
 
-    pub none_read : Reading t p 0 count.at (replicate 4 0)
+  module _ {count : Found} (n : IsNext Whole t p count) where
+    pub counted : count.value ≡ number_of (word (rest t p) 0)
+    counted = count_value (rest t p) 0 refl n
+
+    pub none_read : Reading t p 0 count.end (replicate 4 0)
     unfolding tab
-    none_read = record { inside = n.inside; left = count_left (rest t p) 0 refl (fit.whole 0 (omega arith)) n; row_is = refl }
+    none_read = record { inside = n.inside; left = count_left (rest t p) 0 refl n; row_is = refl }
 
   module _ {i at : ℕ} {row : List ℕ} (x : Reading t p i at row) where
-    module _ (l : i < number_of (word (rest t p) 0)) {corner : Outcome} (n : Next Whole t at corner) where
+    pub corner_first : i < number_of (word (rest t p) 0) → (r : Result Found ℕ) → Next Whole t at r → IsOk r
+    corner_first l r n = count_there t at (rest t p) (1 + i) x.left (fit.whole (1 + i) (omega arith)) r n
+
+    module _ (l : i < number_of (word (rest t p) 0)) {corner : Found} (n : IsNext Whole t at corner) where
       pub corner_value : (corner.value + 1 ≡ entry_from (rest t p) i) × (corner.value < 10_000_000)
       corner_value =
           let there = fit.whole (1 + i) (omega arith) in
-          let e = count_value (rest t p) (1 + i) x.left there n in
+          let e = count_value (rest t p) (1 + i) x.left n in
           (ap (λ (j : ℕ). j + 1) e ∙ corner_there t p i l, omega (arith, e, whole_small (word (rest t p) (1 + i)) there))
 
-      pub one_more : {v : ℕ} → v ≡ corner.value + 1 → Reading t p (i + 1) corner.at (set row i v)
+      pub one_more : {v : ℕ} → v ≡ corner.value + 1 → Reading t p (i + 1) corner.end (set row i v)
       one_more q =
           let z : 1 + i + 1 ≡ 1 + (i + 1) = omega arith in
           record {
             inside = n.inside;
-            left = count_left (rest t p) (1 + i) x.left (fit.whole (1 + i) (omega arith)) n ∙ ap (λ (j : ℕ). drop j (rest t p)) z;
+            left = count_left (rest t p) (1 + i) x.left n ∙ ap (λ (j : ℕ). drop j (rest t p)) z;
             row_is = tab_set (entry_from (rest t p)) (replicate 4 0) i (omega (arith, fit.few)) x.row_is (q ∙ corner_value.0);
           }
 

@@ -1,17 +1,19 @@
 // The items of a text, document 02, point 3: blanks and comments are passed over, and an item is held to what is looked for.
 #![tactic(auto)]
 
-ghost use Rattle.std.specs.Prelude.{◌≡◌, ◌+◌, ◌≤◌, ◌<◌, T, eqb, length};
+ghost use Rattle.std.specs.Prelude.{◌≡◌, ◌+◌, ◌≤◌, ◌<◌, T, eqb, not, length};
+ghost use Rattle.std.specs.List.{IsFirstMatchOrLen};
 ghost use Rattle.lists.specs.Search.{at};
-ghost use Rattle.off_rules.specs.Off.{is_off, first_from, past_digits, past_sign, past_fraction};
+ghost use Rattle.digits.specs.Digits.{digit};
+ghost use Rattle.off_rules.specs.Off.{is_off, first_from, past_digits, is_sign, past_sign, past_fraction};
 ghost use Rattle.off_items.specs.Words.{is_gap, is_end, word_at};
 ghost use Rattle.off_items.specs.Parting.{Past};
-ghost use Rattle.off_items.specs.Reading.{found, missed, read_at, To, Next, Pass};
+ghost use Rattle.off_items.specs.Reading.{read_at, To, Next, Pass};
 ghost use Rattle.off_items.specs.declared.Kind.TheVariants.{Word, Whole, Decimal};
 
 use digits::{byte, is_digit, number_at};
 
-// What is looked for.
+// What is looked for. Kept as an enum, and no closure in its place: the definitions `Next` and `Pass` name the kind.
 #[derive(Clone, Copy)]
 pub enum Kind {
     Word,
@@ -19,51 +21,36 @@ pub enum Kind {
     Decimal,
 }
 
-// An item of the kind looked for, with its number if it is a whole one, and the place after it; or the place of what stands there instead.
+// An item of the kind looked for: its number if it is a whole one, and the place after it.
 #[derive(Clone, Copy)]
-pub struct Outcome {
-    pub good: bool,
+pub struct Found {
     pub value: u32,
-    pub at: usize,
-}
-
-fn found(value: u32, at: usize) -> Outcome
-    ensures { result ≡ found value at }
-{
-    Outcome {
-        good: true,
-        value: value,
-        at: at,
-    }
-}
-
-fn missed(at: usize) -> Outcome
-    ensures { result ≡ missed at }
-{
-    Outcome {
-        good: false,
-        value: 0,
-        at: at,
-    }
+    pub end: usize,
 }
 
 // A blank, or the # of a comment.
 fn is_gap(b: u8) -> bool
     ensures { result ≡ is_gap b }
 {
-    if b == b' ' {
-        return true;
-    }
-    if b == b'\t' {
-        return true;
-    }
-    if b == b'\r' {
-        return true;
-    }
-    if b == b'\n' {
-        return true;
-    }
-    b == b'#'
+    matches!(b, b' ' | b'\t' | b'\r' | b'\n' | b'#')
+}
+
+// How many bytes the line has left.
+fn line_rest(rest: &[u8]) -> usize
+    ensures first { IsFirstMatchOrLen (λ b. eqb b 10) rest.now result }
+    ensures bound { result ≤ length rest.now }
+{
+    let newline = rest.iter().position(|b| *b == b'\n');
+    newline.unwrap_or(rest.len())
+}
+
+// How many digits come first.
+fn digit_count(rest: &[u8]) -> usize
+    ensures first { IsFirstMatchOrLen (λ b. not (digit b)) rest.now result }
+    ensures bound { result ≤ length rest.now }
+{
+    let other = rest.iter().position(|b| !is_digit(*b));
+    other.unwrap_or(rest.len())
 }
 
 // The next newline from p on, or the text's end.
@@ -71,14 +58,7 @@ fn line_end(text: &[u8], p: usize) -> usize
     requires { p ≤ length text.now }
     ensures { result ≡ first_from (λ b. eqb b 10) text.now p }
 {
-    let mut at = p;
-    while at < text.len() {
-        if text[at] == b'\n' {
-            return at;
-        }
-        at += 1;
-    }
-    at
+    p + line_rest(&text[p..])
 }
 
 // The place after the blank, or the comment, that stands at p.
@@ -87,9 +67,10 @@ fn past_gap(text: &[u8], p: usize) -> usize
     ensures { Past text.now p result }
 {
     if text[p] == b'#' {
-        return line_end(text, p + 1);
+        line_end(text, p + 1)
+    } else {
+        p + 1
     }
-    p + 1
 }
 
 // Where the first item from p on begins, or the text's end.
@@ -98,10 +79,7 @@ pub fn item_from(text: &[u8], p: usize) -> usize
     ensures { To text.now p result }
 {
     let mut at = p;
-    while at < text.len() {
-        if !is_gap(text[at]) {
-            return at;
-        }
+    while at < text.len() && is_gap(text[at]) {
         at = past_gap(text, at);
     }
     at
@@ -111,10 +89,7 @@ pub fn item_from(text: &[u8], p: usize) -> usize
 fn is_end(text: &[u8], p: usize) -> bool
     ensures { result ≡ is_end text.now p }
 {
-    if text.len() <= p {
-        return true;
-    }
-    is_gap(text[p])
+    text.len() <= p || is_gap(text[p])
 }
 
 // The first byte from p on that is no digit.
@@ -122,28 +97,20 @@ fn digits_end(text: &[u8], p: usize) -> usize
     requires { p ≤ length text.now }
     ensures { result ≡ past_digits text.now p }
 {
-    let mut at = p;
-    while at < text.len() {
-        if !is_digit(text[at]) {
-            return at;
-        }
-        at += 1;
-    }
-    at
+    p + digit_count(&text[p..])
+}
+
+fn is_sign(b: u8) -> bool
+    ensures { result ≡ is_sign b }
+{
+    matches!(b, b'+' | b'-')
 }
 
 // The place after a sign that stands at p; else p.
 fn past_sign(text: &[u8], p: usize) -> usize
     ensures { result ≡ past_sign text.now p }
 {
-    let b = byte(text, p);
-    if b == b'+' {
-        return p + 1;
-    }
-    if b == b'-' {
-        return p + 1;
-    }
-    p
+    if is_sign(byte(text, p)) { p + 1 } else { p }
 }
 
 // The place after a point with digits after it that stands at p; else p.
@@ -154,77 +121,65 @@ fn past_fraction(text: &[u8], p: usize) -> usize
         return p;
     }
     let end = digits_end(text, p + 1);
-    if end == p + 1 {
-        return p;
-    }
-    end
+    if end == p + 1 { p } else { end }
 }
 
 fn is_off(text: &[u8], s: usize) -> bool
     requires { s ≤ length text.now }
     ensures { result ≡ is_off (word_at text.now s) }
 {
-    if byte(text, s) != b'O' {
-        return false;
-    }
-    if byte(text, s + 1) != b'F' {
-        return false;
-    }
-    if byte(text, s + 2) != b'F' {
-        return false;
-    }
-    is_end(text, s + 3)
+    text[s..].starts_with(b"OFF") && is_end(text, s + 3)
 }
 
-// The item that begins at s, as the word OFF.
-fn word_at(text: &[u8], s: usize) -> Outcome
+// The item that begins at s, as the word OFF; or s, where it is none.
+fn word_at(text: &[u8], s: usize) -> Result<Found, usize>
     requires { s ≤ length text.now }
     ensures { result ≡ read_at Word text.now s }
 {
     if !is_off(text, s) {
-        return missed(s);
+        return Err(s);
     }
-    found(0, s + 3)
+    Ok(Found {
+        value: 0,
+        end: s + 3,
+    })
 }
 
+// The digits that a whole number has at most.
+const MAX_DIGITS: usize = 7;
+
 // As a whole number.
-fn whole_at(text: &[u8], s: usize) -> Outcome
+fn whole_at(text: &[u8], s: usize) -> Result<Found, usize>
     requires { s ≤ length text.now }
     ensures { result ≡ read_at Whole text.now s }
 {
-    let x = number_at(text, s);
-    let digits = x.digits;
-    if digits < 1 {
-        return missed(s);
+    let number = number_at(text, s);
+    let digits = number.digits;
+    if digits < 1 || MAX_DIGITS < digits || !is_end(text, s + digits) {
+        return Err(s);
     }
-    if 7 < digits {
-        return missed(s);
-    }
-    if !is_end(text, s + digits) {
-        return missed(s);
-    }
-    found(x.value, s + digits)
+    Ok(Found {
+        value: number.value,
+        end: s + digits,
+    })
 }
 
 // As a decimal.
-fn decimal_at(text: &[u8], s: usize) -> Outcome
+fn decimal_at(text: &[u8], s: usize) -> Result<Found, usize>
     requires { s ≤ length text.now }
     ensures { result ≡ read_at Decimal text.now s }
 {
-    let a = past_sign(text, s);
-    let e = digits_end(text, a);
-    if e == a {
-        return missed(s);
+    let start = past_sign(text, s);
+    let point = digits_end(text, start);
+    let end = past_fraction(text, point);
+    if point == start || !is_end(text, end) {
+        return Err(s);
     }
-    let end = past_fraction(text, e);
-    if !is_end(text, end) {
-        return missed(s);
-    }
-    found(0, end)
+    Ok(Found { value: 0, end })
 }
 
-// The first item from p on, held to a kind.
-pub fn next(text: &[u8], p: usize, kind: Kind) -> Outcome
+// The first item from p on, held to a kind; or the place of what stands there instead.
+pub fn next(text: &[u8], p: usize, kind: Kind) -> Result<Found, usize>
     requires { p ≤ length text.now }
     ensures { Next kind text.now p result }
 {
@@ -237,19 +192,13 @@ pub fn next(text: &[u8], p: usize, kind: Kind) -> Outcome
 }
 
 // The first `count` items from p on, each held to one kind: the place after them, or that of the first of another.
-pub fn pass(text: &[u8], p: usize, count: u32, kind: Kind) -> Outcome
+pub fn pass(text: &[u8], p: usize, count: u32, kind: Kind) -> Result<usize, usize>
     requires { p ≤ length text.now }
     ensures { Pass kind text.now p count result }
 {
     let mut at = p;
-    let mut i: u32 = 0;
-    while i < count {
-        let r = next(text, at, kind);
-        if !r.good {
-            return r;
-        }
-        at = r.at;
-        i += 1;
+    for _ in 0..count {
+        at = next(text, at, kind)?.end;
     }
-    found(0, at)
+    Ok(at)
 }

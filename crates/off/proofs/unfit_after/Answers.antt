@@ -1,25 +1,24 @@
 -- `off::unfit_after` meets its contract.
 -- Assumes nothing.
-use borrow.Author.Tests.{eq-eqb, ne_eqb, le-leb, lt-leb}
-use Prim.Native.Nat.{◌≤◌}
-use native.Mathlib.Omega.{arith}
+use Rattle.std.specs.Prelude.{◌≡◌, refl, Bool, not, Option, Some, None, ℕ}
+use Rattle.std.proofs.Common.{ap, ◌∙◌}
+use Rattle.std.specs.Option.{option_or}
+use Rattle.std.specs.Bool.{then_some}
+use Rattle.lists.specs.Tests.{within}
+use Rattle.lists.specs.TestLaws.{Test, pass, fail, test}
 use Rattle.off.specs.Faces.{unfit_after}
 use Rattle.off.proofs.unfit_after.Goals as goal
 
-pub returns-then-unfit-ne0 : goal.returns-then-unfit-ne0
+by_cases : (unfit : Option ℕ) (f corners : ℕ) → option_or unfit (then_some (not (within 3 4 corners)) f) ≡ unfit_after unfit f corners
 unfolding unfit_after
-returns-then-unfit-ne0 c = rw (ne_eqb _ _ c.if-unfit-ne0.true, unfit_after)
-
-pub returns-then-corners-lt3 : goal.returns-then-corners-lt3
-unfolding unfit_after
-returns-then-corners-lt3 c = rw (eq-eqb _ _ c.if-unfit-ne0.false, lt-leb _ _ c.if-corners-lt3.true, unfit_after)
-
-pub returns-then-corners-gt4 : goal.returns-then-corners-gt4
-unfolding unfit_after
-returns-then-corners-gt4 c = rw (eq-eqb _ _ c.if-unfit-ne0.false, le-leb _ _ c.if-corners-lt3.false, lt-leb _ _ c.if-corners-gt4.true, unfit_after)
+by_cases (Some g) f corners = refl
+by_cases None f corners = go (test (within 3 4 corners))
+  where
+    go : Test (within 3 4 corners) → option_or None (then_some (not (within 3 4 corners)) f) ≡ unfit_after None f corners
+    go (pass u e) = rw (e, unfit_after) refl
+    go (fail u e) = rw (e, unfit_after) refl
 
 pub returns : goal.returns
-unfolding unfit_after
 returns c =
-    let few : c.args.corners ≤ 4 = omega arith in
-    rw (eq-eqb _ _ c.if-unfit-ne0.false, le-leb _ _ c.if-corners-lt3.false, le-leb _ _ few, unfit_after)
+    c.or.ensures ∙ ap (option_or c.args.unfit) (c.then_some.ensures ∙ ap (λ (b : Bool). then_some b c.args.f) c.is_unfit.ensures)
+    ∙ by_cases c.args.unfit c.args.f c.args.corners

@@ -8,6 +8,6 @@ pub returns-then-text-p : goal.returns-then-text-p
 unfolding is_end
 returns-then-text-p c = simp (le-leb _ _ c.if-text-p.true)
 
-pub returns : goal.returns
+pub returns-else-text-p : goal.returns-else-text-p
 unfolding is_end
-returns c = rw (lt-leb _ _ c.if-text-p.false) c.is_gap.ensures
+returns-else-text-p c = rw (lt-leb _ _ c.if-text-p.false) c.is_gap.ensures
