@@ -1,10 +1,8 @@
 // The items of a text, document 02, point 3: blanks and comments are passed over, and an item is held to what is looked for.
 #![tactic(auto)]
 
-ghost use Rattle.std.specs.Prelude.{◌≡◌, ◌+◌, ◌≤◌, ◌<◌, T, eqb, not, length};
-ghost use Rattle.std.specs.List.{IsFirstMatchOrLen};
+ghost use Rattle.std.specs.Prelude.{◌≡◌, ◌+◌, ◌≤◌, ◌<◌, T, eqb, length};
 ghost use Rattle.lists.specs.Search.{at};
-ghost use Rattle.digits.specs.Digits.{digit};
 ghost use Rattle.off_rules.specs.Off.{is_off, first_from, past_digits, is_sign, past_sign, past_fraction};
 ghost use Rattle.off_items.specs.Words.{is_gap, is_end, word_at};
 ghost use Rattle.off_items.specs.Parting.{Past};
@@ -35,30 +33,17 @@ fn is_gap(b: u8) -> bool
     matches!(b, b' ' | b'\t' | b'\r' | b'\n' | b'#')
 }
 
-// How many bytes the line has left.
-fn line_rest(rest: &[u8]) -> usize
-    ensures first { IsFirstMatchOrLen (λ b. eqb b 10) rest.now result }
-    ensures bound { result ≤ length rest.now }
-{
-    let newline = rest.iter().position(|b| *b == b'\n');
-    newline.unwrap_or(rest.len())
-}
-
-// How many digits come first.
-fn digit_count(rest: &[u8]) -> usize
-    ensures first { IsFirstMatchOrLen (λ b. not (digit b)) rest.now result }
-    ensures bound { result ≤ length rest.now }
-{
-    let other = rest.iter().position(|b| !is_digit(*b));
-    other.unwrap_or(rest.len())
-}
-
-// The next newline from p on, or the text's end.
+// The next newline from p on, or the text's end. Kept with an index, here and in `digits_end`: by `position` a text takes a tenth longer.
 fn line_end(text: &[u8], p: usize) -> usize
     requires { p ≤ length text.now }
     ensures { result ≡ first_from (λ b. eqb b 10) text.now p }
 {
-    p + line_rest(&text[p..])
+    for at in p..text.len() {
+        if text[at] == b'\n' {
+            return at;
+        }
+    }
+    text.len()
 }
 
 // The place after the blank, or the comment, that stands at p.
@@ -97,7 +82,12 @@ fn digits_end(text: &[u8], p: usize) -> usize
     requires { p ≤ length text.now }
     ensures { result ≡ past_digits text.now p }
 {
-    p + digit_count(&text[p..])
+    for at in p..text.len() {
+        if !is_digit(text[at]) {
+            return at;
+        }
+    }
+    text.len()
 }
 
 fn is_sign(b: u8) -> bool
@@ -171,8 +161,11 @@ fn decimal_at(text: &[u8], s: usize) -> Result<Found, usize>
 {
     let start = past_sign(text, s);
     let point = digits_end(text, start);
+    if point == start {
+        return Err(s);
+    }
     let end = past_fraction(text, point);
-    if point == start || !is_end(text, end) {
+    if !is_end(text, end) {
         return Err(s);
     }
     Ok(Found { value: 0, end })

@@ -1,13 +1,12 @@
 -- `off_items::is_off` meets its contract.
 -- Assumes nothing.
 use Rattle.std.specs.Prelude.{◌≡◌, refl, List, [], ◌∷◌, ◌++◌, ℕ, ◌+◌, ◌-◌, length, take, drop}
-use Rattle.std.proofs.Common.{sym, ap, ◌∙◌, inl, inr, arith, get_or-drop}
+use Rattle.std.proofs.Common.{sym, ap, ◌∙◌, inl, inr, arith, get_or-drop, length-drop, take_all}
 use Rattle.std.proofs.lemmas.Bool.Decides.{Decides-eqb}
 use Rattle.std.proofs.lemmas.Slice.Eq.{starts_is}
 use Rattle.lists.specs.Search.{at}
 use Rattle.lists.specs.TestLaws.{never, decide, means_eq}
 use Rattle.off_items.specs.Kinds.{not_off, is_off_lem}
-use Rattle.off_items.proofs.Counted.{left_all}
 use Rattle.off_items.proofs.is_off.Goals as goal
 
 abbrev off : List ℕ
@@ -19,6 +18,10 @@ begins [] a b c = absurd (omega arith)
 begins (x ∷ []) a b c = absurd (omega arith)
 begins (x ∷ y ∷ []) a b c = absurd (omega arith)
 begins (x ∷ y ∷ z ∷ rest) a b c = (rest, (cc))
+
+-- what is left of a text from s on
+left_all : (t : List ℕ) (s : ℕ) → take (length t - s) (drop s t) ≡ drop s t
+left_all t s = take_all (length t - s) (drop s t) (omega (arith, length-drop s t))
 
 -- byte j after s
 byte_there : (t : List ℕ) (s j b : ℕ) {rest : List ℕ} → take (length t - s) (drop s t) ≡ off ++ rest → at (off ++ rest) j ≡ b → at t (s + j) ≡ b
