@@ -4,7 +4,127 @@
 
 ghost use Rattle.std.specs.Prelude.{◌≤◌, ◌<◌, length as List·length};
 
-use answer::Answer;
+use answer::{Answer, Reason, Refusal};
+use std::alloc::{AllocError, Global};
+
+// What a work buffer holds before a call.
+pub const WORK: u32 = 5;
+
+// The numbers of a text, each before a byte that is no digit or the end; 0 where it has no digit or is too large.
+fn numbers_in(alloc: Global, text: &str) -> Result<Vec<u32>, AllocError> {
+    text.split(|c: char| !c.is_ascii_digit())
+        .map(|digits| digits.parse::<u32>().unwrap_or(0))
+        .collect(alloc)
+}
+
+// Prints the label of each case of standard input and runs the case on its numbers.
+pub fn run<R: Input + Print + AllocGlobal, F: FnMut(&[u32]) -> std::io::Result<()>>(
+    rt: &R,
+    mut run_case: F,
+) -> std::io::Result<()>
+    requires { F.IsAlwaysCallable run_case }
+{
+    for line in rt.lines(rt.alloc()) {
+        let line = line?;
+        if let Some((label, numbers)) = line.split_once(';') {
+            rt.println(label)?;
+            let numbers = numbers_in(rt.alloc(), numbers)?;
+            run_case(&numbers)?;
+        }
+    }
+    Ok(())
+}
+
+// A buffer of this length, filled with x.
+pub fn filled(alloc: Global, x: u32, length: u32) -> Result<Vec<u32>, AllocError> {
+    vec![in alloc; x; length as usize]
+}
+
+// Prints a letter and numbers as one line.
+pub fn print_line(
+    rt: &(impl Print + AllocGlobal),
+    letter: char,
+    numbers: &[u32],
+) -> std::io::Result<()> {
+    let mut line = format!(in rt.alloc(); "{letter}")?;
+    for x in numbers {
+        write!(line, ",{x}")?;
+    }
+    rt.println(line)
+}
+
+pub fn print_refusal(rt: &(impl Print + AllocGlobal), refusal: Refusal) -> std::io::Result<()> {
+    let number = refusal.reason.number();
+    print_line(rt, 'R', &[number, refusal.first, refusal.second])
+}
+
+pub fn print_clean(rt: &impl Print, clean: bool) -> std::io::Result<()> {
+    rt.println(if clean { "clean" } else { "dirty" })
+}
+
+// Whether the work buffer is as it must be after this answer: refusals 1 and 2 leave it.
+pub fn is_work_left(a: Answer, work: &[u32]) -> bool {
+    let left = match a {
+        Err(
+            Refusal {
+                reason: Reason::Sizes | Reason::Lengths,
+                ..
+            },
+        ) => WORK,
+        _ => 0,
+    };
+    is_all(work, left)
+}
+
+// What the tables hold before an edit; no half-edge has this code.
+const TABLE: u32 = 4294967295;
+
+// What an edit is lent, but for points and its work buffer: n and m, the list and the tables.
+#[derive(Clone, PartialEq, Drop)]
+pub struct Lent {
+    pub size: [u32; 2],
+    pub list: Vec<u32>,
+    pub v2e: Vec<u32>,
+    pub e2e: Vec<u32>,
+    pub b2e: Vec<u32>,
+}
+
+impl Lent {
+    // A copy of the list, and tables of these lengths.
+    pub fn new(
+        alloc: Global,
+        size: [u32; 2],
+        list: &[u32],
+        [v2e, e2e, b2e]: [u32; 3],
+    ) -> Result<Lent, AllocError> {
+        Ok(Lent {
+            size,
+            list: list.to_vec(alloc)?,
+            v2e: filled(alloc, TABLE, v2e)?,
+            e2e: filled(alloc, TABLE, e2e)?,
+            b2e: filled(alloc, TABLE, b2e)?,
+        })
+    }
+
+    // Prints the lines of the list and of the three tables, each to its end.
+    pub fn print(&self, rt: &(impl Print + AllocGlobal)) -> std::io::Result<()> {
+        print_line(rt, 'L', &self.list)?;
+        print_line(rt, 'V', &self.v2e)?;
+        print_line(rt, 'E', &self.e2e)?;
+        print_line(rt, 'B', &self.b2e)
+    }
+}
+
+// The bits of points, the upper half of each number first.
+pub fn halves(alloc: Global, points: &[f64]) -> Result<Vec<u32>, AllocError> {
+    let mut halves = Vec::new(alloc);
+    for x in points {
+        let bits = bits_of(*x);
+        halves.push((bits >> 32) as u32)?;
+        halves.push((bits % 4294967296) as u32)?;
+    }
+    Ok(halves)
+}
 
 pub fn least(a: usize, cap: usize) -> usize
     ensures { result ≤ cap }
@@ -174,14 +294,7 @@ pub fn part(numbers: &[u32; 128], head: usize, i: usize) -> &[u32]
 
 // Whether each entry is x.
 pub fn is_all(a: &[u32], x: u32) -> bool {
-    let mut i = 0;
-    while i < a.len() {
-        if a[i] != x {
-            return false;
-        }
-        i += 1;
-    }
-    true
+    a.iter().all(|y| *y == x)
 }
 
 // What a work buffer must hold that was filled with x: checks 1 and 2 leave it.
@@ -238,17 +351,13 @@ pub fn emit_clean(clean: bool) {
 // A refusal's three numbers; 0 and the two numbers of any other answer.
 pub fn numbers_of(a: Answer) -> [u32; 3] {
     match a {
-        Answer::Gives { first, second } => [0, first, second],
-        Answer::Refused {
-            number,
-            first,
-            second,
-        } => [number, first, second],
+        Ok(given) => [0, given.first, given.second],
+        Err(refusal) => [refusal.reason.number(), refusal.first, refusal.second],
     }
 }
 
 // The points of 15 vertices: whole numbers, some that are rounded when they are added or halved, the greatest and the least.
-const POINTS: [f64; 45] = [
+pub const POINTS: [f64; 45] = [
     1.0,
     -2.0,
     0.1,

@@ -11,181 +11,48 @@
 // and then the entries of the list, which may be more than m rows.
 #![tactic(auto)]
 
-ghost use Rattle.std.specs.Prelude.{◌≤◌, ◌<◌, length};
+use cases::Lent;
+use std::io;
 
-use answer::Answer;
-
-// What the tables hold before; no half-edge has this code.
-const TABLE: u32 = 4294967295;
-
-const WORK: u32 = 5;
-
-// Where the bits of the point after n others begin.
-fn point_start(n: u32) -> usize
-    ensures { result ≤ 84 }
-{
-    6 * cases::length(n, 14)
-}
-
-fn emit_answer(
-    a: Answer,
-    n: u32,
-    size: &[u32; 2],
-    list: &[u32],
-    v2e: &[u32],
-    e2e: &[u32],
-    b2e: &[u32],
-    bits: &[u32; 90],
-) {
-    match a {
-        Answer::Gives { first, second } => {
-            cases::emit_line(b'N', &[first, second]);
-            cases::emit_line(b'S', size);
-            cases::emit_line(b'L', list);
-            cases::emit_tables(v2e, e2e, b2e);
-            let start = point_start(n);
-            let all = &bits[..];
-            cases::emit_line(b'P', &all[start..start + 6]);
-        }
-        Answer::Refused {
-            number,
-            first,
-            second,
-        } => cases::emit_line(b'R', &[number, first, second]),
-    }
-}
-
-// All points must be as before, but after an answer that of the new vertex.
-fn are_kept(refusal: u32, n: u32, old: &[u32; 90], bits: &[u32; 90]) -> bool {
-    if refusal != 0 {
-        return buffers::is_same(old, bits);
-    }
-    let start = point_start(n);
-    let before = &old[..];
-    let after = &bits[..];
-    if !buffers::is_same(&before[0..start], &after[0..start]) {
-        return false;
-    }
-    buffers::is_same(&before[start + 6..90], &after[start + 6..90])
-}
-
-fn is_clean(
-    refusal: u32,
-    old_size: &[u32; 2],
-    size: &[u32; 2],
-    old: &[u32],
-    list: &[u32],
-    v2e: &[u32],
-    e2e: &[u32],
-    b2e: &[u32],
-    work: &[u32],
-    bits: &[u32; 90],
-) -> bool {
-    let mut old_bits = [0u32; 90];
-    cases::put_bits(&cases::points(), &mut old_bits);
-    if !are_kept(refusal, old_size[0], &old_bits, bits) {
-        return false;
-    }
-    cases::is_edit_clean(
-        refusal, old_size, size, old, list, v2e, e2e, b2e, TABLE, work, WORK,
-    )
-}
-
-fn report(
-    a: Answer,
-    old_size: &[u32; 2],
-    size: &[u32; 2],
-    old: &[u32],
-    list: &[u32],
-    v2e: &[u32],
-    e2e: &[u32],
-    b2e: &[u32],
-    work: &[u32],
-    points: &[f64; 45],
-) {
-    let mut bits = [0u32; 90];
-    cases::put_bits(points, &mut bits);
-    let refusal = cases::numbers_of(a)[0];
-    let clean = is_clean(
-        refusal, old_size, size, old, list, v2e, e2e, b2e, work, &bits,
-    );
-    emit_answer(a, old_size[0], size, list, v2e, e2e, b2e, &bits);
-    cases::emit_clean(clean);
-}
-
-fn run(
-    numbers: &[u32; 128],
-    old: &[u32],
-    list: &mut [u32],
-    v2e: &mut [u32],
-    e2e: &mut [u32],
-    b2e: &mut [u32],
-    work: &mut [u32],
-) {
-    let old_size = [numbers[1], numbers[2]];
-    let mut size = old_size;
-    let mut points = cases::points();
-    let end = cases::length(numbers[8], 45);
+fn run_case(rt: &(impl Print + AllocGlobal), numbers: &[u32]) -> io::Result<()> {
+    let &[n, m, code, v, e, b, w, p, ref list @ ..] = numbers else {
+        return Ok(());
+    };
+    let mut lent = Lent::new(rt.alloc(), [n, m], list, [v, e, b])?;
+    let mut points = cases::POINTS;
+    let mut work = cases::filled(rt.alloc(), cases::WORK, w)?;
+    let before = lent.clone()?;
+    let end = points.len().min(p as usize);
     let a = split::split(
-        &mut size,
-        list,
-        v2e,
-        e2e,
-        b2e,
-        &mut points[0..end],
-        work,
-        numbers[3],
+        &mut lent.size,
+        &mut lent.list,
+        &mut lent.v2e,
+        &mut lent.e2e,
+        &mut lent.b2e,
+        &mut points[..end],
+        &mut work,
+        code,
     );
-    report(a, &old_size, &size, old, list, v2e, e2e, b2e, work, &points);
-}
-
-fn run_with(numbers: &[u32; 128], old: &[u32], list: &mut [u32]) {
-    let mut v2e = [TABLE; 40];
-    let mut e2e = [TABLE; 60];
-    let mut b2e = [TABLE; 40];
-    let mut work = [WORK; 240];
-    let v_end = cases::length(numbers[4], 40);
-    let e_end = cases::length(numbers[5], 60);
-    let b_end = cases::length(numbers[6], 40);
-    let w_end = cases::length(numbers[7], 240);
-    run(
-        numbers,
-        old,
-        list,
-        &mut v2e[0..v_end],
-        &mut e2e[0..e_end],
-        &mut b2e[0..b_end],
-        &mut work[0..w_end],
-    );
-}
-
-fn run_numbers(numbers: &[u32; 128]) {
-    let mut copy = *numbers;
-    let end = cases::list_end(numbers[0], 8);
-    let whole = &numbers[..];
-    run_with(numbers, &whole[9..end], &mut copy[9..end]);
-}
-
-// The answer is the place after the case.
-fn run_case(text: &[u8], at: usize) -> usize
-    requires { at ≤ length text.now }
-    ensures { at < result }
-{
-    let mut numbers = [0u32; 128];
-    let next = cases::open(text, at, &mut numbers);
-    run_numbers(&numbers);
-    next
-}
-
-fn run_all(text: &[u8]) {
-    let mut at = 0;
-    while at < text.len() {
-        at = run_case(text, at);
+    let old = cases::halves(rt.alloc(), &cases::POINTS)?;
+    let halves = cases::halves(rt.alloc(), &points)?;
+    match a {
+        Ok(given) => {
+            cases::print_line(rt, 'N', &[given.first, given.second])?;
+            cases::print_line(rt, 'S', &lent.size)?;
+            lent.print(rt)?;
+            if let Some(point) = halves.chunks_exact(6).nth(n as usize) {
+                cases::print_line(rt, 'P', point)?;
+            }
+        }
+        Err(refusal) => cases::print_refusal(rt, refusal)?,
     }
+    // All points must be as before, but after an answer that of the new vertex.
+    let mut pairs = old.chunks_exact(6).zip(halves.chunks_exact(6)).enumerate();
+    let points_kept = pairs.all(|(i, (x, y))| x == y || a.is_ok() && i == n as usize);
+    let kept = a.is_ok() || lent == before;
+    cases::print_clean(rt, points_kept && kept && cases::is_work_left(a, &work))
 }
 
-fn main() {
-    let mut text = [0u8; 8192];
-    let count = io::read_full(0, &mut text);
-    run_all(&text[..count]);
+fn main(rt: HostRuntime) -> io::Result<()> {
+    cases::run(&rt, |numbers| run_case(&rt, numbers))
 }

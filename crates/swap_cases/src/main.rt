@@ -11,129 +11,37 @@
 // and then the entries of the list, which may be more than m rows.
 #![tactic(auto)]
 
-ghost use Rattle.std.specs.Prelude.{◌≤◌, ◌<◌, length};
+use cases::Lent;
+use std::io;
 
-use answer::Answer;
-
-// What the tables hold before; no half-edge has this code.
-const TABLE: u32 = 4294967295;
-
-const WORK: u32 = 5;
-
-fn emit_answer(a: Answer, list: &[u32], v2e: &[u32], e2e: &[u32], b2e: &[u32]) {
-    match a {
-        Answer::Gives { first, second } => {
-            cases::emit_line(b'N', &[first, second]);
-            cases::emit_line(b'L', list);
-            cases::emit_tables(v2e, e2e, b2e);
-        }
-        Answer::Refused {
-            number,
-            first,
-            second,
-        } => cases::emit_line(b'R', &[number, first, second]),
-    }
-}
-
-// After a refusal the list must be the old one, and the tables as before.
-fn is_clean(
-    refusal: u32,
-    old: &[u32],
-    list: &[u32],
-    v2e: &[u32],
-    e2e: &[u32],
-    b2e: &[u32],
-    work: &[u32],
-) -> bool {
-    if !cases::is_clean(refusal, v2e, e2e, TABLE, work, WORK) {
-        return false;
-    }
-    if refusal == 0 {
-        return true;
-    }
-    if !cases::is_all(b2e, TABLE) {
-        return false;
-    }
-    buffers::is_same(list, old)
-}
-
-fn report(
-    a: Answer,
-    old: &[u32],
-    list: &[u32],
-    v2e: &[u32],
-    e2e: &[u32],
-    b2e: &[u32],
-    work: &[u32],
-) {
-    let refusal = cases::numbers_of(a)[0];
-    let clean = is_clean(refusal, old, list, v2e, e2e, b2e, work);
-    emit_answer(a, list, v2e, e2e, b2e);
-    cases::emit_clean(clean);
-}
-
-fn run(
-    numbers: &[u32; 128],
-    old: &[u32],
-    list: &mut [u32],
-    v2e: &mut [u32],
-    e2e: &mut [u32],
-    b2e: &mut [u32],
-    work: &mut [u32],
-) {
+fn run_case(rt: &(impl Print + AllocGlobal), numbers: &[u32]) -> io::Result<()> {
+    let &[n, m, code, v, e, b, w, ref list @ ..] = numbers else {
+        return Ok(());
+    };
+    let mut lent = Lent::new(rt.alloc(), [n, m], list, [v, e, b])?;
+    let mut work = cases::filled(rt.alloc(), cases::WORK, w)?;
+    let before = lent.clone()?;
     let a = swap::swap(
-        numbers[1], numbers[2], list, v2e, e2e, b2e, work, numbers[3],
+        n,
+        m,
+        &mut lent.list,
+        &mut lent.v2e,
+        &mut lent.e2e,
+        &mut lent.b2e,
+        &mut work,
+        code,
     );
-    report(a, old, list, v2e, e2e, b2e, work);
-}
-
-fn run_with(numbers: &[u32; 128], old: &[u32], list: &mut [u32]) {
-    let mut v2e = [TABLE; 40];
-    let mut e2e = [TABLE; 60];
-    let mut b2e = [TABLE; 40];
-    let mut work = [WORK; 200];
-    let v_end = cases::length(numbers[4], 40);
-    let e_end = cases::length(numbers[5], 60);
-    let b_end = cases::length(numbers[6], 40);
-    let w_end = cases::length(numbers[7], 200);
-    run(
-        numbers,
-        old,
-        list,
-        &mut v2e[0..v_end],
-        &mut e2e[0..e_end],
-        &mut b2e[0..b_end],
-        &mut work[0..w_end],
-    );
-}
-
-fn run_numbers(numbers: &[u32; 128]) {
-    let mut copy = *numbers;
-    let end = cases::list_end(numbers[0], 7);
-    let whole = &numbers[..];
-    run_with(numbers, &whole[8..end], &mut copy[8..end]);
-}
-
-// The answer is the place after the case.
-fn run_case(text: &[u8], at: usize) -> usize
-    requires { at ≤ length text.now }
-    ensures { at < result }
-{
-    let mut numbers = [0u32; 128];
-    let next = cases::open(text, at, &mut numbers);
-    run_numbers(&numbers);
-    next
-}
-
-fn run_all(text: &[u8]) {
-    let mut at = 0;
-    while at < text.len() {
-        at = run_case(text, at);
+    match a {
+        Ok(given) => {
+            cases::print_line(rt, 'N', &[given.first, given.second])?;
+            lent.print(rt)?;
+        }
+        Err(refusal) => cases::print_refusal(rt, refusal)?,
     }
+    let kept = a.is_ok() || lent == before;
+    cases::print_clean(rt, kept && cases::is_work_left(a, &work))
 }
 
-fn main() {
-    let mut text = [0u8; 8192];
-    let count = io::read_full(0, &mut text);
-    run_all(&text[..count]);
+fn main(rt: HostRuntime) -> io::Result<()> {
+    cases::run(&rt, |numbers| run_case(&rt, numbers))
 }
