@@ -1,10 +1,15 @@
 -- The faults of a row.
 -- Assumes nothing.
-use Rattle.std.specs.Prelude.{◌≡◌, Bool, not, List, ℕ, ◌+◌, ◌-◌, eqb, ltb}
+use Rattle.std.specs.Prelude.{◌≡◌, Option, Some, None, Bool, not, List, ℕ, ◌+◌, ◌-◌, eqb, ltb}
 use Rattle.lists.specs.Tests.{either}
 use Rattle.lists.specs.Search.{at}
 use Rattle.rules.specs.Elements.{sides_by, side_at, first_number}
 use Rattle.theory.specs.Least.{FirstNumber}
+
+-- a corner's number by its place in the row; 0 where there is none
+abbrev pub number_in : Option ℕ → ℕ
+number_in None = 0
+number_in (Some i) = i + 1
 
 -- a corner x is no vertex
 abbrev pub no_vertex : ℕ → ℕ → Bool
