@@ -42,22 +42,13 @@ fn repeated_in(row: [u32; 4]) -> Option<usize>
     if row[1] == row[0] {
         return Some(1);
     }
-    if row[2] == row[0] {
-        return Some(2);
-    }
-    if row[2] == row[1] {
+    if row[2] == row[0] || row[2] == row[1] {
         return Some(2);
     }
     if row[3] == 0 {
         return None;
     }
-    if row[3] == row[0] {
-        return Some(3);
-    }
-    if row[3] == row[1] {
-        return Some(3);
-    }
-    if row[3] == row[2] {
+    if row[3] == row[0] || row[3] == row[1] || row[3] == row[2] {
         return Some(3);
     }
     None
