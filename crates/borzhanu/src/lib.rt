@@ -19,10 +19,10 @@ ghost use Rattle.build.specs.Building.{lent};
 ghost use Rattle.edits.specs.Holding.{lent_sized};
 ghost use Rattle.sibling_map.specs.Mapping.{lent_maps};
 ghost use Rattle.holes.specs.Marks.{lent_holes};
-ghost use Rattle.walker.specs.Walkers.{called_by};
 ghost use Rattle.borzhanu.specs.Walkers.{walker_in, entries_of};
 
-use walker::{Call, Walker};
+use reads::Mesh;
+use walker::Walker;
 
 // V2e, E2e and the first k entries of B2e of an element list: k and the number of edges.
 pub fn borzhanu_build(
@@ -148,6 +148,28 @@ pub fn borzhanu_read_off(text: &[u8], elements: &mut [u32]) -> u64
     answer::pack(off::read_off(text, elements))
 }
 
+// The mesh that a query is told of. Told 0 columns it looks at the list.
+fn told<'a>(
+    n: u32,
+    columns: u32,
+    list: &'a [u32],
+    v2e: &'a [u32],
+    e2e: &'a [u32],
+    b2e: &'a [u32],
+) -> Mesh<'a>
+    ensures { result ≡ told n columns list.now v2e.now e2e.now b2e.now }
+{
+    let columns = columns::seen(columns, list);
+    Mesh {
+        n,
+        columns,
+        list,
+        v2e,
+        e2e,
+        b2e,
+    }
+}
+
 // The half-edge that runs along the same edge the other way.
 pub fn borzhanu_opposite(
     n: u32,
@@ -160,8 +182,7 @@ pub fn borzhanu_opposite(
 ) -> u64
     ensures { result ≡ packed_answer (opposite_answer (told n columns elements.now v2e.now e2e.now b2e.now) code) }
 {
-    let seen = columns::seen(columns, elements);
-    answer::pack(query::opposite(n, seen, elements, v2e, e2e, b2e, code))
+    answer::pack(query::opposite(&told(n, columns, elements, v2e, e2e, b2e), code))
 }
 
 // The half-edge after a half-edge, in its element or along the border.
@@ -176,8 +197,7 @@ pub fn borzhanu_next(
 ) -> u64
     ensures { result ≡ packed_answer (next_answer (told n columns elements.now v2e.now e2e.now b2e.now) code) }
 {
-    let seen = columns::seen(columns, elements);
-    answer::pack(query::next(n, seen, elements, v2e, e2e, b2e, code))
+    answer::pack(query::next(&told(n, columns, elements, v2e, e2e, b2e), code))
 }
 
 // The side before a side, in its element.
@@ -192,8 +212,7 @@ pub fn borzhanu_previous(
 ) -> u64
     ensures { result ≡ packed_answer (previous_answer (told n columns elements.now v2e.now e2e.now b2e.now) code) }
 {
-    let seen = columns::seen(columns, elements);
-    answer::pack(query::previous(n, seen, elements, v2e, e2e, b2e, code))
+    answer::pack(query::previous(&told(n, columns, elements, v2e, e2e, b2e), code))
 }
 
 // The element of a side.
@@ -208,8 +227,7 @@ pub fn borzhanu_element(
 ) -> u64
     ensures { result ≡ packed_answer (element_answer (told n columns elements.now v2e.now e2e.now b2e.now) code) }
 {
-    let seen = columns::seen(columns, elements);
-    answer::pack(query::element(n, seen, elements, v2e, e2e, b2e, code))
+    answer::pack(query::element(&told(n, columns, elements, v2e, e2e, b2e), code))
 }
 
 // The vertex where a half-edge begins.
@@ -224,8 +242,7 @@ pub fn borzhanu_origin(
 ) -> u64
     ensures { result ≡ packed_answer (origin_answer (told n columns elements.now v2e.now e2e.now b2e.now) code) }
 {
-    let seen = columns::seen(columns, elements);
-    answer::pack(query::origin(n, seen, elements, v2e, e2e, b2e, code))
+    answer::pack(query::origin(&told(n, columns, elements, v2e, e2e, b2e), code))
 }
 
 // The vertex where a half-edge ends.
@@ -240,8 +257,7 @@ pub fn borzhanu_destination(
 ) -> u64
     ensures { result ≡ packed_answer (destination_answer (told n columns elements.now v2e.now e2e.now b2e.now) code) }
 {
-    let seen = columns::seen(columns, elements);
-    answer::pack(query::destination(n, seen, elements, v2e, e2e, b2e, code))
+    answer::pack(query::destination(&told(n, columns, elements, v2e, e2e, b2e), code))
 }
 
 // The element on the other side of a side, or 0 at a border.
@@ -256,8 +272,7 @@ pub fn borzhanu_across(
 ) -> u64
     ensures { result ≡ packed_answer (across_answer (told n columns elements.now v2e.now e2e.now b2e.now) code) }
 {
-    let seen = columns::seen(columns, elements);
-    answer::pack(query::across(n, seen, elements, v2e, e2e, b2e, code))
+    answer::pack(query::across(&told(n, columns, elements, v2e, e2e, b2e), code))
 }
 
 // 1 for a border half-edge, 0 for a side.
@@ -272,8 +287,7 @@ pub fn borzhanu_halfedge_is_border(
 ) -> u64
     ensures { result ≡ packed_answer (half_edge_border_answer (told n columns elements.now v2e.now e2e.now b2e.now) code) }
 {
-    let seen = columns::seen(columns, elements);
-    answer::pack(query::halfedge_is_border(n, seen, elements, v2e, e2e, b2e, code))
+    answer::pack(query::halfedge_is_border(&told(n, columns, elements, v2e, e2e, b2e), code))
 }
 
 // 1 for a vertex on a border, 0 for another.
@@ -288,8 +302,7 @@ pub fn borzhanu_vertex_is_border(
 ) -> u64
     ensures { result ≡ packed_answer (vertex_border_answer (told n columns elements.now v2e.now e2e.now b2e.now) v) }
 {
-    let seen = columns::seen(columns, elements);
-    answer::pack(query::vertex_is_border(n, seen, elements, v2e, e2e, b2e, v))
+    answer::pack(query::vertex_is_border(&told(n, columns, elements, v2e, e2e, b2e), v))
 }
 
 // The elements about a vertex, in turn order.
@@ -306,8 +319,7 @@ pub fn borzhanu_ring(
     ensures value { result ≡ packed_answer (ring_answer (told n columns elements.now v2e.now e2e.now b2e.now) v out.old) }
     ensures out_after { out.new ≡ ring_leaves (told n columns elements.now v2e.now e2e.now b2e.now) v out.old }
 {
-    let seen = columns::seen(columns, elements);
-    answer::pack(rings::ring(n, seen, elements, v2e, e2e, b2e, v, out))
+    answer::pack(rings::ring(&told(n, columns, elements, v2e, e2e, b2e), v, out))
 }
 
 // The vertices joined to a vertex by an edge, in turn order.
@@ -324,8 +336,7 @@ pub fn borzhanu_neighbours(
     ensures value { result ≡ packed_answer (neighbours_answer (told n columns elements.now v2e.now e2e.now b2e.now) v out.old) }
     ensures out_after { out.new ≡ neighbours_leaves (told n columns elements.now v2e.now e2e.now b2e.now) v out.old }
 {
-    let seen = columns::seen(columns, elements);
-    answer::pack(rings::neighbours(n, seen, elements, v2e, e2e, b2e, v, out))
+    answer::pack(rings::neighbours(&told(n, columns, elements, v2e, e2e, b2e), v, out))
 }
 
 // The border numbers of one hole, from b on.
@@ -342,8 +353,7 @@ pub fn borzhanu_border_loop(
     ensures value { result ≡ packed_answer (border_loop_answer (told n columns elements.now v2e.now e2e.now b2e.now) b out.old) }
     ensures out_after { out.new ≡ border_loop_leaves (told n columns elements.now v2e.now e2e.now b2e.now) b out.old }
 {
-    let seen = columns::seen(columns, elements);
-    answer::pack(rings::border_loop(n, seen, elements, v2e, e2e, b2e, b, out))
+    answer::pack(rings::border_loop(&told(n, columns, elements, v2e, e2e, b2e), b, out))
 }
 
 // The hole of each border half-edge and the length of each hole: how many holes there are.
@@ -361,38 +371,12 @@ pub fn borzhanu_holes(
     ensures value { result ≡ packed_answer (holes_answer (told n columns elements.now v2e.now e2e.now b2e.now) (lent_holes hole.old lengths.old work.old)) }
     ensures work_after { lent_holes hole.new lengths.new work.new ≡ holes_leaves (told n columns elements.now v2e.now e2e.now b2e.now) (lent_holes hole.old lengths.old work.old) }
 {
-    let seen = columns::seen(columns, elements);
-    answer::pack(holes::holes(n, seen, elements, v2e, e2e, b2e, hole, lengths, work))
-}
-
-// A walker call on a record that a host holds as three numbers.
-fn called(
-    n: u32,
-    columns: u32,
-    elements: &[u32],
-    v2e: &[u32],
-    e2e: &[u32],
-    b2e: &[u32],
-    call: Call,
-    walker: &mut [u32; 3],
-) -> u64
-    ensures value { result ≡ packed_answer (called_by call (told n columns elements.now v2e.now e2e.now b2e.now) (walker_in walker.old)).answer }
-    ensures walker_after { walker.new ≡ entries_of (called_by call (told n columns elements.now v2e.now e2e.now b2e.now) (walker_in walker.old)).walker }
-{
-    let start = walker[0];
-    let following = walker[1];
-    let handed = walker[2];
-    let record = Walker {
-        start,
-        following,
-        handed,
-    };
-    let seen = columns::seen(columns, elements);
-    let moved = walker::call_at(record, n, seen, elements, v2e, e2e, b2e, call);
-    let left = moved.walker;
-    *walker = [left.start, left.following, left.handed];
-    let answered = moved.answer;
-    answer::pack(answered)
+    answer::pack(holes::holes(
+        &told(n, columns, elements, v2e, e2e, b2e),
+        hole,
+        lengths,
+        work,
+    ))
 }
 
 // The walker, three numbers, is set to the start of the ring of v.
@@ -409,7 +393,10 @@ pub fn borzhanu_walker_start(
     ensures value { result ≡ packed_answer (walker_start (told n columns elements.now v2e.now e2e.now b2e.now) v (walker_in walker.old)).answer }
     ensures walker_after { walker.new ≡ entries_of (walker_start (told n columns elements.now v2e.now e2e.now b2e.now) v (walker_in walker.old)).walker }
 {
-    called(n, columns, elements, v2e, e2e, b2e, Call::Start(v), walker)
+    let mut record = Walker::from(*walker);
+    let answered = record.start(&told(n, columns, elements, v2e, e2e, b2e), v);
+    *walker = record.into();
+    answer::pack(answered)
 }
 
 // The walker's element, 0 after the ring's last; the walker moves on.
@@ -425,5 +412,8 @@ pub fn borzhanu_walker_step(
     ensures value { result ≡ packed_answer (walker_step (told n columns elements.now v2e.now e2e.now b2e.now) (walker_in walker.old)).answer }
     ensures walker_after { walker.new ≡ entries_of (walker_step (told n columns elements.now v2e.now e2e.now b2e.now) (walker_in walker.old)).walker }
 {
-    called(n, columns, elements, v2e, e2e, b2e, Call::Step, walker)
+    let mut record = Walker::from(*walker);
+    let answered = record.step(&told(n, columns, elements, v2e, e2e, b2e));
+    *walker = record.into();
+    answer::pack(answered)
 }
