@@ -1,6 +1,6 @@
 -- What each exported call returns, taken apart by the header's formulas, is the rule's answer. `Post` is the call's own contract.
 -- Assumes nothing.
-use Rattle.std.specs.Prelude.{◌≡◌, refl, T}
+use Rattle.std.specs.Prelude.{ℕ, ◌≡◌, refl, T}
 use Rattle.std.proofs.Common.{ap, ◌∙◌}
 use contract.Lifetimes.{Lfts}
 use borrow.Fn.Kinds.{Dens, res_t, ended_of}
@@ -61,7 +61,7 @@ use Rattle.sibling_map.specs.Mapping.{lent_maps}
 use Rattle.holes.specs.Marks.{lent_holes}
 use Rattle.borzhanu.specs.Walkers.{walker_in}
 use Rattle.answer.specs.Packing.{told, signed_told}
-use Rattle.runs.proofs.Promises.{buffers, of}
+use Rattle.runs.proofs.Promises.{buffers}
 use Rattle.runs.proofs.Shapes.{tells}
 use Rattle.runs.proofs.Texts.{off_fits}
 use Rattle.runs.proofs.Bounds.{build_fits, columns_fits, recover_fits, siblings_fits, swap_fits, split_fits}
@@ -132,36 +132,40 @@ module _ (κs : Lfts 1) (a : Dens κs columns-kinds.ps) (r : (res_t columns-kind
 abbrev pub exported : (κs : Lfts 4) → Dens κs opposite-kinds.ps → Mesh
 exported κs a = mesh-of a.0 a.1.0 a.1.1.0.now a.1.1.1.0.now a.1.1.1.1.0.now a.1.1.1.1.1.0.now
 
+-- the code or the vertex that it is asked about
+abbrev pub exported_of : (κs : Lfts 4) → Dens κs opposite-kinds.ps → ℕ
+exported_of κs a = a.1.1.1.1.1.1.0
+
 abbrev pub exported_list : (κs : Lfts 5) → Dens κs ring-kinds.ps → Mesh
 exported_list κs a = mesh-of a.0 a.1.0 a.1.1.0.now a.1.1.1.0.now a.1.1.1.1.0.now a.1.1.1.1.1.0.now
 
 module _ (κs : Lfts 4) (a : Dens κs opposite-kinds.ps) (r : (res_t opposite-kinds.r κs).Denot) (s : AtExit (ended_of 4 opposite-kinds.ps opposite-kinds.r) κs) where
-  pub opposite_told : opposite-reads.Post κs a r s → unpacked r ≡ opposite_answer (exported κs a) (of κs a)
-  opposite_told p = told _ (opposite_fits (exported κs a) (of κs a)) r p
+  pub opposite_told : opposite-reads.Post κs a r s → unpacked r ≡ opposite_answer (exported κs a) (exported_of κs a)
+  opposite_told p = told _ (opposite_fits (exported κs a) (exported_of κs a)) r p
 
-  pub next_told : next-reads.Post κs a r s → unpacked r ≡ next_answer (exported κs a) (of κs a)
-  next_told p = told _ (next_fits (exported κs a) (of κs a)) r p
+  pub next_told : next-reads.Post κs a r s → unpacked r ≡ next_answer (exported κs a) (exported_of κs a)
+  next_told p = told _ (next_fits (exported κs a) (exported_of κs a)) r p
 
-  pub previous_told : previous-reads.Post κs a r s → unpacked r ≡ previous_answer (exported κs a) (of κs a)
-  previous_told p = told _ (previous_fits (exported κs a) (of κs a)) r p
+  pub previous_told : previous-reads.Post κs a r s → unpacked r ≡ previous_answer (exported κs a) (exported_of κs a)
+  previous_told p = told _ (previous_fits (exported κs a) (exported_of κs a)) r p
 
-  pub element_told : element-reads.Post κs a r s → unpacked r ≡ element_answer (exported κs a) (of κs a)
-  element_told p = told _ (element_fits (exported κs a) (of κs a)) r p
+  pub element_told : element-reads.Post κs a r s → unpacked r ≡ element_answer (exported κs a) (exported_of κs a)
+  element_told p = told _ (element_fits (exported κs a) (exported_of κs a)) r p
 
-  pub origin_told : origin-reads.Post κs a r s → unpacked r ≡ origin_answer (exported κs a) (of κs a)
-  origin_told p = told _ (origin_fits (exported κs a) (of κs a)) r p
+  pub origin_told : origin-reads.Post κs a r s → unpacked r ≡ origin_answer (exported κs a) (exported_of κs a)
+  origin_told p = told _ (origin_fits (exported κs a) (exported_of κs a)) r p
 
-  pub destination_told : destination-reads.Post κs a r s → unpacked r ≡ destination_answer (exported κs a) (of κs a)
-  destination_told p = told _ (destination_fits (exported κs a) (of κs a)) r p
+  pub destination_told : destination-reads.Post κs a r s → unpacked r ≡ destination_answer (exported κs a) (exported_of κs a)
+  destination_told p = told _ (destination_fits (exported κs a) (exported_of κs a)) r p
 
-  pub across_told : across-reads.Post κs a r s → unpacked r ≡ across_answer (exported κs a) (of κs a)
-  across_told p = told _ (across_fits (exported κs a) (of κs a)) r p
+  pub across_told : across-reads.Post κs a r s → unpacked r ≡ across_answer (exported κs a) (exported_of κs a)
+  across_told p = told _ (across_fits (exported κs a) (exported_of κs a)) r p
 
-  pub half_edge_border_told : halfedge-is-border-reads.Post κs a r s → unpacked r ≡ half_edge_border_answer (exported κs a) (of κs a)
-  half_edge_border_told p = told _ (half_edge_border_fits (exported κs a) (of κs a)) r p
+  pub half_edge_border_told : halfedge-is-border-reads.Post κs a r s → unpacked r ≡ half_edge_border_answer (exported κs a) (exported_of κs a)
+  half_edge_border_told p = told _ (half_edge_border_fits (exported κs a) (exported_of κs a)) r p
 
-  pub vertex_border_told : vertex-is-border-reads.Post κs a r s → unpacked r ≡ vertex_border_answer (exported κs a) (of κs a)
-  vertex_border_told p = told _ (vertex_border_fits (exported κs a) (of κs a)) r p
+  pub vertex_border_told : vertex-is-border-reads.Post κs a r s → unpacked r ≡ vertex_border_answer (exported κs a) (exported_of κs a)
+  vertex_border_told p = told _ (vertex_border_fits (exported κs a) (exported_of κs a)) r p
 
 module _ (κs : Lfts 5) (a : Dens κs ring-kinds.ps) (r : (res_t ring-kinds.r κs).Denot) (s : AtExit (ended_of 5 ring-kinds.ps ring-kinds.r) κs) where
   pub ring_told : ring-reads.Post κs a r s → unpacked r ≡ ring_answer (exported_list κs a) a.1.1.1.1.1.1.0 a.1.1.1.1.1.1.1.0.now

@@ -2,7 +2,7 @@
 -- arguments hold at exit, s.
 -- Assumes nothing.
 use Rattle.std.specs.Prelude.{◌≡◌, ℕ}
-use Rattle.std.proofs.Common.{ap, ◌∙◌}
+use Rattle.std.proofs.Common.{ap}
 use contract.Lifetimes.{Lfts}
 use borrow.Fn.Kinds.{Dens, res_t, ended_of}
 use denote.Triple.Clauses.{AtExit}
@@ -12,7 +12,6 @@ use Rattle.rules.specs.Queries.{half_edge_border_answer, vertex_border_answer, W
 use Rattle.answer.specs.Numbers.{numbers}
 use Rattle.build.specs.Building.{lent}
 use Rattle.halfedge.specs.Rows.{next_side, previous_side}
-use Rattle.reads.specs.Meshes.{mesh}
 use Rattle.halfedge.proofs.next_side.Kinds as next-side-kinds
 use Rattle.halfedge.proofs.next_side.Reads as next-side-reads
 use Rattle.halfedge.proofs.previous_side.Reads as previous-side-reads
@@ -53,11 +52,11 @@ use Rattle.query.proofs.destination.Reads as destination-reads
 use Rattle.query.proofs.across.Reads as across-reads
 use Rattle.query.proofs.halfedge_is_border.Reads as halfedge-is-border-reads
 use Rattle.query.proofs.vertex_is_border.Reads as vertex-is-border-reads
-use Rattle.walker.specs.declared.Call.{Call}
-use Rattle.walker.specs.declared.Call.TheVariants.{Start, Step}
-use Rattle.walker.specs.Walkers.{record_of, moved_of, called_by}
-use Rattle.walker.proofs.call_at.Kinds as call-at-kinds
-use Rattle.walker.proofs.call_at.Reads as call-at-reads
+use Rattle.walker.specs.Walkers.{record_of}
+use Rattle.walker.proofs.Walker.start.Kinds as start-kinds
+use Rattle.walker.proofs.Walker.start.Reads as start-reads
+use Rattle.walker.proofs.Walker.step.Kinds as step-kinds
+use Rattle.walker.proofs.Walker.step.Reads as step-reads
 use Rattle.runs.specs.Runs.{StartRun, StepRun, BuildRun, RecoverRun, SiblingsRun, SwapRun, ShapeRun, OffRun}
 use Rattle.runs.specs.Runs.{SplitRun, ContractRun, RingRun, NeighboursRun, BorderLoopRun, HolesRun}
 
@@ -138,14 +137,14 @@ module _ (κs : Lfts 1) (a : Dens κs columns-kinds.ps) (r : (res_t columns-kind
   pub columns_run : columns-reads.Post κs a r s → numbers r ≡ columns_answer a.0 a.1.0.now
   columns_run p = p
 
--- what a query (n, columns, list, v2e, e2e, b2e, code or vertex) is asked about
-abbrev pub asked : (κs : Lfts 4) → Dens κs opposite-kinds.ps → Mesh
-asked κs a = mesh a.0 a.1.0 a.1.1.0.now a.1.1.1.0.now a.1.1.1.1.0.now a.1.1.1.1.1.0.now
+-- what a query (mesh, code or vertex) is asked about
+abbrev pub asked : (κs : Lfts 2) → Dens κs opposite-kinds.ps → Mesh
+asked κs a = a.0.now
 
-abbrev pub of : (κs : Lfts 4) → Dens κs opposite-kinds.ps → ℕ
-of κs a = a.1.1.1.1.1.1.0
+abbrev pub of : (κs : Lfts 2) → Dens κs opposite-kinds.ps → ℕ
+of κs a = a.1.0
 
-module _ (κs : Lfts 4) (a : Dens κs opposite-kinds.ps) (r : (res_t opposite-kinds.r κs).Denot) (s : AtExit (ended_of 4 opposite-kinds.ps opposite-kinds.r) κs) where
+module _ (κs : Lfts 2) (a : Dens κs opposite-kinds.ps) (r : (res_t opposite-kinds.r κs).Denot) (s : AtExit (ended_of 2 opposite-kinds.ps opposite-kinds.r) κs) where
   pub opposite_run : opposite-reads.Post κs a r s → numbers r ≡ opposite_answer (asked κs a) (of κs a)
   opposite_run p = p
 
@@ -173,48 +172,32 @@ module _ (κs : Lfts 4) (a : Dens κs opposite-kinds.ps) (r : (res_t opposite-ki
   pub vertex_border_run : vertex-is-border-reads.Post κs a r s → numbers r ≡ vertex_border_answer (asked κs a) (of κs a)
   vertex_border_run p = p
 
--- what a query that writes a list (n, columns, list, v2e, e2e, b2e, vertex or border, out) is asked about
-abbrev pub listed : (κs : Lfts 5) → Dens κs ring-kinds.ps → Mesh
-listed κs a = mesh a.0 a.1.0 a.1.1.0.now a.1.1.1.0.now a.1.1.1.1.0.now a.1.1.1.1.1.0.now
+-- what a query that writes a list (mesh, vertex or border, out) is asked about
+abbrev pub listed : (κs : Lfts 3) → Dens κs ring-kinds.ps → Mesh
+listed κs a = a.0.now
 
-module _ (κs : Lfts 5) (a : Dens κs ring-kinds.ps) (r : (res_t ring-kinds.r κs).Denot) (s : AtExit (ended_of 5 ring-kinds.ps ring-kinds.r) κs) where
-  pub ring_run : ring-reads.Post κs a r s
-      → RingRun (listed κs a) a.1.1.1.1.1.1.0 a.1.1.1.1.1.1.1.0.now (numbers r) s.1.1.1.1.1.1.1.0.now
+module _ (κs : Lfts 3) (a : Dens κs ring-kinds.ps) (r : (res_t ring-kinds.r κs).Denot) (s : AtExit (ended_of 3 ring-kinds.ps ring-kinds.r) κs) where
+  pub ring_run : ring-reads.Post κs a r s → RingRun (listed κs a) a.1.0 a.1.1.0.now (numbers r) s.1.1.0.now
   ring_run p = record { answer = p.0; leaves = p.1 }
 
-  pub neighbours_run : neighbours-reads.Post κs a r s
-      → NeighboursRun (listed κs a) a.1.1.1.1.1.1.0 a.1.1.1.1.1.1.1.0.now (numbers r) s.1.1.1.1.1.1.1.0.now
+  pub neighbours_run : neighbours-reads.Post κs a r s → NeighboursRun (listed κs a) a.1.0 a.1.1.0.now (numbers r) s.1.1.0.now
   neighbours_run p = record { answer = p.0; leaves = p.1 }
 
-  pub border_loop_run : border-loop-reads.Post κs a r s
-      → BorderLoopRun (listed κs a) a.1.1.1.1.1.1.0 a.1.1.1.1.1.1.1.0.now (numbers r) s.1.1.1.1.1.1.1.0.now
+  pub border_loop_run : border-loop-reads.Post κs a r s → BorderLoopRun (listed κs a) a.1.0 a.1.1.0.now (numbers r) s.1.1.0.now
   border_loop_run p = record { answer = p.0; leaves = p.1 }
 
--- holes(n, columns, list, v2e, e2e, b2e, hole, lengths, work)
-module _ (κs : Lfts 7) (a : Dens κs holes-kinds.ps) (r : (res_t holes-kinds.r κs).Denot) (s : AtExit (ended_of 7 holes-kinds.ps holes-kinds.r) κs) where
+-- holes(mesh, hole, lengths, work)
+module _ (κs : Lfts 5) (a : Dens κs holes-kinds.ps) (r : (res_t holes-kinds.r κs).Denot) (s : AtExit (ended_of 5 holes-kinds.ps holes-kinds.r) κs) where
   pub holes_run : holes-reads.Post κs a r s
-      → HolesRun (mesh a.0 a.1.0 a.1.1.0.now a.1.1.1.0.now a.1.1.1.1.0.now a.1.1.1.1.1.0.now)
-      (lent_holes a.1.1.1.1.1.1.0.now a.1.1.1.1.1.1.1.0.now a.1.1.1.1.1.1.1.1.0.now) (numbers r)
-      (lent_holes s.1.1.1.1.1.1.0.now s.1.1.1.1.1.1.1.0.now s.1.1.1.1.1.1.1.1.0.now)
+      → HolesRun a.0.now (lent_holes a.1.0.now a.1.1.0.now a.1.1.1.0.now) (numbers r)
+      (lent_holes s.1.0.now s.1.1.0.now s.1.1.1.0.now)
   holes_run p = record { answer = p.0; leaves = p.1 }
 
--- a walker's call by value (record, n, columns, list, v2e, e2e, b2e, call): walker::move_on over `&mut` and the exports go through it
-module _ (κs : Lfts 4) (a : Dens κs call-at-kinds.ps) (r : (res_t call-at-kinds.r κs).Denot) (s : AtExit (ended_of 4 call-at-kinds.ps call-at-kinds.r) κs) where
-  abbrev walked : Mesh
-  walked = mesh a.1.0 a.1.1.0 a.1.1.1.0.now a.1.1.1.1.0.now a.1.1.1.1.1.0.now a.1.1.1.1.1.1.0.now
+-- a walker's calls, over the record that is lent (record, mesh, and a start's vertex)
+module _ (κs : Lfts 3) (a : Dens κs start-kinds.ps) (r : (res_t start-kinds.r κs).Denot) (s : AtExit (ended_of 3 start-kinds.ps start-kinds.r) κs) where
+  pub start_run : start-reads.Post κs a r s → StartRun a.1.0.now a.1.1.0 (record_of a.0.now) (numbers r) (record_of s.0.now)
+  start_run p = record { answer = ap (λ (x : Walked). x.answer) p; leaves = ap (λ (x : Walked). x.walker) p }
 
-  abbrev call : Call
-  call = a.1.1.1.1.1.1.1.0
-
-  -- what is left, by the call
-  left : (c : Call) → call ≡ c → call-at-reads.Post κs a r s → moved_of r ≡ called_by c walked (record_of a.0)
-  left c e p = p ∙ ap (λ (x : Call). called_by x walked (record_of a.0)) e
-
-  pub start_run : (v : ℕ) → call ≡ Start v → call-at-reads.Post κs a r s
-      → StartRun walked v (record_of a.0) (numbers r.answer) (record_of r.walker)
-  start_run v e p =
-      let q = left (Start v) e p in record { answer = ap (λ (x : Walked). x.answer) q; leaves = ap (λ (x : Walked). x.walker) q }
-
-  pub step_run : call ≡ Step → call-at-reads.Post κs a r s → StepRun walked (record_of a.0) (numbers r.answer) (record_of r.walker)
-  step_run e p =
-      let q = left Step e p in record { answer = ap (λ (x : Walked). x.answer) q; leaves = ap (λ (x : Walked). x.walker) q }
+module _ (κs : Lfts 3) (a : Dens κs step-kinds.ps) (r : (res_t step-kinds.r κs).Denot) (s : AtExit (ended_of 3 step-kinds.ps step-kinds.r) κs) where
+  pub step_run : step-reads.Post κs a r s → StepRun a.1.0.now (record_of a.0.now) (numbers r) (record_of s.0.now)
+  step_run p = record { answer = ap (λ (x : Walked). x.answer) p; leaves = ap (λ (x : Walked). x.walker) p }
