@@ -21,7 +21,7 @@ fn put_digit(out: &mut [u8], p: usize, d: u32) -> usize
     put_byte(out, p, (48 + d) as u8)
 }
 
-// Writes the digits of x.
+// Writes the digits of x. Kept by hand: std states no bytes of a `write!` into a slice, and the heap, where a `String` has them, is not used.
 fn put_number(out: &mut [u8], p: usize, x: u32) -> usize
     requires { p + length (digits x) ≤ length out.old }
     ensures { Written out.old p (digits x) out.new result }
@@ -51,10 +51,8 @@ fn put_items(out: &mut [u8], at: usize, numbers: &[u32]) -> usize
     ensures upper_bound { result ≤ at + 11 * length numbers.now }
 {
     let mut p = at;
-    let mut i = 0;
-    while i < numbers.len() {
+    for i in 0..numbers.len() {
         p = put_item(out, p, numbers, i);
-        i += 1;
     }
     p
 }
@@ -90,10 +88,8 @@ fn put_rows(out: &mut [u8], at: usize, c: usize, m: usize, e2e: &[u32]) -> usize
     ensures upper_bound { result ≤ at + 55 * m }
 {
     let mut p = at;
-    let mut k = 0;
-    while k < m {
+    for k in 0..m {
         p = put_row(out, p, c, e2e, k);
-        k += 1;
     }
     p
 }
@@ -103,10 +99,7 @@ pub fn print_line(out: &mut [u8], at: usize, letter: u8, numbers: &[u32]) -> usi
     ensures written { Written out.old at (shown_line (length out.old) at letter numbers.now) out.new result }
     ensures upper_bound { at ≤ length out.old → result ≤ length out.old }
 {
-    if out.len() < at {
-        return at;
-    }
-    if (out.len() - at) / 11 <= numbers.len() {
+    if out.len() < at || (out.len() - at) / 11 <= numbers.len() {
         return at;
     }
     put_line(out, at, letter, numbers)
@@ -125,10 +118,7 @@ pub fn print_refusal(out: &mut [u8], number: u32, first: u32, second: u32) -> us
 fn width(columns: u32) -> usize
     ensures { result ≡ width_of columns }
 {
-    if columns == 3 {
-        return 3;
-    }
-    4
+    if columns == 3 { 3 } else { 4 }
 }
 
 // How many rows a table has.
@@ -136,10 +126,7 @@ fn row_count(columns: u32, entries: usize) -> usize
     ensures value { result ≡ entries / width_of columns }
     ensures result_bound { 3 * result ≤ entries }
 {
-    if columns == 3 {
-        return entries / 3;
-    }
-    entries / 4
+    entries / width(columns)
 }
 
 // Writes the lines of the three tables at the start of `out`; nothing without room.
