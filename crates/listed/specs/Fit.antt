@@ -1,6 +1,6 @@
 -- Buffers of fit lengths, and the lines by cases.
 -- Assumes nothing.
-use Rattle.std.specs.Prelude.{true, List, ◌++◌, ℕ, ◌+◌, ◌*◌, ◌/◌, ◌≤◌, ◌⊎◌, take}
+use Rattle.std.specs.Prelude.{true, Result, Ok, Err, List, ◌++◌, ℕ, ◌+◌, ◌*◌, ◌/◌, ◌≤◌, ◌⊎◌, take}
 use Rattle.std.proofs.Math.Path.{◌≡◌, refl, ap, sym}
 use Rattle.std.proofs.Common.{subst, ◌∙◌, arith, eq-eqb, ne_eqb, inl, inr, length-drop, take_all, length-take-le}
 use Rattle.std.proofs.Math.ListN.{length, drop, length-append}
@@ -20,9 +20,10 @@ use Rattle.build.specs.Building.{counts_are, lent}
 use Rattle.text.specs.Form.{first_bad, the_n, the_m, the_list, the_number}
 use Rattle.text.specs.FormLaws.{head_bounds, form_head}
 use Rattle.text.specs.FirstBytes.{first_bytes, form_short}
-use Rattle.text.specs.Reading.{parsed, list_after, parsed_bad, parsed_form}
-use Rattle.text.specs.declared.Parsed.{Parsed}
-use Rattle.text.specs.declared.Parsed.TheVariants.{Mesh, Bad, Short}
+use Rattle.text.specs.Reading.{size_in, parsed, list_after, parsed_bad, parsed_form}
+use Rattle.text.specs.declared.Size.{Size}
+use Rattle.text.specs.declared.ParseError.{ParseError}
+use Rattle.text.specs.declared.ParseError.TheVariants.{Bad, Short}
 use Rattle.print.specs.Lines.{Written, table_lines, refusal_line, width_of, has_room, shown_if, shown_tables, shown_refusal}
 use Rattle.print.specs.LineLaws.{width_three, width_four, has_room_lem}
 use Rattle.listed.specs.Listing.{answer_lines, mesh_lines, listing}
@@ -149,25 +150,26 @@ pub record Read (t L : List ℕ) (n v e : ℕ) : Type 0 where
   pub long : length L ≡ 800
 
 -- with room for 800 entries a text in form gives a mesh, and any other its first bad line
-module _ (t L : List ℕ) {p : Parsed} (room : length L ≡ 800) (said : p ≡ parsed t (length L)) where
-  form_or_bad : ((first_bad t ≡ 0) × (p ≡ Mesh (the_n t) (the_m t))) ⊎ ((first_bad t ≡ 0 → ⊥) × (p ≡ Bad (first_bad t)))
+module _ (t L : List ℕ) {p : Result Size ParseError} (room : length L ≡ 800) (said : p ≡ parsed t (length L)) where
+  form_or_bad : ((first_bad t ≡ 0) × (p ≡ Ok (size_in t))) ⊎ ((first_bad t ≡ 0 → ⊥) × (p ≡ Err (Bad (first_bad t))))
   form_or_bad = elim (decide (means_eq (first_bad t) 0)) [
     | inl e ↦ inl (e, said ∙ parsed_form t (length L) (omega arith) e)
     | inr d ↦ inr (d, said ∙ parsed_bad t (length L) d)
   ]
 
-  pub read_mesh : {n m v e : ℕ} {L' : List ℕ} → p ≡ Mesh n m → L' ≡ list_after p t L → v ≡ n → e ≡ 4 * m → Read t L' n v e
+  pub read_mesh : {s : Size} {v e : ℕ} {L' : List ℕ} → p ≡ Ok s → L' ≡ list_after p t L → v ≡ s.n → e ≡ 4 * s.m → Read t L' s.n v e
   unfolding list_after
-  read_mesh {n} {m} {v} {e} {L'} is f wide rows = go form_or_bad
+  read_mesh {s} {v} {e} {L'} is f wide rows = go form_or_bad
     where
-      go : ((first_bad t ≡ 0) × (p ≡ Mesh (the_n t) (the_m t))) ⊎ ((first_bad t ≡ 0 → ⊥) × (p ≡ Bad (first_bad t))) → Read t L' n v e
+      go : ((first_bad t ≡ 0) × (p ≡ Ok (size_in t))) ⊎ ((first_bad t ≡ 0 → ⊥) × (p ≡ Err (Bad (first_bad t)))) → Read t L' s.n v e
       go (inr (d, g)) = let z : ◌≡◌ {A = ℕ} 0 1 = cc in absurd (omega arith)
       go (inl (z, g)) =
           let h = head_bounds t (form_head t z) in
-          let a : n ≡ the_n t = cc in
-          let b : m ≡ the_m t = cc in
+          let same : s ≡ size_in t = cc in
+          let a : s.n ≡ the_n t = ap (λ (x : Size). x.n) same in
+          let b : s.m ≡ the_m t = ap (λ (x : Size). x.m) same in
           let l : length (the_list t) ≡ e = length_list t ∙ ap (λ (i : ℕ). 4 * i) (sym b) ∙ sym rows in
-          let r : L' ≡ the_list t ++ drop e L = f ∙ ap (λ (q : Parsed). list_after q t L) is ∙ ap (λ (i : ℕ). the_list t ++ drop i L) (sym rows) in
+          let r : L' ≡ the_list t ++ drop e L = f ∙ ap (λ (q : Result Size ParseError). list_after q t L) is ∙ ap (λ (i : ℕ). the_list t ++ drop i L) (sym rows) in
           record {
             form = z;
             few = omega (arith, h);
@@ -180,10 +182,10 @@ module _ (t L : List ℕ) {p : Parsed} (room : length L ≡ 800) (said : p ≡ p
             long = rw (r, length-append, length-drop) (omega (arith, h));
           }
 
-  pub bad_shown : {size line : ℕ} → 22_022 ≤ size → p ≡ Bad line → shown_refusal size 14 line 0 ≡ listing t
+  pub bad_shown : {size line : ℕ} → 22_022 ≤ size → p ≡ Err (Bad line) → shown_refusal size 14 line 0 ≡ listing t
   bad_shown {size} {line} h e = go form_or_bad
     where
-      go : ((first_bad t ≡ 0) × (p ≡ Mesh (the_n t) (the_m t))) ⊎ ((first_bad t ≡ 0 → ⊥) × (p ≡ Bad (first_bad t))) → shown_refusal size 14 line 0 ≡ listing t
+      go : ((first_bad t ≡ 0) × (p ≡ Ok (size_in t))) ⊎ ((first_bad t ≡ 0 → ⊥) × (p ≡ Err (Bad (first_bad t)))) → shown_refusal size 14 line 0 ≡ listing t
       go (inl (z, g)) = let z : ◌≡◌ {A = ℕ} 0 1 = cc in absurd (omega arith)
       go (inr (d, g)) =
           let a : line ≡ first_bad t = cc in
@@ -191,10 +193,10 @@ module _ (t L : List ℕ) {p : Parsed} (room : length L ≡ 800) (said : p ≡ p
           ∙ ap (λ (i : ℕ). refusal_line 14 i 0) a
           ∙ sym (listing_bad t d)
 
-  pub never_short : p ≡ Short → ⊥
+  pub never_short : p ≡ Err Short → ⊥
   never_short e = go form_or_bad
     where
-      go : ((first_bad t ≡ 0) × (p ≡ Mesh (the_n t) (the_m t))) ⊎ ((first_bad t ≡ 0 → ⊥) × (p ≡ Bad (first_bad t))) → ⊥
+      go : ((first_bad t ≡ 0) × (p ≡ Ok (size_in t))) ⊎ ((first_bad t ≡ 0 → ⊥) × (p ≡ Err (Bad (first_bad t)))) → ⊥
       go (inl (z, g)) = let z : ◌≡◌ {A = ℕ} 0 1 = cc in omega arith
       go (inr (d, g)) = let z : ◌≡◌ {A = ℕ} 0 1 = cc in omega arith
 

@@ -8,9 +8,9 @@ ghost use Rattle.print.specs.Lines.{Written, Counts, shown_if};
 ghost use Rattle.listed.specs.Listing.{mesh_lines, listing};
 ghost use Rattle.listed.specs.Fit.{Fits};
 
-use answer::Answer;
+use answer::Reason;
 use halfedge::wide;
-use text::Parsed;
+use text::ParseError;
 
 // Writes the lines of the mesh, or of build's refusal.
 fn list_mesh(
@@ -28,17 +28,15 @@ fn list_mesh(
     ensures written { Written out.old 0 (mesh_lines n list.now) out.new result }
     ensures counts { Counts result out.new }
 {
-    let a = build::build(n, list, v2e, e2e, b2e, work);
-    match a {
-        Answer::Gives { first, second: _ } => {
-            let k = wide(first);
+    match build::build(n, list, v2e, e2e, b2e, work) {
+        Ok(built) => {
+            let k = wide(built.first);
             print::print_tables(out, columns, v2e, e2e, &b2e[..k])
         }
-        Answer::Refused {
-            number,
-            first,
-            second,
-        } => print::print_refusal(out, number, first, second),
+        Err(refusal) => {
+            let number = refusal.reason.number();
+            print::print_refusal(out, number, refusal.first, refusal.second)
+        }
     }
 }
 
@@ -57,11 +55,11 @@ fn list_in(
     ensures written { Written out.old 0 (listing text.now) out.new result }
     ensures counts { Counts result out.new }
 {
-    let p = text::parse(text, list);
-    match p {
-        Parsed::Mesh { n, m } => {
+    match text::parse(text, list) {
+        Ok(size) => {
+            let n = size.n;
             let v = wide(n);
-            let rows = wide(m);
+            let rows = wide(size.m);
             let e = 4 * rows;
             let columns = columns::columns_of(&list[..e]);
             let o = wide(columns) * rows;
@@ -76,8 +74,10 @@ fn list_in(
                 out,
             )
         }
-        Parsed::Bad { line } => print::print_refusal(out, 14, line, 0),
-        Parsed::Short => 0,
+        Err(ParseError::Bad { line }) => {
+            print::print_refusal(out, Reason::Line.number(), line, 0)
+        }
+        Err(ParseError::Short) => 0,
     }
 }
 
@@ -90,11 +90,11 @@ pub fn list_tables(text: &[u8], out: &mut [u8]) -> usize
     if out.len() < 22_022 {
         return 0;
     }
-    let mut list: [u32; 800] = [0; 800];
-    let mut v2e: [u32; 200] = [0; 200];
-    let mut e2e: [u32; 800] = [0; 800];
-    let mut b2e: [u32; 800] = [0; 800];
-    let mut work: [u32; 3400] = [0; 3400];
+    let mut list = [0; 800];
+    let mut v2e = [0; 200];
+    let mut e2e = [0; 800];
+    let mut b2e = [0; 800];
+    let mut work = [0; 3400];
     list_in(
         text, &mut list, &mut v2e, &mut e2e, &mut b2e, &mut work, out,
     )
