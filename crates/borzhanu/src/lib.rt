@@ -1,5 +1,6 @@
 // The calls as hosts make them. Each answers in one 64-bit number: the refusal's number (0: an answer), and two numbers beside it. borzhanu_c exports
 // them to C.
+// All that is lent stays one by one and the calls stay alike, one for each name, since C calls them so.
 #![tactic(auto)]
 
 ghost use Rattle.std.specs.Prelude.{◌≡◌};

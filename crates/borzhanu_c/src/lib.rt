@@ -1,4 +1,5 @@
 // The calls of crates/borzhanu, exported to C under the same names. Each export calls that function and states its clauses again.
+// All that is lent stays one by one and the calls stay alike, one for each name, since C calls them so.
 #![tactic(auto)]
 
 ghost use Rattle.std.specs.Prelude.{◌≡◌};

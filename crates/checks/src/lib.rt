@@ -1,5 +1,6 @@
 // Checks 6 and 7 over a list of fit rows, by what the sibling map tells, and the least side of each vertex.
 // n, list and work stay parameters: work is lent as a `&mut` too, and a struct would owe a clause in each function that it holds the same reference.
+// Side 0 is none: these are the very numbers of the rules' `crowded_side` and `alike_side`.
 #![tactic(auto)]
 
 ghost use Rattle.std.specs.Prelude.{◌≡◌, ◌+◌, ◌≤◌, ◌<◌, length};

@@ -1,4 +1,5 @@
 // Checks 3 and 4: unfit and repeated corners.
+// Side 0 is none, as in the rules' `row_checks`.
 #![tactic(auto)]
 
 ghost use Rattle.std.specs.Prelude.{◌≡◌, ◌+◌, ◌*◌, ◌≤◌, length};

@@ -170,19 +170,21 @@ pub fn code_at(p: usize) -> u32
 }
 
 // The entry of the element list at which the origin of side s stands.
+#[tactic(auto, unfolding(rules::specs::Elements::slot, rules::specs::Tables::e2e_slot))]
 pub fn slot_of(s: u32) -> usize
     requires { (1 ≤ element s) × (1 ≤ number s) }
     ensures { result ≡ slot s }
 {
-    wide(4 * (element_of(s) - 1) + (number_of(s) - 1))
+    slot_in(4, s)
 }
 
-// The entry of an E2e of three columns that is side s's.
-pub fn narrow_slot_of(s: u32) -> usize
-    requires { (1 ≤ element s) × (1 ≤ number s) }
-    ensures { result ≡ e2e_slot 3 s }
+// The entry of a table of so many columns that is side s's.
+#[tactic(auto, unfolding(rules::specs::Tables::e2e_slot))]
+pub fn slot_in(columns: u32, s: u32) -> usize
+    requires { (columns ≤ 4) × (1 ≤ element s) × (1 ≤ number s) }
+    ensures { result ≡ e2e_slot columns s }
 {
-    wide(3 * (element_of(s) - 1) + (number_of(s) - 1))
+    wide(columns * (element_of(s) - 1) + (number_of(s) - 1))
 }
 
 // The first of two numbers for a triangle, the second for a quadrilateral. A fourth entry of 0 makes a triangle.
@@ -209,7 +211,7 @@ fn entry(part: &[u32], i: usize) -> u32
     part.get(i).copied().unwrap_or(0)
 }
 
-// x as an index.
+// x as an index. Kept as a function: std has no From<u32> for usize, and this is the one place of the cast.
 pub fn wide(x: u32) -> usize
     ensures { result ≡ x }
 {

@@ -2,6 +2,7 @@
 //
 // Two elements clash where a diagonal of one joins two vertices that a side or a diagonal of the other joins too, which the sibling map's
 // pass has found; or where they are triangles with the same corners, which the map tells.
+// Element 0 is none: these are the very numbers of the rules' `clashing` and `clash_of`.
 #![tactic(auto)]
 
 ghost use Rattle.std.specs.Prelude.{◌≡◌, ◌+◌, ◌*◌, ◌≤◌};

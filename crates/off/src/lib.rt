@@ -1,4 +1,5 @@
 // Reading OFF files, document 02, point 3: a text is judged whole, then its faces are written.
+// Text and place stay two parameters, as in crate off_items.
 #![tactic(auto)]
 
 ghost use Rattle.std.specs.Prelude.{◌++◌, ◌≡◌, not, ◌+◌, ◌*◌, ◌≤◌, ◌<◌, eqb, min, length, drop, count_by, IfOk, IfErr};

@@ -1,4 +1,5 @@
 // The items of a text, document 02, point 3: blanks and comments are passed over, and an item is held to what is looked for.
+// Text and place stay two parameters: what is answered is a place in the same text, and the definitions take the two apart.
 #![tactic(auto)]
 
 ghost use Rattle.std.specs.Prelude.{◌≡◌, ◌+◌, ◌≤◌, ◌<◌, T, eqb, length};

@@ -1,5 +1,6 @@
 // Check 8, decided: the walk over a list's own tables meets as many sides as there are exactly where every vertex has a turn order. So it is
 // enough to count, and nothing is written. Where there are fewer, the crates walk and unordered find the least vertex that has none.
+// Side 0 is none, as in the rules' `walk_start` and `turn_by`.
 #![tactic(auto)]
 
 ghost use Rattle.std.specs.Prelude.{true, ◌≡◌, ◌-◌, ◌≤◌};

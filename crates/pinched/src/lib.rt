@@ -1,5 +1,6 @@
 // Refusal 20, document 02, point 8: whether the ends of an edge have a common neighbour other than the third corners of its triangles. The
 // neighbours of one end are marked, one entry for each vertex, and the sides at the other end are looked at. Diagonals join no neighbours.
+// Vertex 0 is none, as in an element list: what is told of it is passed over.
 #![tactic(auto)]
 
 ghost use Rattle.std.specs.Prelude.{◌≡◌, ◌+◌, ◌*◌, ◌≤◌, length};

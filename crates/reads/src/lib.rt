@@ -9,7 +9,7 @@ ghost use Rattle.rules.specs.Queries.{and_then, is_border_code, is_half_edge, is
 ghost use Rattle.rules.specs.Queries.{read_destination, border_next, start_side, onward, next_border, loop_next};
 ghost use Rattle.reads.specs.Readings.{read_of, prior_vertex};
 
-use halfedge::{border_code, element_of, is_border, number_of, wide};
+use halfedge::{border_code, element_of, is_border, number_of, slot_in, wide};
 use sides::{is_side, next_code, origin_of};
 use std::marker::Model;
 
@@ -165,11 +165,10 @@ impl Fitting<'_> {
         ensures { result ≡ entry_of self.now.columns self.now.opposites s }
     {
         let mesh = self.mesh;
-        let i = number_of(s);
-        if mesh.columns < i {
+        if mesh.columns < number_of(s) {
             return 0;
         }
-        mesh.e2e[wide(mesh.columns * (element_of(s) - 1) + (i - 1))]
+        mesh.e2e[slot_in(mesh.columns, s)]
     }
 
     #[tactic(auto, unfolding(rules::specs::Queries::read_opposite))]

@@ -1,4 +1,5 @@
 // What the element list alone says of a side. Elements are read through their parts of the list and their rows.
+// That s is a side of the list stays a clause (`Side`): codes come out of tables and go into tables, and a type would be made anew at each.
 #![tactic(auto)]
 
 ghost use Rattle.std.specs.Prelude.{◌≡◌, ◌*◌, ◌≤◌, length};

@@ -25,7 +25,7 @@ use halfedge::{corner, element_of, is_border, number_of, previous_side, wide};
 use sides::{is_side, row_at};
 use tabulate::tabulate_front;
 
-// The corner of a triangle before the origin of its side i.
+// The corner of a triangle before the origin of its side i. Of a row, as contract's `third_of` is of a list, where no row is at hand.
 fn third(row: [u32; 4], i: u32) -> u32
     ensures { result ≡ corner_of row (previous_side row i) }
 {

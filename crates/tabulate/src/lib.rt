@@ -1,5 +1,6 @@
 // Checks 3 to 8 and 18 and the three tables of a list, in a scratch buffer of n + 12m entries; nothing else is written. Whether checks 6, 7
 // and 8 find something is decided first, and only then is the place looked for.
+// Element 0 and vertex 0 are none, as in the rules' `clashing` and `unordered_vertex`.
 #![tactic(auto)]
 
 ghost use Rattle.std.specs.Prelude.{◌≡◌, ◌+◌, ◌*◌, length};

@@ -1,4 +1,5 @@
 // The text that the listing program reads, document 01, "The listing program".
+// Text and place stay two parameters: what is answered is a place in the same text.
 #![tactic(auto)]
 
 ghost use Rattle.std.specs.Prelude.{◌++◌, ◌≡◌, ◌+◌, ◌*◌, ◌-◌, ◌≤◌, ◌<◌, IfOk, IfErr, length, drop};

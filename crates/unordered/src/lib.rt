@@ -1,4 +1,5 @@
 // Check 8, after the walk: the least vertex with a side that the walk did not write.
+// Vertex 0 is none: this is the very number of the rules' `unordered_vertex`.
 #![tactic(auto)]
 
 ghost use Rattle.std.specs.Prelude.{◌≡◌, drop};

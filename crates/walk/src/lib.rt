@@ -1,6 +1,7 @@
 // The walk over a V2e and an E2e of any content, in a work buffer of n + 12m entries: V2e (n), E2e (4m), for each border number the least
 // side with that border (4m), and what the walk writes (4m).
 // n, m and work stay parameters: work is lent as a `&mut`, and a struct would owe a clause in each function that it holds the same reference.
+// Side 0 is none, as in the rules' `walk_start`.
 #![tactic(auto)]
 
 ghost use Rattle.std.specs.Prelude.{◌≡◌, ◌+◌, ◌*◌, ◌-◌, ◌≤◌, ◌<◌};
@@ -56,7 +57,7 @@ fn is_open(n: usize, m: usize, work: &[u32], s: u32) -> bool
     is_side(&work[n..e], s) && work[n + 8 * m + slot_of(s)] == 0
 }
 
-// From the side s on by turns, v is written at the place of each side.
+// From the side s on by turns, v is written at the place of each side. The loop follows turns and counts nothing.
 fn trace(n: usize, m: usize, v: u32, s: u32, work: &mut [u32])
     requires { Sizes n m work.old × (1 ≤ v) }
     ensures { Traced n m v s work.old work.new }
