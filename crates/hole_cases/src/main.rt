@@ -11,101 +11,44 @@
 // and then the entries of the list, V2e, E2e and B2e.
 #![tactic(auto)]
 
-ghost use Rattle.std.specs.Prelude.{◌≤◌, ◌<◌, length};
-
-use answer::Answer;
+use reads::Mesh;
+use std::io;
 
 // What the outputs hold before; no hole has this number, or this length.
 const LEFT: u32 = 4294967295;
 
-const WORK: u32 = 5;
-
-// The number from which on the lengths of the list and the tables stand.
-const LENGTHS: usize = 6;
-
-// Part 0 is the list, 1 V2e, 2 E2e and 3 B2e.
-fn holes_of(
-    numbers: &[u32; 128],
-    hole: &mut [u32],
-    lengths: &mut [u32],
-    work: &mut [u32],
-) -> Answer {
-    let list = cases::part(numbers, LENGTHS, 0);
-    holes::holes(
-        numbers[1],
-        columns::seen(numbers[2], list),
+fn run_case(rt: &(impl Print + AllocGlobal), numbers: &[u32]) -> io::Result<()> {
+    let &[n, told, h, l, w, list, v2e, e2e, b2e, ref parts @ ..] = numbers else {
+        return Ok(());
+    };
+    let (list, rest) = cases::part(parts, list);
+    let (v2e, rest) = cases::part(rest, v2e);
+    let (e2e, rest) = cases::part(rest, e2e);
+    let (b2e, _) = cases::part(rest, b2e);
+    let mesh = Mesh {
+        n,
+        columns: columns::seen(told, list),
         list,
-        cases::part(numbers, LENGTHS, 1),
-        cases::part(numbers, LENGTHS, 2),
-        cases::part(numbers, LENGTHS, 3),
-        hole,
-        lengths,
-        work,
-    )
-}
-
-fn emit_answer(a: Answer, hole: &[u32], lengths: &[u32]) {
+        v2e,
+        e2e,
+        b2e,
+    };
+    let mut hole = cases::filled(rt.alloc(), LEFT, h)?;
+    let mut lengths = cases::filled(rt.alloc(), LEFT, l)?;
+    let mut work = cases::filled(rt.alloc(), cases::WORK, w)?;
+    let a = holes::holes(&mesh, &mut hole, &mut lengths, &mut work);
     match a {
-        Answer::Gives { first, second: _ } => {
-            cases::emit_line(b'N', &[first]);
-            cases::emit_line(b'H', hole);
-            cases::emit_line(b'L', lengths);
+        Ok(given) => {
+            cases::print_line(rt, 'N', &[given.first])?;
+            cases::print_line(rt, 'H', &hole)?;
+            cases::print_line(rt, 'L', &lengths)?;
         }
-        Answer::Refused {
-            number,
-            first,
-            second,
-        } => cases::emit_line(b'R', &[number, first, second]),
+        Err(refusal) => cases::print_refusal(rt, refusal)?,
     }
+    let kept = a.is_ok() || cases::is_all(&hole, LEFT) && cases::is_all(&lengths, LEFT);
+    cases::print_clean(rt, kept && cases::is_work_left(a, &work))
 }
 
-fn report(a: Answer, hole: &[u32], lengths: &[u32], work: &[u32]) {
-    let refusal = cases::numbers_of(a)[0];
-    let clean = cases::is_clean(refusal, hole, lengths, LEFT, work, WORK);
-    emit_answer(a, hole, lengths);
-    cases::emit_clean(clean);
-}
-
-fn run(numbers: &[u32; 128], hole: &mut [u32], lengths: &mut [u32], work: &mut [u32]) {
-    let a = holes_of(numbers, hole, lengths, work);
-    report(a, hole, lengths, work);
-}
-
-fn run_numbers(numbers: &[u32; 128]) {
-    let mut hole = [LEFT; 20];
-    let mut lengths = [LEFT; 20];
-    let mut work = [WORK; 200];
-    let h_end = cases::length(numbers[3], 20);
-    let l_end = cases::length(numbers[4], 20);
-    let w_end = cases::length(numbers[5], 200);
-    run(
-        numbers,
-        &mut hole[0..h_end],
-        &mut lengths[0..l_end],
-        &mut work[0..w_end],
-    );
-}
-
-// The answer is the place after the case.
-fn run_case(text: &[u8], at: usize) -> usize
-    requires { at ≤ length text.now }
-    ensures { at < result }
-{
-    let mut numbers = [0u32; 128];
-    let next = cases::open(text, at, &mut numbers);
-    run_numbers(&numbers);
-    next
-}
-
-fn run_all(text: &[u8]) {
-    let mut at = 0;
-    while at < text.len() {
-        at = run_case(text, at);
-    }
-}
-
-fn main() {
-    let mut text = [0u8; 8192];
-    let count = io::read_full(0, &mut text);
-    run_all(&text[..count]);
+fn main(rt: HostRuntime) -> io::Result<()> {
+    cases::run(&rt, |numbers| run_case(&rt, numbers))
 }

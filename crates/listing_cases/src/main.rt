@@ -5,47 +5,22 @@
 // or 3 among four; a bad last line, a missing one, and bytes after it.
 #![tactic(auto)]
 
-ghost use Rattle.std.specs.Prelude.{◌≤◌, ◌<◌, length};
+use std::io;
+use std::io::Write;
 
-fn emit_listing(text: &[u8]) {
-    let mut out = io::large_buffer();
-    let k = listed::list_tables(text, &mut out);
-    io::write_all(1, &out[..k]);
+fn run_case(rt: &(impl Print + AllocGlobal), label: &str, text: &str) -> io::Result<()> {
+    let mut out = vec![in rt.alloc(); 0; 22022]?;
+    let count = listed::list_tables(text.as_bytes(), &mut out);
+    rt.println(label)?;
+    io::writer(rt).write_all(&out[..count])
 }
 
-// Writes what is printed for the text between the label's end, at `at`, and `end`.
-fn emit_after(text: &[u8], at: usize, end: usize)
-    requires at_le_end { at ≤ end }
-    requires end_in_bounds { end ≤ length text.now }
-{
-    if at == end {
-        return;
+fn main(rt: HostRuntime) -> io::Result<()> {
+    let input = io::read_to_string(rt.alloc(), rt.reader())?;
+    for case in input.split("#\n") {
+        if let Some((label, text)) = case.split_once('\n') {
+            run_case(&rt, label, text)?;
+        }
     }
-    let start = at + 1;
-    emit_listing(&text[start..end]);
-}
-
-// Writes the label and what is printed for the text. The answer is the place after the case.
-fn run_case(text: &[u8], at: usize) -> usize
-    requires { at ≤ length text.now }
-    ensures { at < result }
-{
-    let label_end = cases::find(text, at, b'\n');
-    cases::emit_label(text, at, label_end);
-    let end = cases::find(text, label_end, b'#');
-    emit_after(text, label_end, end);
-    end + 2
-}
-
-fn run_all(text: &[u8]) {
-    let mut at = 0;
-    while at < text.len() {
-        at = run_case(text, at);
-    }
-}
-
-fn main() {
-    let mut text = [0u8; 8192];
-    let count = io::read_full(0, &mut text);
-    run_all(&text[..count]);
+    Ok(())
 }

@@ -5,60 +5,45 @@
 // byte, with a newline after it.
 #![tactic(auto)]
 
-ghost use Rattle.std.specs.Prelude.{◌≤◌, ◌<◌, length};
-
-use answer::Answer;
+use std::io;
+use std::io::{BufRead, Read};
 
 const KEPT: u32 = 9;
 
-fn emit_read(n: u32, m: u32, list: &[u32]) {
-    cases::emit_line(b'N', &[n, m]);
-    let end = cases::least(4 * (m as usize), list.len());
-    cases::emit_line(b'L', &list[0..end]);
-    cases::emit_clean(cases::is_all(&list[end..], KEPT));
+fn run_case(rt: &(impl Print + AllocGlobal), list_length: u32, text: &[u8]) -> io::Result<()> {
+    let mut list = cases::filled(rt.alloc(), KEPT, list_length)?;
+    let kept = match off::read_off(text, &mut list) {
+        Ok(given) => {
+            let entries = list.len().min(4 * given.second as usize);
+            let (rows, rest) = list.split_at(entries);
+            cases::print_line(rt, 'N', &[given.first, given.second])?;
+            cases::print_line(rt, 'L', rows)?;
+            cases::is_all(rest, KEPT)
+        }
+        Err(refusal) => {
+            cases::print_refusal(rt, refusal)?;
+            cases::is_all(&list, KEPT)
+        }
+    };
+    cases::print_clean(rt, kept)
 }
 
-fn run(text: &[u8], list: &mut [u32]) {
-    match off::read_off(text, list) {
-        Answer::Gives { first, second } => emit_read(first, second, list),
-        Answer::Refused {
-            number,
-            first,
-            second,
-        } => {
-            cases::emit_line(b'R', &[number, first, second]);
-            cases::emit_clean(cases::is_all(list, KEPT));
+fn main(rt: HostRuntime) -> io::Result<()> {
+    let mut input = rt.reader();
+    let mut line = String::new(rt.alloc());
+    for _ in 0..u64::MAX {
+        line.clear();
+        if input.read_line(&mut line)? == 0 {
+            break;
+        }
+        let Some(numbers) = cases::read_case(&rt, line.trim_end())? else {
+            continue;
+        };
+        if let &[list_length, text_length] = &numbers[..] {
+            let mut text = vec![in rt.alloc(); 0; text_length as usize]?;
+            input.read_exact(&mut text)?;
+            run_case(&rt, list_length, &text)?;
         }
     }
-}
-
-// The answer is the place after the case.
-fn run_case(text: &[u8], at: usize) -> usize
-    requires { at ≤ length text.now }
-    ensures { at < result }
-{
-    let mut numbers = [0u32; 128];
-    let mut list = [KEPT; 64];
-    let next = cases::open(text, at, &mut numbers);
-    let start = cases::least(next, text.len());
-    let end = start + cases::length(numbers[2], text.len() - start);
-    let room = cases::length(numbers[1], 64);
-    run(&text[start..end], &mut list[0..room]);
-    if end < next {
-        return next;
-    }
-    end + 1
-}
-
-fn run_all(text: &[u8]) {
-    let mut at = 0;
-    while at < text.len() {
-        at = run_case(text, at);
-    }
-}
-
-fn main() {
-    let mut text = [0u8; 16384];
-    let count = io::read_full(0, &mut text);
-    run_all(&text[..count]);
+    Ok(())
 }

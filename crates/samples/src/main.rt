@@ -23,7 +23,7 @@ fn run_case(rt: &(impl Print + AllocGlobal), numbers: &[u32]) -> io::Result<()> 
     let a = build::build(n, list, &mut v2e, &mut e2e, &mut b2e, &mut work);
     let kept = match a {
         Ok(given) => {
-            let columns = columns::columns_of(list) as usize;
+            let columns = if columns::columns_of(list) == 3 { 3 } else { 4 };
             let k = b2e.len().min(given.first as usize);
             let (borders, rest) = b2e.split_at(k);
             cases::print_line(rt, 'K', &[given.first, given.second])?;
