@@ -10,7 +10,7 @@ use std::io;
 pub const WORK: u32 = 5;
 
 // What the tables hold before an edit; no half-edge has this code.
-const TABLE: u32 = 4294967295;
+const TABLE: u32 = u32::MAX;
 
 // The points of 15 vertices: whole numbers, some that are rounded when they are added or halved, the greatest and the least.
 pub const POINTS: [f64; 45] = [
@@ -109,13 +109,8 @@ pub fn is_all(a: &[u32], x: u32) -> bool {
 
 // Whether the work buffer is as it must be after this answer: refusals 1 and 2 leave it, and else it is zero.
 pub fn is_work_left(a: Answer, work: &[u32]) -> bool {
-    let left = match a {
-        Err(
-            Refusal {
-                reason: Reason::Sizes | Reason::Lengths,
-                ..
-            },
-        ) => WORK,
+    let left = match a.map_err(|refusal| refusal.reason) {
+        Err(Reason::Sizes | Reason::Lengths) => WORK,
         _ => 0,
     };
     is_all(work, left)

@@ -15,7 +15,7 @@ use reads::Mesh;
 use std::io;
 
 // What the outputs hold before; no hole has this number, or this length.
-const LEFT: u32 = 4294967295;
+const LEFT: u32 = u32::MAX;
 
 fn run_case(rt: &(impl Print + AllocGlobal), numbers: &[u32]) -> io::Result<()> {
     let &[n, told, h, l, w, list, v2e, e2e, b2e, ref parts @ ..] = numbers else {

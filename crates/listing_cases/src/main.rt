@@ -8,8 +8,11 @@
 use std::io;
 use std::io::Write;
 
+// The bytes that the lines of the largest mesh may take.
+const ROOM: usize = 22022;
+
 fn run_case(rt: &(impl Print + AllocGlobal), label: &str, text: &str) -> io::Result<()> {
-    let mut out = vec![in rt.alloc(); 0; 22022]?;
+    let mut out = vec![in rt.alloc(); 0; ROOM]?;
     let count = listed::list_tables(text.as_bytes(), &mut out);
     rt.println(label)?;
     io::writer(rt).write_all(&out[..count])

@@ -10,28 +10,85 @@
 //   8        n
 //   9        the columns that each call is told, 0 to look at the list
 //   10 to 13 the lengths of the list, V2e, E2e and B2e; of 1, the last is found by build
-// and then the entries of the list, V2e, E2e and B2e; of 1, the tables are put behind the list once they are built.
+// and then the entries of the list and, but for 1, of V2e, E2e and B2e.
 #![tactic(auto)]
 
 use answer::{Answer, Given, Refusal};
 use reads::Mesh;
+use std::alloc::{AllocError, Global};
 use std::io;
 use walker::Walker;
 
 // What an output holds before.
 const LEFT: u32 = 7;
 
+// An element list with its tables.
+#[derive(Drop)]
+struct Tables {
+    list: Vec<u32>,
+    v2e: Vec<u32>,
+    e2e: Vec<u32>,
+    b2e: Vec<u32>,
+}
+
+impl Tables {
+    // The numbers, cut into parts of these lengths.
+    fn given(alloc: Global, numbers: &[u32], [l, v, e, b]: [u32; 4]) -> Result<Tables, AllocError> {
+        let (list, rest) = cases::part(numbers, l);
+        let (v2e, rest) = cases::part(rest, v);
+        let (e2e, rest) = cases::part(rest, e);
+        let (b2e, _) = cases::part(rest, b);
+        Ok(Tables {
+            list: list.to_vec(alloc)?,
+            v2e: v2e.to_vec(alloc)?,
+            e2e: e2e.to_vec(alloc)?,
+            b2e: b2e.to_vec(alloc)?,
+        })
+    }
+
+    // Puts the tables that build makes of the list, with these lengths of V2e and E2e. The answer is build's.
+    fn build(&mut self, alloc: Global, n: u32, v: u32, e: u32) -> Result<Answer, AllocError> {
+        self.v2e = cases::filled(alloc, LEFT, v)?;
+        self.e2e = cases::filled(alloc, LEFT, e)?;
+        self.b2e = cases::filled(alloc, LEFT, 40)?;
+        let mut work = [LEFT; 200];
+        let a = build::build(
+            n,
+            &self.list,
+            &mut self.v2e,
+            &mut self.e2e,
+            &mut self.b2e,
+            &mut work,
+        );
+        let [_, k, _] = cases::numbers_of(a);
+        self.b2e.truncate(k as usize);
+        Ok(a)
+    }
+
+    // Makes an entry x: of part 1 the list, 2 V2e, 3 E2e, 4 B2e, 0 none.
+    fn change(&mut self, part: u32, at: u32, x: u32) {
+        match part {
+            1 => put(&mut self.list, at, x),
+            2 => put(&mut self.v2e, at, x),
+            3 => put(&mut self.e2e, at, x),
+            4 => put(&mut self.b2e, at, x),
+            _ => {}
+        }
+    }
+}
+
+// Makes entry `at` x, where there is one.
+fn put(table: &mut [u32], at: u32, x: u32) {
+    if let Some(entry) = table.get_mut(at as usize) {
+        *entry = x;
+    }
+}
+
 // The number that a call gives, or 1000 and the refusal. 9000 where a number that must be 0 isn't.
 fn coded(a: Answer) -> u32 {
     match a {
         Ok(Given { first, second: 0 }) => first,
-        Err(
-            Refusal {
-                reason,
-                first: 0,
-                second: 0,
-            },
-        ) => 1000 + reason.number(),
+        Err(refusal) if refusal == Refusal::of(refusal.reason) => 1000 + refusal.reason.number(),
         _ => 9000,
     }
 }
@@ -94,11 +151,7 @@ fn print_steps(rt: &(impl Print + AllocGlobal), mesh: &Mesh<'_>, mut w: Walker) 
 }
 
 fn print_walk(rt: &(impl Print + AllocGlobal), mesh: &Mesh<'_>, v: u32) -> io::Result<()> {
-    let mut w = Walker {
-        start: LEFT,
-        following: LEFT,
-        handed: LEFT,
-    };
+    let mut w = Walker::from([LEFT; 3]);
     let a = w.start(mesh, v);
     print_moved(rt, 'W', a, &w)?;
     print_steps(rt, mesh, w)
@@ -148,58 +201,25 @@ fn run_case(rt: &(impl Print + AllocGlobal), numbers: &[u32]) -> io::Result<()> 
     else {
         return Ok(());
     };
-    let (list, rest) = cases::part(parts, l);
-    let (v2e, rest) = cases::part(rest, v);
-    let (e2e, rest) = cases::part(rest, e);
-    let (b2e, _) = cases::part(rest, b);
-    let asked = [codes, ends, room];
+    let mut tables = Tables::given(rt.alloc(), parts, [l, v, e, b])?;
     if kind == 1 {
-        let mut list = list.to_vec(rt.alloc())?;
-        let mut v2e = cases::filled(rt.alloc(), LEFT, v)?;
-        let mut e2e = cases::filled(rt.alloc(), LEFT, e)?;
-        let mut b2e = cases::filled(rt.alloc(), LEFT, 40)?;
-        let mut work = [LEFT; 200];
-        let a = build::build(n, &list, &mut v2e, &mut e2e, &mut b2e, &mut work);
-        let built = cases::numbers_of(a);
-        cases::print_line(rt, 'K', &built)?;
-        b2e.truncate(built[1] as usize);
-        let changed = match first {
-            1 => list.get_mut(second as usize),
-            2 => v2e.get_mut(second as usize),
-            3 => e2e.get_mut(second as usize),
-            4 => b2e.get_mut(second as usize),
-            _ => None,
-        };
-        if let Some(entry) = changed {
-            *entry = third;
-        }
-        let mesh = Mesh {
-            n,
-            columns: columns::seen(told, &list),
-            list: &list,
-            v2e: &v2e,
-            e2e: &e2e,
-            b2e: &b2e,
-        };
-        return print_queries(rt, &mesh, asked);
+        let a = tables.build(rt.alloc(), n, v, e)?;
+        cases::print_line(rt, 'K', &cases::numbers_of(a))?;
+        tables.change(first, second, third);
     }
     let mesh = Mesh {
         n,
-        columns: columns::seen(told, list),
-        list,
-        v2e,
-        e2e,
-        b2e,
+        columns: columns::seen(told, &tables.list),
+        list: &tables.list,
+        v2e: &tables.v2e,
+        e2e: &tables.e2e,
+        b2e: &tables.b2e,
     };
-    if kind == 2 {
-        return print_queries(rt, &mesh, asked);
+    if kind == 3 {
+        print_steps(rt, &mesh, Walker::from([first, second, third]))
+    } else {
+        print_queries(rt, &mesh, [codes, ends, room])
     }
-    let w = Walker {
-        start: first,
-        following: second,
-        handed: third,
-    };
-    print_steps(rt, &mesh, w)
 }
 
 fn main(rt: HostRuntime) -> io::Result<()> {
