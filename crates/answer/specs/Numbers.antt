@@ -38,6 +38,19 @@ abbrev pub numbers : Result Given Refusal → Stated
 numbers (Ok g) = gives g.first g.second
 numbers (Err r) = refused (number_in r.reason) r.first r.second
 
+-- a refusal, or what is told by the value that is given
+abbrev pub told : {A : Type 0} → (A → Stated) → Result A Refusal → Stated
+told f (Ok x) = f x
+told f (Err r) = refused (number_in r.reason) r.first r.second
+
+-- checks, which give 0, 0 where they find nothing
+abbrev pub checked : Result Unit Refusal → Stated
+checked = told (λ _. gives 0 0)
+
+-- a value of one number
+abbrev pub found : Result ℕ Refusal → Stated
+found = told (λ x. gives x 0)
+
 -- the refusal number (0: an answer) in bits 56 to 63, the first number in bits 28 to 55, the second in bits 0 to 27
 abbrev pub packed : ℕ → ℕ → ℕ → ℕ
 packed r a b = (r % 256) * 72_057_594_037_927_936 + (a % 268_435_456) * 268_435_456 + b % 268_435_456

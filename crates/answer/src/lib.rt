@@ -95,6 +95,13 @@ impl Refusal {
             second,
         }
     }
+
+    // At the side, or the corner where it begins, with this code.
+    pub fn at_side(reason: Reason, code: u32) -> Refusal
+        ensures { result ≡ placed reason (element code) (number code) }
+    {
+        Refusal::at(reason, element_of(code), number_of(code))
+    }
 }
 
 // An answer of one number.
@@ -121,13 +128,6 @@ pub fn refuse_at(reason: Reason, first: u32, second: u32) -> Answer
     ensures { numbers result ≡ refused (number_in reason) first second }
 {
     Err(Refusal::at(reason, first, second))
-}
-
-// A refusal at the side, or the corner where it begins, with this code.
-pub fn refuse_side(reason: Reason, code: u32) -> Answer
-    ensures { numbers result ≡ refused (number_in reason) (element code) (number code) }
-{
-    refuse_at(reason, element_of(code), number_of(code))
 }
 
 // The three numbers side by side: 8 bits for the refusal, 28 for each of the two others.

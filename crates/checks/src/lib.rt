@@ -10,11 +10,11 @@ ghost use Rattle.lists.specs.TestLaws.{Means};
 ghost use Rattle.rules.specs.Refusals.{gives, crowded_side, alike_side};
 ghost use Rattle.theory.specs.FitRows.{Fit};
 ghost use Rattle.checks.specs.Firsts.{FirstsFrom, Firsts};
-ghost use Rattle.answer.specs.Numbers.{numbers};
+ghost use Rattle.answer.specs.Numbers.{checked};
 ghost use Rattle.checks.specs.Maps.{Mapped, CrowdedAt, AlikeAt};
 ghost use Rattle.checks.specs.Pairs.{pair_checks};
 
-use answer::{Answer, Reason, give_two, refuse_side};
+use answer::{Reason, Refusal};
 use buffers::clear_first;
 use halfedge::{code_at, row, slot_of, wide};
 use sides::origin_of;
@@ -98,17 +98,16 @@ fn alike_side(n: usize, list: &[u32], work: &[u32]) -> u32
 }
 
 // Checks 6 and 7, told whether no two sides run alike: of three sides at an edge two do, so only where two do can either find something.
-// 0, 0 where they find nothing.
-pub fn check_pairs(n: usize, list: &[u32], work: &[u32], paired: bool) -> Answer
+pub fn check_pairs(n: usize, list: &[u32], work: &[u32], paired: bool) -> Result<(), Refusal>
     requires { Mapped n list.now work.now × Means paired (alike_side list.now ≡ 0) }
-    ensures { numbers result ≡ pair_checks list.now (gives 0 0) }
+    ensures { checked result ≡ pair_checks list.now (gives 0 0) }
 {
     if paired {
-        return give_two(0, 0);
+        return Ok(());
     }
     let s = crowded_side(n, list, work);
     if s != 0 {
-        return refuse_side(Reason::Crowded, s);
+        return Err(Refusal::at_side(Reason::Crowded, s));
     }
-    refuse_side(Reason::Alike, alike_side(n, list, work))
+    Err(Refusal::at_side(Reason::Alike, alike_side(n, list, work)))
 }

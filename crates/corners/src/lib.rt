@@ -5,10 +5,10 @@
 ghost use Rattle.std.specs.Prelude.{◌≡◌, ◌+◌, ◌*◌, ◌≤◌, length};
 ghost use Rattle.rules.specs.Elements.{elements, max_element};
 ghost use Rattle.rules.specs.Refusals.{gives, row_checks};
-ghost use Rattle.answer.specs.Numbers.{numbers};
+ghost use Rattle.answer.specs.Numbers.{checked};
 ghost use Rattle.corners.specs.Faults.{no_vertex, number_in, UnfitIn, RepeatedIn, Repeating};
 
-use answer::{Answer, Reason, give_two, refuse_side};
+use answer::{Reason, Refusal};
 use halfedge::{code_at, row};
 
 fn no_vertex(n: u32, x: u32) -> bool
@@ -69,22 +69,22 @@ fn first_repeated(found: u32, a: usize, row: [u32; 4]) -> u32
     }
 }
 
-// What checks 3 and 4 say, in one pass; 0, 0 where they find nothing.
-pub fn check_rows(n: u32, list: &[u32]) -> Answer
+// What checks 3 and 4 say, in one pass.
+pub fn check_rows(n: u32, list: &[u32]) -> Result<(), Refusal>
     requires { (length list.now ≡ 4 * elements list.now) × (elements list.now ≤ max_element) }
-    ensures { numbers result ≡ row_checks n list.now (gives 0 0) }
+    ensures { checked result ≡ row_checks n list.now (gives 0 0) }
 {
     let mut repeated = 0;
     for f in 0..list.len() / 4 {
         let a = 4 * f;
         let corners = row(&list[a..a + 4]);
         if let Some(i) = unfit_in(n, corners) {
-            return refuse_side(Reason::Unfit, code_at(a + i));
+            return Err(Refusal::at_side(Reason::Unfit, code_at(a + i)));
         }
         repeated = first_repeated(repeated, a, corners);
     }
     if repeated != 0 {
-        return refuse_side(Reason::Repeated, repeated);
+        return Err(Refusal::at_side(Reason::Repeated, repeated));
     }
-    give_two(0, 0)
+    Ok(())
 }

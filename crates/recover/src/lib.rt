@@ -63,10 +63,10 @@ fn has_own_tables(n: u32, list: &[u32], work: &mut [u32]) -> bool
     requires { Sized n list.now work.old }
     ensures { OwnTables n list.now result work.old work.new }
 {
-    let Ok(paired) = tabulate::pair(n, list, work) else {
+    let Ok(f) = tabulate::pair(n, list, work) else {
         return false;
     };
-    if paired.first != 0 {
+    if f != 0 {
         return false;
     }
     borders::number_borders(wide(n), list, work);

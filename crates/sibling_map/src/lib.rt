@@ -10,7 +10,7 @@ ghost use Rattle.theory.specs.FitRows.{Fit};
 ghost use Rattle.answer.specs.Numbers.{numbers};
 ghost use Rattle.sibling_map.specs.Mapping.{Checked, Mapped, lent_maps};
 
-use answer::{Answer, Reason, refuse};
+use answer::{Answer, Reason, give_two, refuse};
 use buffers::{clear, copy};
 use checks::first_sides;
 use corners::check_rows;
@@ -36,9 +36,9 @@ fn map_fit(n: u32, list: &[u32], v2e: &mut [u32], sibhe: &mut [u32], work: &mut 
     ensures mapped { Mapped n list.now (numbers result) v2e.old sibhe.old v2e.new sibhe.new }
     ensures work_len_unchanged { length work.new ≡ length work.old }
 {
-    let rows = check_rows(n, list)?;
+    check_rows(n, list)?;
     write(wide(n), list, v2e, sibhe, work);
-    Ok(rows)
+    give_two(0, 0)
 }
 
 // For each side the next higher side that joins the same two vertices, the last followed by the first, in four columns; for each vertex

@@ -7,12 +7,12 @@ ghost use Rattle.std.specs.Prelude.{◌≡◌, ◌+◌, ◌*◌, length};
 ghost use Rattle.rules.specs.Elements.{elements};
 ghost use Rattle.rules.specs.Refusals.{clashing, unordered_vertex, list_answer};
 ghost use Rattle.theory.specs.FitRows.{Fit};
-ghost use Rattle.answer.specs.Numbers.{numbers};
+ghost use Rattle.answer.specs.Numbers.{numbers, found};
 ghost use Rattle.borders.specs.Numbers.{Ready};
 ghost use Rattle.ordered.specs.Standing.{Standing};
 ghost use Rattle.tabulate.specs.Results.{Sized, fit_pairs, list_pairs, Paired, paired_answer, Tabulated, Roomy, Scratched};
 
-use answer::{Answer, Reason, give, give_two, refuse_at};
+use answer::{Answer, Reason, Refusal, give_two, refuse_at};
 use borders::number_borders;
 use checks::{check_pairs, first_sides};
 use corners::check_rows;
@@ -24,23 +24,23 @@ use unordered::unordered_vertex;
 use walk::walk;
 
 // Checks 6 and 7, where checks 3 and 4 found nothing, and what `pair` gives and leaves.
-fn pair_fit(n: u32, list: &[u32], work: &mut [u32]) -> Answer
+fn pair_fit(n: u32, list: &[u32], work: &mut [u32]) -> Result<u32, Refusal>
     requires { Fit n list.now × (length work.old ≡ n + 12 * elements list.now) }
-    ensures { Paired n list.now (fit_pairs list.now) (numbers result) work.old work.new }
+    ensures { Paired n list.now (fit_pairs list.now) (found result) work.old work.new }
 {
     let vertices = wide(n);
     let found = siblings(vertices, list, work);
     check_pairs(vertices, list, work, found.paired)?;
     let f = clashing_element(vertices, list, work, found.crossed);
     first_sides(vertices, list, work);
-    give(f)
+    Ok(f)
 }
 
 // Checks 3 to 7. Where they find nothing it gives the least element that doesn't meet another well, 0 where there is none, and leaves the
 // siblings and each vertex's least side, from which `number_borders` makes the tables.
-pub fn pair(n: u32, list: &[u32], work: &mut [u32]) -> Answer
+pub fn pair(n: u32, list: &[u32], work: &mut [u32]) -> Result<u32, Refusal>
     requires { Sized n list.now work.old }
-    ensures { Paired n list.now (list_pairs n list.now) (numbers result) work.old work.new }
+    ensures { Paired n list.now (list_pairs n list.now) (found result) work.old work.new }
 {
     check_rows(n, list)?;
     pair_fit(n, list, work)
@@ -79,7 +79,7 @@ pub fn tabulate(n: u32, list: &[u32], work: &mut [u32]) -> Answer
     requires { Sized n list.now work.old }
     ensures { Tabulated n list.now (list_answer n list.now) (numbers result) work.old work.new }
 {
-    let f = pair(n, list, work)?.first;
+    let f = pair(n, list, work)?;
     tabulate_paired(n, list, work, f)
 }
 

@@ -18,7 +18,7 @@ returns-in-Some c =
     let i = c.in-Some.i in
     let e : a + i ≡ a + (i + 1) - 1 = omega arith in
     let unfit = rw c.row-corners.ensures at c.in-Some.ensures in
-    c.refuse_side.ensures ∙ scan_unfit c.loop-f.invariant refl (omega arith) unfit (λ z. omega arith) refl (c.code_at.ensures ∙ ap side_at e)
+    rw c.at_side.ensures (scan_unfit c.loop-f.invariant refl (omega arith) unfit (λ z. omega arith) refl (c.code_at.ensures ∙ ap side_at e))
 
 pub loop-f-preserved : goal.loop-f-preserved
 loop-f-preserved c =
@@ -28,7 +28,7 @@ loop-f-preserved c =
     rw e (scan_row c.loop-f.invariant refl (omega arith) fit repeated)
 
 pub returns-then-repeated-ne0 : goal.returns-then-repeated-ne0
-returns-then-repeated-ne0 c = c.refuse_side-then-repeated-ne0.ensures ∙ scan_repeated c.loop-f.invariant (omega arith) c.if-repeated-ne0.true
+returns-then-repeated-ne0 c = rw c.at_side-then-repeated-ne0.ensures (scan_repeated c.loop-f.invariant (omega arith) c.if-repeated-ne0.true)
 
 pub returns : goal.returns
-returns c = c.give_two.ensures ∙ scan_nothing c.loop-f.invariant (omega arith) c.if-repeated-ne0.false
+returns c = scan_nothing c.loop-f.invariant (omega arith) c.if-repeated-ne0.false

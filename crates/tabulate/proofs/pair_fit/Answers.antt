@@ -32,4 +32,4 @@ first_sides-requires c =
 pub returns : goal.returns
 returns c =
     let here = grouping c.requires c.wide-vertices.ensures c.siblings-found.ensures.0 in
-    gives_pairs here c.in_ok-check_pairs.ensures refl c.first_sides.ensures c.clashing_element-f.ensures c.give.ensures
+    gives_pairs here c.in_ok-check_pairs.ensures refl c.first_sides.ensures c.clashing_element-f.ensures refl
