@@ -1,4 +1,4 @@
-// Buffers: cleared, copied, compared.
+// Buffers: cleared, copied, compared. Functions stay over std's methods, since their clauses say it in the words of the rules (`onto`, `same`).
 #![tactic(auto)]
 
 ghost use Rattle.std.specs.Prelude.{◌≡◌, ℕ, ◌+◌, ◌≤◌, ◌<◌, length, replicate};

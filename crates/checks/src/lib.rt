@@ -63,6 +63,7 @@ fn is_crowded(n: usize, list: &[u32], work: &[u32], p: usize) -> bool
 }
 
 // Check 6: the least side whose two vertices three or more sides join; 0 where there is none.
+// Kept apart from alike_side: each is a `find` with a test of its own, under a definition of its own.
 fn crowded_side(n: usize, list: &[u32], work: &[u32]) -> u32
     requires { Mapped n list.now work.now }
     ensures { result ≡ crowded_side list.now }

@@ -1,5 +1,6 @@
 // An edge contracted and the gaps closed, document 02, point 8.
 // The buffers are kept as parameters: with a struct of `&mut` buffers each function would owe a clause for each, that it holds the same reference.
+// n and m stay an array of two, `size`: C lends them so.
 #![tactic(auto)]
 
 ghost use Rattle.std.specs.Prelude.{◌≡◌, [], ◌+◌, ◌*◌, ◌≤◌, length, take, get_or};
@@ -272,6 +273,7 @@ fn contract_fit(
 
 // The list with the edge of this code contracted, its tables and points, with k and the number of edges; or a refusal, which leaves all of them
 // as they were. `size` holds n and m. The work buffer is all zero afterwards, but after refusals 1 and 2, which leave it as it was.
+// Kept beside split's, which has the same four steps: the buffers are lent to both one by one, and edits has what they share.
 pub fn contract(
     size: &mut [u32; 2],
     list: &mut [u32],

@@ -83,6 +83,7 @@ fn list_in(
 
 // Writes what the program prints for the text at the start of `out`, and answers how many bytes that is; nothing where `out` has fewer
 // than 22,022 bytes, for which the largest mesh has room.
+// Arrays of fixed length stay: the listing takes at most 200 vertices and elements, and no heap.
 pub fn list_tables(text: &[u8], out: &mut [u8]) -> usize
     ensures written { Written out.old 0 (shown_if (leb 22_022 (length out.old)) (listing text.now)) out.new result }
     ensures counts { Counts result out.new }

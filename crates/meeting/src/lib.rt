@@ -85,6 +85,7 @@ fn is_joined(list: &[u32], s: u32, t: u32) -> bool
 }
 
 // A side of element g joins the vertices of side s.
+// Kept apart from share_side: each is an `any` with a test of its own, under a definition of its own.
 fn has_side(list: &[u32], g: u32, s: u32) -> bool
     requires { Element list.now g × Side list.now s × (elements list.now ≤ max_element) }
     ensures { result ≡ some_number (sides list.now g) (λ j. joins list.now s (8 * g + j)) }

@@ -56,7 +56,7 @@ fn mark_by_element(list: &[u32], f: u32, a: u32, marks: &mut [u32])
     mark(other_corner(row, k, 1, a), marks);
 }
 
-// The vertices that sides of the list join to a are marked.
+// The vertices that sides of the list join to a are marked. A loop over the elements, as others are: what it does with each is its own.
 fn mark_neighbours(list: &[u32], a: u32, marks: &mut [u32])
     requires { Markable list.now marks.old }
     ensures { Marked (Neighbours list.now a) marks.old marks.new }

@@ -86,7 +86,7 @@ pub fn origin(mesh: &Mesh, code: u32) -> Answer
     found(mesh.read_origin(code))
 }
 
-// The vertex to which a half-edge runs.
+// The vertex to which a half-edge runs. Kept apart from `origin`: which end is read is all that either says.
 #[tactic(auto, using(reads::proofs::Tested::half_border, reads::proofs::Tested::half_side, admission::proofs::Admitted::settled), unfolding(rules::specs::Queries::destination_answer))]
 pub fn destination(mesh: &Mesh, code: u32) -> Answer
     ensures { numbers result ≡ destination_answer mesh.now code }

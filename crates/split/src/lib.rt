@@ -1,5 +1,6 @@
 // A new vertex on a side, and its midpoint, document 02, point 6.
 // The buffers are kept as parameters: with a struct of `&mut` buffers each function would owe a clause for each, that it holds the same reference.
+// n and m stay an array of two, `size`: C lends them so.
 #![tactic(auto)]
 
 ghost use Rattle.std.specs.Prelude.{◌≡◌, ◌⊎◌, [], ◌+◌, ◌*◌, ◌-◌, ◌≤◌, length, take, get_or, set};
