@@ -12,14 +12,14 @@ ghost use Rattle.edit_rules.specs.Edits.{over_old};
 ghost use Rattle.edit_rules.specs.Swap.{third};
 ghost use Rattle.edit_rules.specs.Contract.{merged, contracted, contract_answer, contract_leaves, contract_points};
 ghost use Rattle.theory.specs.Coarsening.{beyond};
-ghost use Rattle.answer.specs.Numbers.{numbers};
+ghost use Rattle.answer.specs.Numbers.{numbers, found};
 ghost use Rattle.edits.specs.Holding.{lent_sized};
 ghost use Rattle.edits.specs.Fronts.{Ready};
 ghost use Rattle.gaps.specs.Closing.{ToClose};
 ghost use Rattle.contract.specs.Edges.{Ends};
 ghost use Rattle.contract.specs.Stages.{Admissible, Admitted, Contractible, padded, Roomy, Tried, Replaced, ToWrite, Closable, Closed, Written, Outcome};
 
-use answer::{Answer, Reason, give, refuse};
+use answer::{Answer, Reason, Refusal, refuse};
 use buffers::{clear, copy};
 use edits::{build_front, check_lent, entry_of, is_splittable, is_there};
 use gaps::{all_used, fewer, merge, rename};
@@ -73,24 +73,24 @@ fn edge_of(list: &[u32], s: u32, t: u32) -> Edge
 
 // What follows the trial of the old list, with k border half-edges, and comes before anything is written: 11, 15 and 20. If none is found, the
 // entry of the side in E2e.
-fn admit(n: u32, k: u32, list: &[u32], work: &mut [u32], code: u32) -> Answer
+fn admit(n: u32, k: u32, list: &[u32], work: &mut [u32], code: u32) -> Result<u32, Refusal>
     requires { Admissible n k list.now work.old }
-    ensures admitted { Admitted n list.now code (numbers result) }
+    ensures admitted { Admitted n list.now code (found result) }
     ensures work_len_unchanged { length work.new ≡ length work.old }
 {
     let vertices = wide(n);
     if !is_there(list, k, code) {
-        return refuse(Reason::Absent);
+        return Err(Refusal::of(Reason::Absent));
     }
     if !is_splittable(vertices, list, work, code) {
-        return refuse(Reason::Uneditable);
+        return Err(Refusal::of(Reason::Uneditable));
     }
     let t = entry_of(vertices, list, work, code);
     let edge = edge_of(list, code, t);
     if is_pinched(n, list, work, edge.a, edge.b, edge.c, edge.d) {
-        return refuse(Reason::Pinched);
+        return Err(Refusal::of(Reason::Pinched));
     }
-    give(t)
+    Ok(t)
 }
 
 // What stands between the new length and the old one becomes 0.
@@ -267,7 +267,7 @@ fn contract_fit(
     let m = size[1];
     let rows = 4 * wide(m);
     let k = tabulate_front(n, &list[0..rows], work)?.first;
-    let t = admit(n, k, &list[0..rows], work, code)?.first;
+    let t = admit(n, k, &list[0..rows], work, code)?;
     write(size, columns, list, v2e, e2e, b2e, points, work, code, t)
 }
 

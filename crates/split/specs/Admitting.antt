@@ -1,6 +1,6 @@
 -- Refusals 11, 15, 19 and 9, before anything is written.
 -- Assumes nothing.
-use Rattle.std.specs.Prelude.{◌≡◌, true, false, List, ℕ, ◌+◌, ◌%◌, ◌≤◌, ◌<◌, Float, length}
+use Rattle.std.specs.Prelude.{◌≡◌, Bool, true, false, List, ℕ, ◌+◌, ◌%◌, ◌≤◌, ◌<◌, Float, length}
 use Rattle.std.proofs.Math.Path.{ap, sym}
 use Rattle.std.proofs.Common.{◌∙◌, inl, inr, arith}
 use Rattle.lists.specs.TestLaws.{zero_or}
@@ -19,7 +19,9 @@ use Rattle.theory.specs.SplitAnswers.{split_answer_lem}
 use Rattle.theory.specs.SplitTests.{Holds, means_hold, vertex, new, splits}
 use Rattle.theory.specs.SplitTests as tests
 use Rattle.edits.specs.Trying.{entry_border, entry_partner}
-use Rattle.split.specs.NewRows.{by_border, for_border, for_inner, Cuttable}
+use Rattle.edits.specs.HeldRows.{held_elements}
+use Rattle.split.specs.NewRows.{by_border, for_border, for_inner, Cuttable, elements_then}
+use Rattle.split.specs.Testing.{holds_by, can_hold_by}
 use Rattle.split.specs.Stages.{Admissible, Admitted, denied, allowed}
 
 module _ (w : Lent) (P : List Float) (s : ℕ) where
@@ -52,6 +54,16 @@ module _ (w : Lent) (P : List Float) (s : ℕ) where
               splittable = (means_splittable (held w) s).says (rw fit tt);
               entry = entry;
             }
+
+        -- the new m by the entry, and 19 as it is tried with it
+        module _ {m' : ℕ} (grown : m' ≡ by_border t (w.m + 1) (w.m + 2)) where
+          pub counted : m' ≡ elements (new w s)
+          counted =
+              let m = held_elements w.m w.list x.inside in
+              grown ∙ (λ i. by_border t (sym m i + 1) (sym m i + 2)) ∙ sym (elements_then cuttable (w.n + 1))
+
+          pub tried : {b : Bool} → b ≡ holds_by (w.n + 1) m' c (length w.list) (length w.vertices) (length w.opposites) (length P) (length w.work) → can_hold w P (vertex w) (new w s) ≡ b
+          tried e = sym (can_hold_by w P (w.n + 1) (new w s) x.columned counted) ∙ sym e
 
         -- 19 finds nothing
         module _ (can : can_hold w P (vertex w) (new w s) ≡ true) where

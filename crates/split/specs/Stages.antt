@@ -1,6 +1,6 @@
 -- A split on its way: what is known before 11, 15, 19 and 9 are tried, after them, and in the end.
 -- Assumes nothing.
-use Rattle.std.specs.Prelude.{◌≡◌, List, ℕ, ◌*◌, ◌≤◌, Float, length, take}
+use Rattle.std.specs.Prelude.{◌≡◌, List, ℕ, ◌*◌, ◌≤◌, Float, Result, length, take}
 use Rattle.rules.specs.Elements.{elements}
 use Rattle.rules.specs.Pairing.{Accepted}
 use Rattle.rules.specs.Tables.{borders, edges, columns}
@@ -8,9 +8,12 @@ use Rattle.rules.specs.Refusals.{Answer, gives, refused, list_answer, room_check
 use Rattle.edit_rules.specs.Edits.{becomes, Lent, held, new_answer, written}
 use Rattle.edit_rules.specs.Split.{split, placed}
 use Rattle.theory.specs.SplitTests.{Holds, vertex, new}
+use Rattle.answer.specs.declared.Refusal.{Refusal}
+use Rattle.answer.specs.Numbers.{told}
 use Rattle.edits.specs.Pointed as pointed
 use Rattle.edits.specs.Trying.{Tabled}
 use Rattle.split.specs.NewRows.{Cuttable}
+use Rattle.split.specs.declared.Allowed.{Allowed}
 
 -- the old list was accepted, with k border half-edges and in c columns, and its tables stand in the work buffer
 pub record Admissible (n m c k : ℕ) (list work : List ℕ) : Type 0 where
@@ -29,6 +32,10 @@ pub record ToWrite (w : Lent) (P : List Float) (s t m' : ℕ) : Type 0 where
   pub holds : Holds w P (vertex w) (elements (new w s))
   pub room : borders (new w s) ≤ length w.border
   pub edit : split w P s ≡ becomes (vertex w) (new w s)
+
+-- t and m' where they are given
+abbrev pub allowed_numbers : Result Allowed Refusal → Answer
+allowed_numbers = told (λ x. gives x.opposed x.elements)
 
 -- what 11, 15, 19 and 9 say
 pub data Admitted (w : Lent) (P : List Float) (s : ℕ) (a : Answer) : Type 0 where

@@ -12,9 +12,9 @@ ghost use Rattle.edits.specs.Holding.{lent_edit, lent_sized};
 ghost use Rattle.edits.specs.Fronts.{Ready};
 ghost use Rattle.split.specs.NewRows.{ToHalve, ToSplit, by_border};
 ghost use Rattle.split.specs.Testing.{holds_by};
-ghost use Rattle.split.specs.Stages.{Admissible, ToWrite, Admitted, Written, Outcome};
+ghost use Rattle.split.specs.Stages.{Admissible, ToWrite, allowed_numbers, Admitted, Written, Outcome};
 
-use answer::{Answer, Reason, give_two, refuse, refuse_at};
+use answer::{Answer, Reason, Refusal};
 use buffers::clear;
 use edits::{
     build_front, check_lent, counts_fit, entry_of, has_room, is_splittable, is_there, put_row,
@@ -83,8 +83,14 @@ fn can_hold(
     counts_fit(n, m) && 3 * wide(n) <= points && has_room(n, m, columns, list, v2e, e2e, work)
 }
 
-// What follows the trial of the old list, with k border half-edges, and comes before anything is written: 11, 15, 19 and, by the new k, 9. If
-// none is found, the entry of the side in E2e and the new m.
+// What is written of, where nothing refuses: the entry of the side in E2e, its partner or a border half-edge, and the new m.
+#[derive(Clone, Copy)]
+struct Allowed {
+    opposed: u32,
+    elements: u32,
+}
+
+// What follows the trial of the old list, with k border half-edges, and comes before anything is written: 11, 15, 19 and, by the new k, 9.
 fn admit(
     n: u32,
     m: u32,
@@ -97,18 +103,18 @@ fn admit(
     points: &[f64],
     work: &[u32],
     code: u32,
-) -> Answer
+) -> Result<Allowed, Refusal>
     requires { Admissible n m columns k list.now work.now }
-    ensures { Admitted (lent_edit n m list.now v2e.now e2e.now b2e.now work.now) points.now code (numbers result) }
+    ensures { Admitted (lent_edit n m list.now v2e.now e2e.now b2e.now work.now) points.now code (allowed_numbers result) }
 {
     let vertices = wide(n);
     let rows = 4 * wide(m);
     let held = &list[0..rows];
     if !is_there(held, k, code) {
-        return refuse(Reason::Absent);
+        return Err(Refusal::of(Reason::Absent));
     }
     if !is_splittable(vertices, held, work, code) {
-        return refuse(Reason::Uneditable);
+        return Err(Refusal::of(Reason::Uneditable));
     }
     let t = entry_of(vertices, held, work, code);
     let elements = by_border(t, m + 1, m + 2);
@@ -122,13 +128,16 @@ fn admit(
         points.len(),
         work.len(),
     ) {
-        return refuse(Reason::Full);
+        return Err(Refusal::of(Reason::Full));
     }
     let borders = by_border(t, k + 1, k);
     if b2e.len() < wide(borders) {
-        return refuse_at(Reason::Borders, borders, 0);
+        return Err(Refusal::at(Reason::Borders, borders, 0));
     }
-    give_two(t, elements)
+    Ok(Allowed {
+        opposed: t,
+        elements,
+    })
 }
 
 // The new list, its tables, the midpoint and the new n and m are written; t is the entry of s in E2e, and `elements` the new m.
@@ -181,10 +190,10 @@ fn split_fit(
     let m = size[1];
     let rows = 4 * wide(m);
     let k = tabulate_front(n, &list[0..rows], work)?.first;
-    let admitted = admit(n, m, columns, k, list, v2e, e2e, b2e, points, work, code)?;
+    let allowed = admit(n, m, columns, k, list, v2e, e2e, b2e, points, work, code)?;
     write(
         size,
-        admitted.second,
+        allowed.elements,
         columns,
         list,
         v2e,
@@ -193,7 +202,7 @@ fn split_fit(
         points,
         work,
         code,
-        admitted.first,
+        allowed.opposed,
     )
 }
 

@@ -30,13 +30,13 @@ admit-requires c =
     let rows : 4 * c.wide-rows.result - 0 ≡ 4 * w.m = omega arith in
     admissible w a.points.now a.code c.requires rows c.in_ok-k.ensures refl
 
-pub returns-in_err-admitted-clause-outcome : goal.returns-in_err-admitted-clause-outcome
-returns-in_err-admitted-clause-outcome c =
+pub returns-in_err-allowed-clause-outcome : goal.returns-in_err-allowed-clause-outcome
+returns-in_err-allowed-clause-outcome c =
     let a = c.args in
     let w = lent_sized a.size.now a.list.now a.v2e.now a.e2e.now a.b2e.now a.work.now in
-    let p = err_from_is_err_and c.from_residual-in_err-admitted.result c.from_residual-in_err-admitted.ensures.1 in
+    let p = err_from_is_err_and c.from_residual-in_err-allowed.result c.from_residual-in_err-allowed.ensures.1 in
     let rows : 4 * c.wide-rows.result - 0 ≡ 4 * w.m = omega arith in
-    rw (p.1, p.2) (new_denied w a.points.now a.code c.requires rows c.in_ok-k.ensures refl refl c.in_err-admitted.ensures).0
+    rw (p.1, p.2) (new_denied w a.points.now a.code c.requires rows c.in_ok-k.ensures refl refl c.in_err-allowed.ensures).0
 
 pub write-requires : goal.write-requires
 write-requires c =
@@ -44,7 +44,7 @@ write-requires c =
     let w = lent_sized a.size.now a.list.now a.v2e.now a.e2e.now a.b2e.now a.work.now in
     let rows : 4 * c.wide-rows.result - 0 ≡ 4 * w.m = omega arith in
     record {
-      to_write = new_allowed w a.points.now a.code c.requires rows c.in_ok-k.ensures refl refl c.in_ok-admitted.ensures;
+      to_write = new_allowed w a.points.now a.code c.requires rows c.in_ok-k.ensures refl refl c.in_ok-allowed.ensures;
       columns_value = c.requires.long.columned;
     }
 
@@ -53,5 +53,5 @@ returns-clause-outcome c =
     let a = c.args in
     let w = lent_sized a.size.now a.list.now a.v2e.now a.e2e.now a.b2e.now a.work.now in
     let rows : 4 * c.wide-rows.result - 0 ≡ 4 * w.m = omega arith in
-    let may = new_allowed w a.points.now a.code c.requires rows c.in_ok-k.ensures refl refl c.in_ok-admitted.ensures in
+    let may = new_allowed w a.points.now a.code c.requires rows c.in_ok-k.ensures refl refl c.in_ok-allowed.ensures in
     all_done w a.points.now a.code c.requires rows c.in_ok-k.ensures refl may c.write.ensures.written
