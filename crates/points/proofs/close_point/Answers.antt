@@ -6,9 +6,4 @@ use Rattle.points.proofs.close_point.Goals as goal
 
 pub returns : goal.returns
 unfolding Ieee.of_bits
-returns c =
-    let zeroed = c in
-    let moved = zeroed in
-    let last = moved in
-    let args = last.args in
-    closed args.n args.b args.points.now last.point_of-p.ensures moved.put_point.ensures zeroed.put_point-2.ensures
+returns c = closed c.args.n c.args.b c.args.points.now c.of-last.ensures c.put.ensures c.put-2.ensures

@@ -1,7 +1,6 @@
 -- `points::place_midpoint` meets its contract.
 -- Assumes nothing.
-use mathlib.Core.Path.{ap, ◌∙◌}
-use mathlib.Core.List.{List}
+use Rattle.std.proofs.Common.{ap, ◌∙◌, List}
 use lib.Ieee.{Float}
 use Rattle.edit_rules.specs.Split.{with_point}
 use Rattle.points.specs.Placing.{middle}
@@ -9,11 +8,7 @@ use Rattle.points.proofs.place_midpoint.Goals as goal
 
 pub returns : goal.returns
 returns c =
-    let put = c in
-    let mid = put in
-    let second = mid in
-    let first = second in
-    let args = first.args in
-    let P = args.points.now in
-    let same = middle P args.a args.b first.point_of-p.ensures second.point_of-q.ensures mid.midpoint.ensures in
-    put.put_point.ensures ∙ ap (λ (p : List Float). with_point args.n p P) same
+    let a = c.args in
+    let P = a.points.now in
+    let same = middle P a.a a.b c.of-p.ensures c.of-q.ensures c.midpoint.ensures in
+    c.put.ensures ∙ ap (λ (p : List Float). with_point a.n p P) same
