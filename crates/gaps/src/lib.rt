@@ -63,7 +63,7 @@ pub fn rename(old: u32, new: u32, list: &mut [u32])
     }
 }
 
-// The triangles on the edge of side s, from a to b, go, and every b becomes a.
+// The triangles on the edge of side s, from a to b, go, and every b becomes a. The edge's vertices stay parameters: only contract has all four.
 pub fn merge(m: u32, list: &mut [u32], s: u32, t: u32, a: u32, b: u32)
     requires { ToClose m list.old s t × (a ≡ origin (take (4 * m) list.old) s) × (b ≡ destination (take (4 * m) list.old) s) }
     ensures { (length list.new ≡ length list.old) × (take (4 * fewer_by m t) list.new ≡ merged (take (4 * m) list.old) s) }

@@ -211,7 +211,7 @@ fn entry(part: &[u32], i: usize) -> u32
     part.get(i).copied().unwrap_or(0)
 }
 
-// x as an index. Kept as a function: std has no From<u32> for usize, and this is the one place of the cast.
+// x as an index. Kept as a function: std has no From<u32> for usize, and crates over this one cast nowhere else.
 pub fn wide(x: u32) -> usize
     ensures { result ≡ x }
 {

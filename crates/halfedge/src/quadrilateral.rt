@@ -1,6 +1,6 @@
 // The sides of a quadrilateral, QUAD_4 in the figures of CGNS: side 1 runs from corner 1 to corner 2, side 2 from 2 to 3, side 3 from 3 to 4,
 // side 4 from 4 to 1.
-// Kept as tables by cases: they are read beside the figure.
+// Kept as tables by cases, in which 0 is no side: they are read beside the figure.
 ghost use Rattle.std.specs.Prelude.{◌≡◌};
 ghost use Rattle.rules.specs.Elements.{next_number, previous_number};
 ghost use Rattle.halfedge.specs.Rows.{step_in};

@@ -35,7 +35,8 @@ fn read_nexts(fitting: &Fitting, work: &mut [u32]) -> Option<()>
     Some(())
 }
 
-// Marks the loop of b with h: how many border half-edges it has, if it comes back. M is any mesh whose work this is.
+// Marks the loop of b with h: how many border half-edges it has, if it comes back. M is any mesh whose work this is. The loop goes where the
+// work tells it.
 fn mark_loop(k: u32, b: u32, h: u32, work: &mut [u32]) -> Option<u32>
     requires { (M : Told) × Of M k × Open M b h work.old }
     ensures { (M : Told) → Of M k → Open M b h work.old → Followed M b h (read_of result) work.old work.new }

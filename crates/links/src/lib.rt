@@ -1,5 +1,6 @@
 // The part of the work buffer that the walk's start reads: for each border number the least side with that border, by an E2e of any content.
 // n, m and work stay parameters: work is lent as a `&mut`, and a struct would owe a clause in each function that it holds the same reference.
+// Side 0 is none, as in the rules' `walk_start`.
 #![tactic(auto)]
 
 ghost use Rattle.std.specs.Prelude.{◌+◌, ◌*◌, ◌<◌};

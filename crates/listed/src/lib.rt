@@ -12,7 +12,7 @@ use answer::Reason;
 use halfedge::wide;
 use text::ParseError;
 
-// Writes the lines of the mesh, or of build's refusal.
+// Writes the lines of the mesh, or of build's refusal. The buffers stay parameters, here and below: they are lent one by one to build.
 fn list_mesh(
     n: u32,
     columns: u32,

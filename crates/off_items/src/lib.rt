@@ -20,7 +20,7 @@ pub enum Kind {
     Decimal,
 }
 
-// An item of the kind looked for: its number if it is a whole one, and the place after it.
+// An item of the kind looked for: its number if it is a whole one (0 of others, which nobody reads), and the place after it.
 #[derive(Clone, Copy)]
 pub struct Found {
     pub value: u32,

@@ -27,7 +27,7 @@ fn turn(e2e: &[u32], s: u32) -> u32
 }
 
 // The sides that the walk meets about v, counted on from those that it met before: from the start by turns, up to a border side or until it
-// comes back.
+// comes back. The loop follows turns.
 fn count_about(n: usize, list: &[u32], work: &[u32], v: usize, met: u32) -> u32
     requires { Standing n list.now work.now × (1 ≤ v) × (v ≤ n) × MetBy n list.now (v - 1) met }
     ensures { MetBy n list.now v result }

@@ -18,7 +18,7 @@ pub trait Walk {
     // What it goes over.
     ghost stands: { Self → ℕ → Type 0 };
 
-    // What is listed for a step, and what comes after it, 0 where the walk stops.
+    // What is listed for a step, and what comes after it, 0 where the walk stops, as in the rules' `follow`.
     ghost shows: { Self → ℕ → Read ℕ };
 
     ghost goes: { Self → ℕ → Read ℕ };
@@ -107,7 +107,7 @@ impl Walk for Borders<'_> {
 }
 
 // A pass over a walk of at most `limit` steps: how many entries it lists. They are written where `out` has room for them, so that a pass
-// over an empty one only counts.
+// over an empty one only counts. The loop goes where the walk leads.
 fn pass<W: Walk>(walk: &W, limit: u32, start: u32, out: &mut [u32]) -> Option<u32>
     requires { (start ≡ 0 → ⊥) → W.stands walk.now start }
     ensures size { read_of result ≡ size_of (walked (W.shows walk.now) (W.goes walk.now) limit start) }
@@ -146,6 +146,7 @@ pub fn list_walk<W: Walk>(walk: &W, limit: u32, start: u32, prior: u32, out: &mu
     if prior != 0 {
         out[0] = prior;
     }
+    // It comes to its end again, and writes.
     let _ = pass(walk, limit, start, &mut out[wide(first)..wide(needed)]);
     give(needed)
 }

@@ -96,7 +96,7 @@ fn meets_marked(list: &[u32], b: u32, c: u32, d: u32, marks: &[u32]) -> bool
     (1..=m).any(|f| meets_by_element(list, f, b, c, d, marks))
 }
 
-// Whether a and b have a common neighbour other than c and d. The first n entries of the work are scratch.
+// Whether a and b have a common neighbour other than c and d. The four stay parameters: no function but this asks for all of them. The first n entries of the work are scratch.
 pub fn is_pinched(n: u32, list: &[u32], work: &mut [u32], a: u32, b: u32, c: u32, d: u32) -> bool
     requires { Fit n list.now × (n ≤ length work.old) }
     ensures value { result ≡ pinches_by n list.now a b c d }

@@ -1,4 +1,5 @@
 // What a query reads from a mesh: a value that names something, or nothing where an entry is broken.
+// A ring that stops, a loop that closes and a vertex that is unused are told by 0, as in the rules' `onward`, `loop_next` and `start_side`.
 #![tactic(auto)]
 
 ghost use Rattle.std.specs.Prelude.{◌≡◌, ◌≤◌, T, length};

@@ -12,7 +12,7 @@ use answer::{Answer, Reason, Refusal, give};
 use halfedge::element_of;
 use reads::{Fitting, Mesh};
 
-// The ring's start side, the side whose element comes next (0 when the ring is over), and the count handed out.
+// The ring's start side, the side whose element comes next (0 when the ring is over, as in the paper's record), and the count handed out.
 #[derive(Clone, Copy)]
 pub struct Walker {
     pub start: u32,
