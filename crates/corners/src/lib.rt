@@ -1,5 +1,5 @@
 // Checks 3 and 4: unfit and repeated corners.
-// Side 0 is none, as in the rules' `row_checks`.
+// Side 0 is none: what the pass has found so far is a code, of which its facts speak (`Scanned`, `Repeating`).
 #![tactic(auto)]
 
 ghost use Rattle.std.specs.Prelude.{◌≡◌, ◌+◌, ◌*◌, ◌≤◌, length};

@@ -45,6 +45,7 @@ fn put_item(out: &mut [u8], p: usize, numbers: &[u32], i: usize) -> usize
 }
 
 // Writes a comma and the digits of each number.
+// By index, as `put_item`: the definition `item` is told the numbers and the place.
 fn put_items(out: &mut [u8], at: usize, numbers: &[u32]) -> usize
     requires { at + 11 * length numbers.now ≤ length out.old }
     ensures written { Written out.old at (items numbers.now) out.new result }
