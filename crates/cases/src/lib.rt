@@ -1,10 +1,17 @@
 // What the test programs share. A program reads its cases from standard input, a case to a line: the label, and then numbers, each after
 // one byte that is no digit; the first such byte is a semicolon. Lines with no semicolon are headings of the cases after them.
+// What reads or prints (read_case, run, print_line, print_refusal, print_clean, Lent::print) promises nothing: no contract can say what a terminal gives or gets.
 #![tactic(auto)]
+
+ghost use Rattle.std.specs.Prelude.{◌≡◌, ◌*◌, ◌↔◌, min, length as List·length, take, drop, replicate, IsTrue, IfOk, EachIndex, slice_index, vec_len};
+ghost use Rattle.cases.specs.Cases.{left_after, three};
 
 use answer::{Answer, Reason, Refusal};
 use std::alloc::{AllocError, Global};
 use std::io;
+
+// How many numbers a case has at most.
+pub const MOST: usize = 127;
 
 // What a work buffer holds before a call.
 pub const WORK: u32 = 5;
@@ -61,31 +68,52 @@ pub const POINTS: [f64; 45] = [
     22.0,
 ];
 
-// The numbers of a text, one more than its bytes that are no digit; 0 for one with no digit and for one that is too large.
+// The number x with a digit more; x where that is too large.
+fn with_digit(x: u32, digit: u8) -> u32 {
+    let longer = 10 * u64::from(x) + u64::from(digit);
+    u32::try_from(longer).unwrap_or(x)
+}
+
+// The number of these digits; 0 where there are none.
+fn number_of(digits: &str) -> u32 {
+    let bytes = digits.as_bytes().iter();
+    bytes.fold(0, |x, b| with_digit(x, b.saturating_sub(b'0')))
+}
+
+// The numbers of a text, one more than its bytes that are no digit.
 fn numbers_in(alloc: Global, text: &str) -> Result<Vec<u32>, AllocError> {
     text.split(|c: char| !c.is_ascii_digit())
-        .map(|digits| digits.parse::<u32>().unwrap_or(0))
+        .map(number_of)
         .collect(alloc)
 }
 
-// Prints the label of a case and answers its numbers; none for a heading.
-pub fn read_case(rt: &(impl Print + AllocGlobal), line: &str) -> io::Result<Option<Vec<u32>>> {
-    let Some((label, numbers)) = line.split_once(';') else {
+// Prints the label of a case and answers its numbers, with zeros after them where they are fewer than `least`; none for a heading.
+pub fn read_case(
+    rt: &(impl Print + AllocGlobal),
+    line: &str,
+    least: usize,
+) -> io::Result<Option<Vec<u32>>> {
+    let Some((label, text)) = line.split_once(';') else {
         return Ok(None);
     };
     rt.println(label)?;
-    Ok(Some(numbers_in(rt.alloc(), numbers)?))
+    let mut numbers = numbers_in(rt.alloc(), text)?;
+    for _ in numbers.len()..least {
+        numbers.push(0)?;
+    }
+    Ok(Some(numbers))
 }
 
-// Runs each case of standard input on its numbers.
+// Runs each case of standard input on its numbers, at least so many.
 pub fn run<R: Input + Print + AllocGlobal, F: FnMut(&[u32]) -> io::Result<()>>(
     rt: &R,
+    least: usize,
     mut run_case: F,
 ) -> io::Result<()>
     requires { F.IsAlwaysCallable run_case }
 {
     for line in rt.lines(rt.alloc()) {
-        if let Some(numbers) = read_case(rt, &line?)? {
+        if let Some(numbers) = read_case(rt, &line?, least)? {
             run_case(&numbers)?;
         }
     }
@@ -93,22 +121,31 @@ pub fn run<R: Input + Print + AllocGlobal, F: FnMut(&[u32]) -> io::Result<()>>(
 }
 
 // The part of this length at the start of the numbers, and the numbers after it.
-pub fn part(numbers: &[u32], length: u32) -> (&[u32], &[u32]) {
+pub fn part(numbers: &[u32], length: u32) -> (&[u32], &[u32])
+    ensures front { result.0.now ≡ take (min (List·length numbers.now) length) numbers.now }
+    ensures back { result.1.now ≡ drop (min (List·length numbers.now) length) numbers.now }
+{
     numbers.split_at(numbers.len().min(length as usize))
 }
 
 // A buffer of this length, filled with x.
-pub fn filled(alloc: Global, x: u32, length: u32) -> Result<Vec<u32>, AllocError> {
+pub fn filled(alloc: Global, x: u32, length: u32) -> Result<Vec<u32>, AllocError>
+    ensures { IfOk result (λ v. v.items ≡ replicate length x) }
+{
     vec![in alloc; x; length as usize]
 }
 
 // Whether each entry is x.
-pub fn is_all(a: &[u32], x: u32) -> bool {
+pub fn is_all(a: &[u32], x: u32) -> bool
+    ensures { IsTrue result ↔ EachIndex a.now (λ k. slice_index a.now k ≡ x) }
+{
     a.iter().all(|y| *y == x)
 }
 
 // Whether the work buffer is as it must be after this answer: refusals 1 and 2 leave it, and else it is zero.
-pub fn is_work_left(a: Answer, work: &[u32]) -> bool {
+pub fn is_work_left(a: Answer, work: &[u32]) -> bool
+    ensures { IsTrue result ↔ EachIndex work.now (λ k. slice_index work.now k ≡ left_after a) }
+{
     let left = match a.map_err(|refusal| refusal.reason) {
         Err(Reason::Sizes | Reason::Lengths) => WORK,
         _ => 0,
@@ -117,7 +154,9 @@ pub fn is_work_left(a: Answer, work: &[u32]) -> bool {
 }
 
 // A refusal's three numbers; 0 and the two numbers of any other answer.
-pub fn numbers_of(a: Answer) -> [u32; 3] {
+pub fn numbers_of(a: Answer) -> [u32; 3]
+    ensures { result ≡ three a }
+{
     match a {
         Ok(given) => [0, given.first, given.second],
         Err(refusal) => [refusal.reason.number(), refusal.first, refusal.second],
@@ -130,7 +169,9 @@ fn bits_of(x: f64) -> u64 {
 }
 
 // The bits of points, the upper half of each number first.
-pub fn halves(alloc: Global, points: &[f64]) -> Result<Vec<u32>, AllocError> {
+pub fn halves(alloc: Global, points: &[f64]) -> Result<Vec<u32>, AllocError>
+    ensures { IfOk result (λ h. vec_len h ≡ 2 * List·length points.now) }
+{
     let mut halves = Vec::new(alloc);
     for x in points {
         let bits = bits_of(*x);

@@ -18,11 +18,11 @@ fn run_case(rt: &(impl Print + AllocGlobal), numbers: &[u32]) -> io::Result<()> 
     let &[n, m, code, v, e, b, w, p, ref list @ ..] = numbers else {
         return Ok(());
     };
-    let mut lent = Lent::new(rt.alloc(), [n, m], list, [v, e, b])?;
+    let mut lent = Lent::new(rt.alloc(), [n, m], list, [v.min(40), e.min(60), b.min(40)])?;
     let mut points = cases::POINTS;
-    let mut work = cases::filled(rt.alloc(), cases::WORK, w)?;
+    let mut work = cases::filled(rt.alloc(), cases::WORK, w.min(240))?;
     let before = lent.clone()?;
-    let end = points.len().min(p as usize);
+    let end = (p as usize).min(44);
     let a = contract::contract(
         &mut lent.size,
         &mut lent.list,
@@ -38,8 +38,7 @@ fn run_case(rt: &(impl Print + AllocGlobal), numbers: &[u32]) -> io::Result<()> 
             cases::print_line(rt, 'N', &[given.first, given.second])?;
             cases::print_line(rt, 'S', &lent.size)?;
             lent.print(rt)?;
-            let halves = cases::halves(rt.alloc(), &points[..end])?;
-            cases::print_line(rt, 'P', &halves)?;
+            cases::print_line(rt, 'P', &cases::halves(rt.alloc(), &points[..end])?)?;
         }
         Err(refusal) => cases::print_refusal(rt, refusal)?,
     }
@@ -50,5 +49,5 @@ fn run_case(rt: &(impl Print + AllocGlobal), numbers: &[u32]) -> io::Result<()> 
 }
 
 fn main(rt: HostRuntime) -> io::Result<()> {
-    cases::run(&rt, |numbers| run_case(&rt, numbers))
+    cases::run(&rt, 8, |numbers| run_case(&rt, numbers))
 }

@@ -33,9 +33,9 @@ fn run_case(rt: &(impl Print + AllocGlobal), numbers: &[u32]) -> io::Result<()> 
         e2e,
         b2e,
     };
-    let mut hole = cases::filled(rt.alloc(), LEFT, h)?;
-    let mut lengths = cases::filled(rt.alloc(), LEFT, l)?;
-    let mut work = cases::filled(rt.alloc(), cases::WORK, w)?;
+    let mut hole = cases::filled(rt.alloc(), LEFT, h.min(20))?;
+    let mut lengths = cases::filled(rt.alloc(), LEFT, l.min(20))?;
+    let mut work = cases::filled(rt.alloc(), cases::WORK, w.min(200))?;
     let a = holes::holes(&mesh, &mut hole, &mut lengths, &mut work);
     match a {
         Ok(given) => {
@@ -50,5 +50,5 @@ fn run_case(rt: &(impl Print + AllocGlobal), numbers: &[u32]) -> io::Result<()> 
 }
 
 fn main(rt: HostRuntime) -> io::Result<()> {
-    cases::run(&rt, |numbers| run_case(&rt, numbers))
+    cases::run(&rt, cases::MOST, |numbers| run_case(&rt, numbers))
 }

@@ -11,7 +11,7 @@ use std::io::{BufRead, Read};
 const KEPT: u32 = 9;
 
 fn run_case(rt: &(impl Print + AllocGlobal), list_length: u32, text: &[u8]) -> io::Result<()> {
-    let mut list = cases::filled(rt.alloc(), KEPT, list_length)?;
+    let mut list = cases::filled(rt.alloc(), KEPT, list_length.min(64))?;
     let kept = match off::read_off(text, &mut list) {
         Ok(given) => {
             let entries = list.len().min(4 * given.second as usize);
@@ -31,15 +31,16 @@ fn run_case(rt: &(impl Print + AllocGlobal), list_length: u32, text: &[u8]) -> i
 fn main(rt: HostRuntime) -> io::Result<()> {
     let mut input = rt.reader();
     let mut line = String::new(rt.alloc());
+    // The reader tells the end; counted, so that the loop is seen to end.
     for _ in 0..u64::MAX {
         line.clear();
         if input.read_line(&mut line)? == 0 {
             break;
         }
-        let Some(numbers) = cases::read_case(&rt, line.trim_end())? else {
+        let Some(numbers) = cases::read_case(&rt, line.trim_end(), 2)? else {
             continue;
         };
-        if let &[list_length, text_length] = &numbers[..] {
+        if let &[list_length, text_length, ..] = &numbers[..] {
             let mut text = vec![in rt.alloc(); 0; text_length as usize]?;
             input.read_exact(&mut text)?;
             run_case(&rt, list_length, &text)?;

@@ -48,17 +48,17 @@ struct Counts {
 impl Case<'_> {
     // Whether build accepts the list and writes exactly the tables of the case.
     fn has_tables(self, alloc: Global, list: &[u32]) -> Result<bool, AllocError> {
-        let mut v2e = vec![in alloc; 0; self.v2e.len()]?;
-        let mut e2e = vec![in alloc; 0; self.e2e.len()]?;
-        let mut b2e = [0; 40];
-        let mut work = [0; 200];
+        let mut v2e = vec![in alloc; 0; self.v2e.len().min(12)]?;
+        let mut e2e = vec![in alloc; 0; self.e2e.len().min(40)]?;
+        let mut b2e = cases::filled(alloc, 0, 40)?;
+        let mut work = cases::filled(alloc, 0, 200)?;
         let a = build::build(self.n, list, &mut v2e, &mut e2e, &mut b2e, &mut work);
         Ok(a.is_ok() && v2e.as_slice() == self.v2e && e2e.as_slice() == self.e2e)
     }
 
     fn recover(self, alloc: Global) -> Result<Outcome, AllocError> {
-        let mut list = cases::filled(alloc, LIST, self.list_length)?;
-        let mut work = cases::filled(alloc, cases::WORK, self.work_length)?;
+        let mut list = cases::filled(alloc, LIST, self.list_length.min(40))?;
+        let mut work = cases::filled(alloc, cases::WORK, self.work_length.min(200))?;
         let answer = recover::recover(self.n, self.m, self.v2e, self.e2e, &mut list, &mut work);
         let is_kept = match answer {
             Ok(_) => self.has_tables(alloc, &list)?,
@@ -148,14 +148,14 @@ fn run_case(rt: &(impl Print + AllocGlobal), numbers: &[u32]) -> io::Result<()> 
     if each == 0 {
         return Ok(());
     }
-    // An entry is made greater by 1; made 0; made that of the entry after it; and both are exchanged. An entry 0 that is made 0 stays, and
+    // An entry below 1000 is made greater by 1; made 0; made that of the entry after it; and both are exchanged. An entry 0 that is made 0 stays, and
     // gives the same list.
-    change_each(rt, case, '+', |x, y| (x.saturating_add(1), y))?;
+    change_each(rt, case, '+', |x, y| (if x < 1000 { x + 1 } else { x }, y))?;
     change_each(rt, case, '0', |_, y| (0, y))?;
     change_each(rt, case, 'N', |_, y| (y, y))?;
     change_each(rt, case, 'S', |x, y| (y, x))
 }
 
 fn main(rt: HostRuntime) -> io::Result<()> {
-    cases::run(&rt, |numbers| run_case(&rt, numbers))
+    cases::run(&rt, cases::MOST, |numbers| run_case(&rt, numbers))
 }

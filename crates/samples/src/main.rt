@@ -16,10 +16,10 @@ fn run_case(rt: &(impl Print + AllocGlobal), numbers: &[u32]) -> io::Result<()> 
     let &[n, v, e, b, w, ref list @ ..] = numbers else {
         return Ok(());
     };
-    let mut v2e = cases::filled(rt.alloc(), TABLE, v)?;
-    let mut e2e = cases::filled(rt.alloc(), TABLE, e)?;
-    let mut b2e = cases::filled(rt.alloc(), TABLE, b)?;
-    let mut work = cases::filled(rt.alloc(), cases::WORK, w)?;
+    let mut v2e = cases::filled(rt.alloc(), TABLE, v.min(12))?;
+    let mut e2e = cases::filled(rt.alloc(), TABLE, e.min(40))?;
+    let mut b2e = cases::filled(rt.alloc(), TABLE, b.min(30))?;
+    let mut work = cases::filled(rt.alloc(), cases::WORK, w.min(200))?;
     let a = build::build(n, list, &mut v2e, &mut e2e, &mut b2e, &mut work);
     let kept = match a {
         Ok(given) => {
@@ -43,5 +43,5 @@ fn run_case(rt: &(impl Print + AllocGlobal), numbers: &[u32]) -> io::Result<()> 
 }
 
 fn main(rt: HostRuntime) -> io::Result<()> {
-    cases::run(&rt, |numbers| run_case(&rt, numbers))
+    cases::run(&rt, 5, |numbers| run_case(&rt, numbers))
 }

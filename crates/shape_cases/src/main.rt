@@ -10,7 +10,7 @@ fn run_case(rt: &(impl Print + AllocGlobal), numbers: &[u32]) -> io::Result<()> 
     let &[n, w, ref list @ ..] = numbers else {
         return Ok(());
     };
-    let mut work = cases::filled(rt.alloc(), cases::WORK, w)?;
+    let mut work = cases::filled(rt.alloc(), cases::WORK, w.min(500))?;
     let a = shape::shape(n, list, &mut work);
     match a {
         Ok(given) => cases::print_line(rt, 'N', &[given.first, given.second])?,
@@ -20,5 +20,5 @@ fn run_case(rt: &(impl Print + AllocGlobal), numbers: &[u32]) -> io::Result<()> 
 }
 
 fn main(rt: HostRuntime) -> io::Result<()> {
-    cases::run(&rt, |numbers| run_case(&rt, numbers))
+    cases::run(&rt, 2, |numbers| run_case(&rt, numbers))
 }

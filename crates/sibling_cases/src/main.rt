@@ -14,9 +14,9 @@ fn run_case(rt: &(impl Print + AllocGlobal), numbers: &[u32]) -> io::Result<()> 
     let &[n, v, s, w, ref list @ ..] = numbers else {
         return Ok(());
     };
-    let mut v2e = cases::filled(rt.alloc(), MAP, v)?;
-    let mut sibhe = cases::filled(rt.alloc(), MAP, s)?;
-    let mut work = cases::filled(rt.alloc(), cases::WORK, w)?;
+    let mut v2e = cases::filled(rt.alloc(), MAP, v.min(12))?;
+    let mut sibhe = cases::filled(rt.alloc(), MAP, s.min(40))?;
+    let mut work = cases::filled(rt.alloc(), cases::WORK, w.min(200))?;
     let a = sibling_map::siblings(n, list, &mut v2e, &mut sibhe, &mut work);
     match a {
         Ok(_) => {
@@ -32,5 +32,5 @@ fn run_case(rt: &(impl Print + AllocGlobal), numbers: &[u32]) -> io::Result<()> 
 }
 
 fn main(rt: HostRuntime) -> io::Result<()> {
-    cases::run(&rt, |numbers| run_case(&rt, numbers))
+    cases::run(&rt, 4, |numbers| run_case(&rt, numbers))
 }

@@ -18,9 +18,9 @@ fn run_case(rt: &(impl Print + AllocGlobal), numbers: &[u32]) -> io::Result<()> 
     let &[n, m, code, v, e, b, w, p, ref list @ ..] = numbers else {
         return Ok(());
     };
-    let mut lent = Lent::new(rt.alloc(), [n, m], list, [v, e, b])?;
+    let mut lent = Lent::new(rt.alloc(), [n, m], list, [v.min(40), e.min(60), b.min(40)])?;
     let mut points = cases::POINTS;
-    let mut work = cases::filled(rt.alloc(), cases::WORK, w)?;
+    let mut work = cases::filled(rt.alloc(), cases::WORK, w.min(240))?;
     let before = lent.clone()?;
     let end = points.len().min(p as usize);
     let a = split::split(
@@ -54,5 +54,5 @@ fn run_case(rt: &(impl Print + AllocGlobal), numbers: &[u32]) -> io::Result<()> 
 }
 
 fn main(rt: HostRuntime) -> io::Result<()> {
-    cases::run(&rt, |numbers| run_case(&rt, numbers))
+    cases::run(&rt, 8, |numbers| run_case(&rt, numbers))
 }

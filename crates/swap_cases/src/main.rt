@@ -18,8 +18,8 @@ fn run_case(rt: &(impl Print + AllocGlobal), numbers: &[u32]) -> io::Result<()> 
     let &[n, m, code, v, e, b, w, ref list @ ..] = numbers else {
         return Ok(());
     };
-    let mut lent = Lent::new(rt.alloc(), [n, m], list, [v, e, b])?;
-    let mut work = cases::filled(rt.alloc(), cases::WORK, w)?;
+    let mut lent = Lent::new(rt.alloc(), [n, m], list, [v.min(40), e.min(60), b.min(40)])?;
+    let mut work = cases::filled(rt.alloc(), cases::WORK, w.min(200))?;
     let before = lent.clone()?;
     let a = swap::swap(
         n,
@@ -43,5 +43,5 @@ fn run_case(rt: &(impl Print + AllocGlobal), numbers: &[u32]) -> io::Result<()> 
 }
 
 fn main(rt: HostRuntime) -> io::Result<()> {
-    cases::run(&rt, |numbers| run_case(&rt, numbers))
+    cases::run(&rt, 7, |numbers| run_case(&rt, numbers))
 }
