@@ -218,8 +218,14 @@ impl Lent {
         alloc: Global,
         size: [u32; 2],
         list: &[u32],
-        [v2e, e2e, b2e]: [u32; 3],
-    ) -> Result<Lent, AllocError> {
+        lengths: [u32; 3],
+    ) -> Result<Lent, AllocError>
+        ensures copied { IfOk result (λ l. (l.size ≡ size) × (l.list.items ≡ list.now)) }
+        ensures filled { IfOk result (λ l. (l.v2e.items ≡ replicate (slice_index lengths 0) TABLE)
+            × (l.e2e.items ≡ replicate (slice_index lengths 1) TABLE)
+            × (l.b2e.items ≡ replicate (slice_index lengths 2) TABLE)) }
+    {
+        let [v2e, e2e, b2e] = lengths;
         Ok(Lent {
             size,
             list: list.to_vec(alloc)?,
