@@ -1,16 +1,20 @@
 // What the test programs share. A program reads its cases from standard input, a case to a line: the label, and then numbers, each after
-// one byte that is no digit; the first such byte is a semicolon. Lines with no semicolon are headings of the cases after them.
-// What reads or prints (read_case, run, print_line, print_refusal, print_clean, Lent::print) promises nothing: no contract can say what a terminal gives or gets.
+// one byte that is no digit; the first such byte is a semicolon. Lines with no semicolon are headings of the cases after them; after the last
+// case, the last line is the label of a case of zeros.
+// What reads or prints (read_input, open, run, print_label, print_line, print_refusal, print_clean, Lent::print) promises nothing of it: no contract
+// can say what a terminal gives or gets. A write that fails is passed over.
 #![tactic(auto)]
 
-ghost use Rattle.std.specs.Prelude.{◌≡◌, ◌*◌, ◌↔◌, min, length as List·length, take, drop, replicate, IsTrue, IfOk, EachIndex, slice_index, vec_len};
+ghost use Rattle.std.specs.Prelude.{◌≡◌, ◌*◌, ◌<◌, ◌≤◌, ◌↔◌, ◌++◌, min, length as List·length, take, drop, replicate, IsTrue, IfOk, EachIndex, slice_index, vec_len};
 ghost use Rattle.cases.specs.Cases.{left_after, three};
 
 use answer::{Answer, Reason, Refusal};
 use std::alloc::{AllocError, Global};
-use std::io;
 
-// How many numbers a case has at most.
+// How many bytes of its input a program reads at most, but for that with the longest.
+pub const ROOM: usize = 8192;
+
+// How many numbers a case has at most; the digits after more are digits of the last.
 pub const MOST: usize = 127;
 
 // What a work buffer holds before a call.
@@ -74,54 +78,85 @@ fn with_digit(x: u32, digit: u8) -> u32 {
     u32::try_from(longer).unwrap_or(x)
 }
 
-// The number of these digits; 0 where there are none.
-fn number_of(digits: &str) -> u32 {
-    let bytes = digits.as_bytes().iter();
-    bytes.fold(0, |x, b| with_digit(x, b.saturating_sub(b'0')))
+// A number after each byte that is no digit.
+fn numbers_in(alloc: Global, text: &[u8]) -> Result<Vec<u32>, AllocError>
+    ensures { IfOk result (λ v. vec_len v ≤ 127) }
+{
+    let mut numbers = Vec::new(alloc);
+    for b in text {
+        if !b.is_ascii_digit() {
+            if numbers.len() < MOST {
+                numbers.push(0)?;
+            }
+        } else if let Some(last) = numbers.last_mut() {
+            *last = with_digit(*last, b.saturating_sub(b'0'));
+        }
+    }
+    Ok(numbers)
 }
 
-// The numbers of a text, one more than its bytes that are no digit.
-fn numbers_in(alloc: Global, text: &str) -> Result<Vec<u32>, AllocError> {
-    text.split(|c: char| !c.is_ascii_digit())
-        .map(number_of)
-        .collect(alloc)
+// The first bytes of standard input, at most so many.
+pub fn read_input(alloc: Global, room: usize) -> Result<Vec<u8>, AllocError>
+    ensures { IfOk result (λ text. vec_len text ≤ room) }
+{
+    let mut text = vec![in alloc; 0; room]?;
+    let count = io::read_full(0, &mut text);
+    text.truncate(count);
+    Ok(text)
 }
 
-// Prints the label of a case and answers its numbers, with zeros after them where they are fewer than `least`; none for a heading.
-pub fn read_case(
-    rt: &(impl Print + AllocGlobal),
-    line: &str,
-    least: usize,
-) -> io::Result<Option<Vec<u32>>> {
-    let Some((label, text)) = line.split_once(';') else {
-        return Ok(None);
-    };
-    rt.println(label)?;
-    let mut numbers = numbers_in(rt.alloc(), text)?;
+// The text before the first byte b, and from it on; all and nothing where there is none.
+pub fn cut(text: &[u8], b: u8) -> (&[u8], &[u8])
+    ensures { result.0.now ++ result.1.now ≡ text.now }
+{
+    let at = text.iter().position(|x| *x == b).unwrap_or(text.len());
+    text.split_at(at)
+}
+
+// Prints the last line of the text.
+pub fn print_label(text: &[u8]) {
+    let label = text.rsplit(|b| *b == b'\n').next().unwrap_or(text);
+    io::write_all(1, label);
+    io::write_all(1, b"\n");
+}
+
+// Prints the label of the text's first case. The answer is the case's numbers, with zeros after them where they are fewer than `least`, and
+// the text after the case.
+pub fn open(alloc: Global, text: &[u8], least: usize) -> Result<(Vec<u32>, &[u8]), AllocError>
+    requires { 0 < List·length text.now }
+    ensures { IfOk result (λ r. List·length r.1.now < List·length text.now) }
+{
+    let (label, case) = cut(text, b';');
+    let (case, after) = cut(case, b'\n');
+    print_label(label);
+    let mut numbers = numbers_in(alloc, case)?;
     for _ in numbers.len()..least {
         numbers.push(0)?;
     }
-    Ok(Some(numbers))
+    let (_, after) = part(after, 1);
+    Ok((numbers, after))
 }
 
 // Runs each case of standard input on its numbers, at least so many.
-pub fn run<R: Input + Print + AllocGlobal, F: FnMut(&[u32]) -> io::Result<()>>(
-    rt: &R,
+pub fn run<F: FnMut(&[u32]) -> Result<(), AllocError>>(
+    alloc: Global,
     least: usize,
     mut run_case: F,
-) -> io::Result<()>
+) -> Result<(), AllocError>
     requires { F.IsAlwaysCallable run_case }
 {
-    for line in rt.lines(rt.alloc()) {
-        if let Some(numbers) = read_case(rt, &line?, least)? {
-            run_case(&numbers)?;
-        }
+    let input = read_input(alloc, ROOM)?;
+    let mut rest = input.as_slice();
+    while !rest.is_empty() {
+        let (numbers, after) = open(alloc, rest, least)?;
+        run_case(&numbers)?;
+        rest = after;
     }
     Ok(())
 }
 
-// The part of this length at the start of the numbers, and the numbers after it.
-pub fn part(numbers: &[u32], length: u32) -> (&[u32], &[u32])
+// The part of this length at the start of the numbers, or of bytes, and those after it.
+pub fn part<T>(numbers: &[T], length: u32) -> (&[T], &[T])
     ensures front { result.0.now ≡ take (min (List·length numbers.now) length) numbers.now }
     ensures back { result.1.now ≡ drop (min (List·length numbers.now) length) numbers.now }
 {
@@ -181,25 +216,19 @@ pub fn halves(alloc: Global, points: &[f64]) -> Result<Vec<u32>, AllocError>
     Ok(halves)
 }
 
-// Prints a letter and numbers as one line.
-pub fn print_line(
-    rt: &(impl Print + AllocGlobal),
-    letter: char,
-    numbers: &[u32],
-) -> io::Result<()> {
-    let mut line = format!(in rt.alloc(); "{letter}")?;
-    for x in numbers {
-        write!(line, ",{x}")?;
-    }
-    rt.println(line)
+// Prints a letter and numbers as one line; nothing where a line of 1,000 bytes may be too short for them.
+pub fn print_line(letter: u8, numbers: &[u32]) {
+    let mut out = [0; 1000];
+    let count = print::print_line(&mut out, 0, letter, numbers);
+    io::write_all(1, &out[..count]);
 }
 
-pub fn print_refusal(rt: &(impl Print + AllocGlobal), refusal: Refusal) -> io::Result<()> {
-    print_line(rt, 'R', &numbers_of(Err(refusal)))
+pub fn print_refusal(refusal: Refusal) {
+    print_line(b'R', &numbers_of(Err(refusal)));
 }
 
-pub fn print_clean(rt: &impl Print, clean: bool) -> io::Result<()> {
-    rt.println(if clean { "clean" } else { "dirty" })
+pub fn print_clean(clean: bool) {
+    io::write_all(1, if clean { b"clean\n" } else { b"dirty\n" });
 }
 
 // What an edit is lent, but for points and its work buffer: n and m, the list and the tables.
@@ -236,10 +265,10 @@ impl Lent {
     }
 
     // Prints the lines of the list and of the three tables, each to its end.
-    pub fn print(&self, rt: &(impl Print + AllocGlobal)) -> io::Result<()> {
-        print_line(rt, 'L', &self.list)?;
-        print_line(rt, 'V', &self.v2e)?;
-        print_line(rt, 'E', &self.e2e)?;
-        print_line(rt, 'B', &self.b2e)
+    pub fn print(&self) {
+        print_line(b'L', &self.list);
+        print_line(b'V', &self.v2e);
+        print_line(b'E', &self.e2e);
+        print_line(b'B', &self.b2e);
     }
 }

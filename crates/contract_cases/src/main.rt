@@ -12,15 +12,15 @@
 #![tactic(auto)]
 
 use cases::Lent;
-use std::io;
+use std::alloc::{AllocError, Global};
 
-fn run_case(rt: &(impl Print + AllocGlobal), numbers: &[u32]) -> io::Result<()> {
+fn run_case(alloc: Global, numbers: &[u32]) -> Result<(), AllocError> {
     let &[n, m, code, v, e, b, w, p, ref list @ ..] = numbers else {
         return Ok(());
     };
-    let mut lent = Lent::new(rt.alloc(), [n, m], list, [v.min(40), e.min(60), b.min(40)])?;
+    let mut lent = Lent::new(alloc, [n, m], list, [v.min(40), e.min(60), b.min(40)])?;
     let mut points = cases::POINTS;
-    let mut work = cases::filled(rt.alloc(), cases::WORK, w.min(240))?;
+    let mut work = cases::filled(alloc, cases::WORK, w.min(240))?;
     let before = lent.clone()?;
     let end = (p as usize).min(44);
     let a = contract::contract(
@@ -35,19 +35,20 @@ fn run_case(rt: &(impl Print + AllocGlobal), numbers: &[u32]) -> io::Result<()> 
     );
     match a {
         Ok(given) => {
-            cases::print_line(rt, 'N', &[given.first, given.second])?;
-            cases::print_line(rt, 'S', &lent.size)?;
-            lent.print(rt)?;
-            cases::print_line(rt, 'P', &cases::halves(rt.alloc(), &points[..end])?)?;
+            cases::print_line(b'N', &[given.first, given.second]);
+            cases::print_line(b'S', &lent.size);
+            lent.print();
+            cases::print_line(b'P', &cases::halves(alloc, &points[..end])?);
         }
-        Err(refusal) => cases::print_refusal(rt, refusal)?,
+        Err(refusal) => cases::print_refusal(refusal),
     }
-    let old = cases::halves(rt.alloc(), &cases::POINTS)?;
-    let halves = cases::halves(rt.alloc(), &points)?;
+    let old = cases::halves(alloc, &cases::POINTS)?;
+    let halves = cases::halves(alloc, &points)?;
     let kept = a.is_ok() || lent == before && halves == old;
-    cases::print_clean(rt, kept && cases::is_work_left(a, &work))
+    cases::print_clean(kept && cases::is_work_left(a, &work));
+    Ok(())
 }
 
-fn main(rt: HostRuntime) -> io::Result<()> {
-    cases::run(&rt, 8, |numbers| run_case(&rt, numbers))
+fn main(rt: HostRuntime) -> Result<(), AllocError> {
+    cases::run(rt.alloc(), 8, |numbers| run_case(rt.alloc(), numbers))
 }

@@ -12,12 +12,12 @@
 #![tactic(auto)]
 
 use reads::Mesh;
-use std::io;
+use std::alloc::{AllocError, Global};
 
 // What the outputs hold before; no hole has this number, or this length.
 const LEFT: u32 = u32::MAX;
 
-fn run_case(rt: &(impl Print + AllocGlobal), numbers: &[u32]) -> io::Result<()> {
+fn run_case(alloc: Global, numbers: &[u32]) -> Result<(), AllocError> {
     let &[n, told, h, l, w, list, v2e, e2e, b2e, ref parts @ ..] = numbers else {
         return Ok(());
     };
@@ -33,22 +33,23 @@ fn run_case(rt: &(impl Print + AllocGlobal), numbers: &[u32]) -> io::Result<()> 
         e2e,
         b2e,
     };
-    let mut hole = cases::filled(rt.alloc(), LEFT, h.min(20))?;
-    let mut lengths = cases::filled(rt.alloc(), LEFT, l.min(20))?;
-    let mut work = cases::filled(rt.alloc(), cases::WORK, w.min(200))?;
+    let mut hole = cases::filled(alloc, LEFT, h.min(20))?;
+    let mut lengths = cases::filled(alloc, LEFT, l.min(20))?;
+    let mut work = cases::filled(alloc, cases::WORK, w.min(200))?;
     let a = holes::holes(&mesh, &mut hole, &mut lengths, &mut work);
     match a {
         Ok(given) => {
-            cases::print_line(rt, 'N', &[given.first])?;
-            cases::print_line(rt, 'H', &hole)?;
-            cases::print_line(rt, 'L', &lengths)?;
+            cases::print_line(b'N', &[given.first]);
+            cases::print_line(b'H', &hole);
+            cases::print_line(b'L', &lengths);
         }
-        Err(refusal) => cases::print_refusal(rt, refusal)?,
+        Err(refusal) => cases::print_refusal(refusal),
     }
     let kept = a.is_ok() || cases::is_all(&hole, LEFT) && cases::is_all(&lengths, LEFT);
-    cases::print_clean(rt, kept && cases::is_work_left(a, &work))
+    cases::print_clean(kept && cases::is_work_left(a, &work));
+    Ok(())
 }
 
-fn main(rt: HostRuntime) -> io::Result<()> {
-    cases::run(&rt, cases::MOST, |numbers| run_case(&rt, numbers))
+fn main(rt: HostRuntime) -> Result<(), AllocError> {
+    cases::run(rt.alloc(), cases::MOST, |numbers| run_case(rt.alloc(), numbers))
 }

@@ -5,25 +5,25 @@
 // or 3 among four; a bad last line, a missing one, and bytes after it.
 #![tactic(auto)]
 
-use std::io;
-use std::io::Write;
+use std::alloc::AllocError;
 
-// The bytes that the lines of the largest mesh may take.
-const ROOM: usize = 22022;
-
-fn run_case(rt: &(impl Print + AllocGlobal), label: &str, text: &str) -> io::Result<()> {
-    let mut out = vec![in rt.alloc(); 0; ROOM]?;
-    let count = listed::list_tables(text.as_bytes(), &mut out);
-    rt.println(label)?;
-    io::writer(rt).write_all(&out[..count])
+fn print_listing(text: &[u8]) {
+    let mut out = io::large_buffer();
+    let count = listed::list_tables(text, &mut out);
+    io::write_all(1, &out[..count]);
 }
 
-fn main(rt: HostRuntime) -> io::Result<()> {
-    let input = io::read_to_string(rt.alloc(), rt.reader())?;
-    for case in input.split("#\n") {
-        if let Some((label, text)) = case.split_once('\n') {
-            run_case(&rt, label, text)?;
+fn main(rt: HostRuntime) -> Result<(), AllocError> {
+    let input = cases::read_input(rt.alloc(), cases::ROOM)?;
+    let mut rest = input.as_slice();
+    while !rest.is_empty() {
+        let (label, case) = cases::cut(rest, b'\n');
+        let (case, after) = cases::cut(case, b'#');
+        cases::print_label(label);
+        if let Some((_, text)) = case.split_first() {
+            print_listing(text);
         }
+        (_, rest) = cases::part(after, 2);
     }
     Ok(())
 }

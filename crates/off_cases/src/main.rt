@@ -5,46 +5,44 @@
 // byte, with a newline after it.
 #![tactic(auto)]
 
-use std::io;
-use std::io::{BufRead, Read};
+use std::alloc::{AllocError, Global};
 
 const KEPT: u32 = 9;
 
-fn run_case(rt: &(impl Print + AllocGlobal), list_length: u32, text: &[u8]) -> io::Result<()> {
-    let mut list = cases::filled(rt.alloc(), KEPT, list_length.min(64))?;
+// How many bytes of its input the program reads at most.
+const ROOM: usize = 16384;
+
+fn run_case(alloc: Global, list_length: u32, text: &[u8]) -> Result<(), AllocError> {
+    let mut list = cases::filled(alloc, KEPT, list_length.min(64))?;
     let kept = match off::read_off(text, &mut list) {
         Ok(given) => {
             let entries = list.len().min(4 * given.second as usize);
             let (rows, rest) = list.split_at(entries);
-            cases::print_line(rt, 'N', &[given.first, given.second])?;
-            cases::print_line(rt, 'L', rows)?;
+            cases::print_line(b'N', &[given.first, given.second]);
+            cases::print_line(b'L', rows);
             cases::is_all(rest, KEPT)
         }
         Err(refusal) => {
-            cases::print_refusal(rt, refusal)?;
+            cases::print_refusal(refusal);
             cases::is_all(&list, KEPT)
         }
     };
-    cases::print_clean(rt, kept)
+    cases::print_clean(kept);
+    Ok(())
 }
 
-fn main(rt: HostRuntime) -> io::Result<()> {
-    let mut input = rt.reader();
-    let mut line = String::new(rt.alloc());
-    // The reader tells the end; counted, so that the loop is seen to end.
-    for _ in 0..u64::MAX {
-        line.clear();
-        if input.read_line(&mut line)? == 0 {
+fn main(rt: HostRuntime) -> Result<(), AllocError> {
+    let alloc = rt.alloc();
+    let input = cases::read_input(alloc, ROOM)?;
+    let mut rest = input.as_slice();
+    while !rest.is_empty() {
+        let (numbers, after) = cases::open(alloc, rest, 2)?;
+        let &[list_length, text_length, ..] = numbers.as_slice() else {
             break;
-        }
-        let Some(numbers) = cases::read_case(&rt, line.trim_end(), 2)? else {
-            continue;
         };
-        if let &[list_length, text_length, ..] = &numbers[..] {
-            let mut text = vec![in rt.alloc(); 0; text_length as usize]?;
-            input.read_exact(&mut text)?;
-            run_case(&rt, list_length, &text)?;
-        }
+        let (text, after) = cases::part(after, text_length);
+        run_case(alloc, list_length, text)?;
+        (_, rest) = cases::part(after, 1);
     }
     Ok(())
 }

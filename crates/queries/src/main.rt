@@ -10,77 +10,89 @@
 //   8        n
 //   9        the columns that each call is told, 0 to look at the list
 //   10 to 13 the lengths of the list, V2e, E2e and B2e; of 1, the last is found by build
-// and then the entries of the list and, but for 1, of V2e, E2e and B2e.
+// and then the entries of the list, V2e, E2e and B2e; of 1, the tables are put behind the list once they are built.
 #![tactic(auto)]
 
 use answer::{Answer, Given, Refusal};
 use reads::Mesh;
 use std::alloc::{AllocError, Global};
-use std::io;
 use walker::Walker;
 
 // What an output holds before.
 const LEFT: u32 = 7;
 
-// An element list with its tables.
+// An element list with its tables: parts of numbers, one after another. Part 0 is the list, 1 V2e, 2 E2e and 3 B2e.
 #[derive(Drop)]
 struct Tables {
-    list: Vec<u32>,
-    v2e: Vec<u32>,
-    e2e: Vec<u32>,
-    b2e: Vec<u32>,
+    numbers: Vec<u32>,
+    lengths: [u32; 4],
 }
 
 impl Tables {
-    // The numbers, cut into parts of these lengths.
-    fn given(alloc: Global, numbers: &[u32], [l, v, e, b]: [u32; 4]) -> Result<Tables, AllocError> {
-        let (list, rest) = cases::part(numbers, l);
+    // Where part i starts.
+    fn start(&self, i: usize) -> usize {
+        let before = self.lengths.iter().take(i);
+        before.fold(
+            0,
+            |start, length| self
+                .numbers
+                .len()
+                .min(start.saturating_add(*length as usize)),
+        )
+    }
+
+    fn mesh(&self, n: u32, told: u32) -> Mesh<'_> {
+        let [l, v, e, b] = self.lengths;
+        let (list, rest) = cases::part(&self.numbers, l);
         let (v2e, rest) = cases::part(rest, v);
         let (e2e, rest) = cases::part(rest, e);
         let (b2e, _) = cases::part(rest, b);
-        Ok(Tables {
-            list: list.to_vec(alloc)?,
-            v2e: v2e.to_vec(alloc)?,
-            e2e: e2e.to_vec(alloc)?,
-            b2e: b2e.to_vec(alloc)?,
-        })
+        Mesh {
+            n,
+            columns: columns::seen(told, list),
+            list,
+            v2e,
+            e2e,
+            b2e,
+        }
     }
 
-    // Puts the tables that build makes of the list, with these lengths of V2e and E2e. The answer is build's.
-    fn build(&mut self, alloc: Global, n: u32, v: u32, e: u32) -> Result<Answer, AllocError> {
-        self.v2e = cases::filled(alloc, LEFT, v.min(40))?;
-        self.e2e = cases::filled(alloc, LEFT, e.min(40))?;
-        self.b2e = cases::filled(alloc, LEFT, 40)?;
+    // Copies a table to part i. What there is more than its length is overwritten by the next one.
+    fn copy(&mut self, i: usize, table: &[u32]) {
+        let start = self.start(i);
+        for (entry, x) in self.numbers.iter_mut().skip(start).zip(table) {
+            *entry = *x;
+        }
+    }
+
+    // Puts the tables that build makes of the list, B2e with the length that build gives. The answer is build's.
+    fn build(&mut self, alloc: Global, n: u32) -> Result<Answer, AllocError> {
+        let [l, v, e, _] = self.lengths;
+        let mut v2e = cases::filled(alloc, LEFT, 40)?;
+        let mut e2e = cases::filled(alloc, LEFT, 40)?;
+        let mut b2e = cases::filled(alloc, LEFT, 40)?;
         let mut work = cases::filled(alloc, LEFT, 200)?;
-        let a = build::build(
-            n,
-            &self.list,
-            &mut self.v2e,
-            &mut self.e2e,
-            &mut self.b2e,
-            &mut work,
-        );
+        let (list, _) = cases::part(&self.numbers, l);
+        let v = v2e.len().min(v as usize);
+        let e = e2e.len().min(e as usize);
+        let a = build::build(n, list, &mut v2e[..v], &mut e2e[..e], &mut b2e, &mut work);
         let [_, k, _] = cases::numbers_of(a);
-        self.b2e.truncate(k as usize);
+        self.lengths[3] = k;
+        self.copy(1, &v2e);
+        self.copy(2, &e2e);
+        self.copy(3, &b2e);
         Ok(a)
     }
 
-    // Makes an entry x: of part 1 the list, 2 V2e, 3 E2e, 4 B2e, 0 none.
+    // Makes a number x: entry `at` of the list for 1, of V2e for 2, of E2e for 3, of B2e for more, counted on past its end; for 0 none.
     fn change(&mut self, part: u32, at: u32, x: u32) {
-        match part {
-            1 => put(&mut self.list, at, x),
-            2 => put(&mut self.v2e, at, x),
-            3 => put(&mut self.e2e, at, x),
-            4 => put(&mut self.b2e, at, x),
-            _ => {}
+        let Some(i) = part.min(4).checked_sub(1) else {
+            return;
+        };
+        let place = self.start(i as usize).saturating_add(at as usize);
+        if let Some(entry) = self.numbers.get_mut(place) {
+            *entry = x;
         }
-    }
-}
-
-// Makes entry `at` x, where there is one.
-fn put(table: &mut [u32], at: u32, x: u32) {
-    if let Some(entry) = table.get_mut(at as usize) {
-        *entry = x;
     }
 }
 
@@ -95,93 +107,88 @@ fn coded(a: Answer) -> u32 {
 
 // A line of the answers at 0, 1, .. below `end`, and a line of that at the largest number.
 fn print_each<F: Fn(&Mesh<'_>, u32) -> Answer>(
-    rt: &(impl Print + AllocGlobal),
+    alloc: Global,
     mesh: &Mesh<'_>,
     end: u32,
-    letter: char,
+    letter: u8,
     query: F,
-) -> io::Result<()>
+) -> Result<(), AllocError>
     requires { F.IsAlwaysCallable query }
 {
-    let mut line = Vec::new(rt.alloc());
+    let mut line = Vec::new(alloc);
     for x in 0..end.min(80) {
         line.push(coded(query(mesh, x)))?;
     }
-    cases::print_line(rt, letter, &line)?;
-    cases::print_line(rt, letter, &[coded(query(mesh, u32::MAX))])
+    cases::print_line(letter, &line);
+    cases::print_line(letter, &[coded(query(mesh, u32::MAX))]);
+    Ok(())
 }
 
 // For each of 0, 1, .. below `end`, a line of it and the answer's three numbers, and a line of the output.
 fn print_lists<F: Fn(&Mesh<'_>, u32, &mut [u32]) -> Answer>(
-    rt: &(impl Print + AllocGlobal),
+    alloc: Global,
     mesh: &Mesh<'_>,
     end: u32,
     room: u32,
-    letter: char,
+    letter: u8,
     query: F,
-) -> io::Result<()>
+) -> Result<(), AllocError>
     requires { F.IsAlwaysCallable query }
 {
     for x in 0..end {
-        let mut out = cases::filled(rt.alloc(), LEFT, room.min(11))?;
+        let mut out = cases::filled(alloc, LEFT, room.min(11))?;
         let [number, first, second] = cases::numbers_of(query(mesh, x, &mut out));
-        cases::print_line(rt, letter, &[x, number, first, second])?;
-        cases::print_line(rt, '=', &out)?;
+        cases::print_line(letter, &[x, number, first, second]);
+        cases::print_line(b'=', &out);
     }
     Ok(())
 }
 
 // A line of an answer and of the record that the call leaves.
-fn print_moved(
-    rt: &(impl Print + AllocGlobal),
-    letter: char,
-    a: Answer,
-    w: &Walker,
-) -> io::Result<()> {
-    cases::print_line(rt, letter, &[coded(a), w.start, w.following, w.handed])
+fn print_moved(letter: u8, a: Answer, w: &Walker) {
+    cases::print_line(letter, &[coded(a), w.start, w.following, w.handed]);
 }
 
 // Nine steps.
-fn print_steps(rt: &(impl Print + AllocGlobal), mesh: &Mesh<'_>, mut w: Walker) -> io::Result<()> {
+fn print_steps(mesh: &Mesh<'_>, mut w: Walker) {
     for _ in 0..9 {
         let a = w.step(mesh);
-        print_moved(rt, 'S', a, &w)?;
+        print_moved(b'S', a, &w);
     }
-    Ok(())
 }
 
-fn print_walk(rt: &(impl Print + AllocGlobal), mesh: &Mesh<'_>, v: u32) -> io::Result<()> {
+fn print_walk(mesh: &Mesh<'_>, v: u32) {
     let mut w = Walker::from([LEFT; 3]);
     let a = w.start(mesh, v);
-    print_moved(rt, 'W', a, &w)?;
-    print_steps(rt, mesh, w)
+    print_moved(b'W', a, &w);
+    print_steps(mesh, w);
 }
 
 // Every query, over codes below the first number, vertices and borders below the second, and with the third as the room for lists.
 fn print_queries(
-    rt: &(impl Print + AllocGlobal),
+    alloc: Global,
     mesh: &Mesh<'_>,
     [codes, ends, room]: [u32; 3],
-) -> io::Result<()> {
-    print_each(rt, mesh, codes, 'O', query::opposite)?;
-    print_each(rt, mesh, codes, 'X', query::next)?;
-    print_each(rt, mesh, codes, 'P', query::previous)?;
-    print_each(rt, mesh, codes, 'E', query::element)?;
-    print_each(rt, mesh, codes, 'F', query::origin)?;
-    print_each(rt, mesh, codes, 'T', query::destination)?;
-    print_each(rt, mesh, codes, 'A', query::across)?;
-    print_each(rt, mesh, codes, 'H', query::halfedge_is_border)?;
-    print_each(rt, mesh, codes, 'V', query::vertex_is_border)?;
-    print_lists(rt, mesh, ends, room, 'R', rings::ring)?;
-    print_lists(rt, mesh, ends, room, 'N', rings::neighbours)?;
-    print_lists(rt, mesh, ends, room, 'L', rings::border_loop)?;
+) -> Result<(), AllocError> {
+    print_each(alloc, mesh, codes, b'O', query::opposite)?;
+    print_each(alloc, mesh, codes, b'X', query::next)?;
+    print_each(alloc, mesh, codes, b'P', query::previous)?;
+    print_each(alloc, mesh, codes, b'E', query::element)?;
+    print_each(alloc, mesh, codes, b'F', query::origin)?;
+    print_each(alloc, mesh, codes, b'T', query::destination)?;
+    print_each(alloc, mesh, codes, b'A', query::across)?;
+    print_each(alloc, mesh, codes, b'H', query::halfedge_is_border)?;
+    print_each(alloc, mesh, codes, b'V', query::vertex_is_border)?;
+    print_lists(alloc, mesh, ends, room, b'R', rings::ring)?;
+    print_lists(alloc, mesh, ends, room, b'N', rings::neighbours)?;
+    print_lists(alloc, mesh, ends, room, b'L', rings::border_loop)?;
     for v in 0..ends {
-        print_walk(rt, mesh, v)?;
+        print_walk(mesh, v);
     }
     Ok(())
 }
 
-fn run_case(rt: &(impl Print + AllocGlobal), numbers: &[u32]) -> io::Result<()> {
+fn run_case(alloc: Global, numbers: &[u32]) -> Result<(), AllocError> {
     let &[
         kind,
         first,
@@ -201,27 +208,23 @@ fn run_case(rt: &(impl Print + AllocGlobal), numbers: &[u32]) -> io::Result<()> 
     else {
         return Ok(());
     };
-    let mut tables = Tables::given(rt.alloc(), parts, [l, v, e, b])?;
+    let mut tables = Tables {
+        numbers: parts.to_vec(alloc)?,
+        lengths: [l, v, e, b],
+    };
     if kind == 1 {
-        let a = tables.build(rt.alloc(), n, v, e)?;
-        cases::print_line(rt, 'K', &cases::numbers_of(a))?;
+        let a = tables.build(alloc, n)?;
+        cases::print_line(b'K', &cases::numbers_of(a));
         tables.change(first, second, third);
     }
-    let mesh = Mesh {
-        n,
-        columns: columns::seen(told, &tables.list),
-        list: &tables.list,
-        v2e: &tables.v2e,
-        e2e: &tables.e2e,
-        b2e: &tables.b2e,
-    };
+    let mesh = tables.mesh(n, told);
     if kind == 3 {
-        print_steps(rt, &mesh, Walker::from([first, second, third]))
-    } else {
-        print_queries(rt, &mesh, [codes, ends, room])
+        print_steps(&mesh, Walker::from([first, second, third]));
+        return Ok(());
     }
+    print_queries(alloc, &mesh, [codes, ends, room])
 }
 
-fn main(rt: HostRuntime) -> io::Result<()> {
-    cases::run(&rt, cases::MOST, |numbers| run_case(&rt, numbers))
+fn main(rt: HostRuntime) -> Result<(), AllocError> {
+    cases::run(rt.alloc(), cases::MOST, |numbers| run_case(rt.alloc(), numbers))
 }

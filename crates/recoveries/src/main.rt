@@ -14,7 +14,6 @@ ghost use Rattle.std.specs.Prelude.{◌<◌, length};
 
 use answer::{Answer, Reason, Refusal};
 use std::alloc::{AllocError, Global};
-use std::io;
 
 // What the element list holds before. No accepted list has it in each entry.
 const LIST: u32 = 7;
@@ -105,14 +104,13 @@ fn changed<F: Fn(u32, u32) -> (u32, u32)>(
 
 // Changes each entry in turn, and prints a letter and the counts.
 fn change_each<F: Fn(u32, u32) -> (u32, u32)>(
-    rt: &(impl Print + AllocGlobal),
+    alloc: Global,
     case: Case<'_>,
-    letter: char,
+    letter: u8,
     change: F,
-) -> io::Result<()>
+) -> Result<(), AllocError>
     requires { F.IsAlwaysCallable change }
 {
-    let alloc = rt.alloc();
     let mut counts = Counts::default();
     for i in 0..case.v2e.len() {
         let v2e = changed(alloc, case.v2e, i, &change)?;
@@ -122,10 +120,11 @@ fn change_each<F: Fn(u32, u32) -> (u32, u32)>(
         let e2e = changed(alloc, case.e2e, i, &change)?;
         counts.add(&Case { e2e: &e2e, ..case }.recover(alloc)?);
     }
-    cases::print_line(rt, letter, &[counts.no_list, counts.list, counts.other])
+    cases::print_line(letter, &[counts.no_list, counts.list, counts.other]);
+    Ok(())
 }
 
-fn run_case(rt: &(impl Print + AllocGlobal), numbers: &[u32]) -> io::Result<()> {
+fn run_case(alloc: Global, numbers: &[u32]) -> Result<(), AllocError> {
     let &[each, n, m, v, e, list_length, work_length, ref tables @ ..] = numbers else {
         return Ok(());
     };
@@ -139,23 +138,28 @@ fn run_case(rt: &(impl Print + AllocGlobal), numbers: &[u32]) -> io::Result<()> 
         v2e,
         e2e,
     };
-    let outcome = case.recover(rt.alloc())?;
+    let outcome = case.recover(alloc)?;
     match outcome.answer {
-        Ok(_) => cases::print_line(rt, 'L', &outcome.list)?,
-        Err(refusal) => cases::print_refusal(rt, refusal)?,
+        Ok(_) => cases::print_line(b'L', &outcome.list),
+        Err(refusal) => cases::print_refusal(refusal),
     }
-    cases::print_clean(rt, outcome.is_clean)?;
+    cases::print_clean(outcome.is_clean);
     if each == 0 {
         return Ok(());
     }
     // An entry below 1000 is made greater by 1; made 0; made that of the entry after it; and both are exchanged. An entry 0 that is made 0 stays, and
     // gives the same list.
-    change_each(rt, case, '+', |x, y| (if x < 1000 { x + 1 } else { x }, y))?;
-    change_each(rt, case, '0', |_, y| (0, y))?;
-    change_each(rt, case, 'N', |_, y| (y, y))?;
-    change_each(rt, case, 'S', |x, y| (y, x))
+    change_each(
+        alloc,
+        case,
+        b'+',
+        |x, y| (if x < 1000 { x + 1 } else { x }, y),
+    )?;
+    change_each(alloc, case, b'0', |_, y| (0, y))?;
+    change_each(alloc, case, b'N', |_, y| (y, y))?;
+    change_each(alloc, case, b'S', |x, y| (y, x))
 }
 
-fn main(rt: HostRuntime) -> io::Result<()> {
-    cases::run(&rt, cases::MOST, |numbers| run_case(&rt, numbers))
+fn main(rt: HostRuntime) -> Result<(), AllocError> {
+    cases::run(rt.alloc(), cases::MOST, |numbers| run_case(rt.alloc(), numbers))
 }

@@ -4,21 +4,22 @@
 // The numbers of a case in `stdin` (crate `cases`) are n; the length of the work buffer; and the rows of the list.
 #![tactic(auto)]
 
-use std::io;
+use std::alloc::{AllocError, Global};
 
-fn run_case(rt: &(impl Print + AllocGlobal), numbers: &[u32]) -> io::Result<()> {
+fn run_case(alloc: Global, numbers: &[u32]) -> Result<(), AllocError> {
     let &[n, w, ref list @ ..] = numbers else {
         return Ok(());
     };
-    let mut work = cases::filled(rt.alloc(), cases::WORK, w.min(500))?;
+    let mut work = cases::filled(alloc, cases::WORK, w.min(500))?;
     let a = shape::shape(n, list, &mut work);
     match a {
-        Ok(given) => cases::print_line(rt, 'N', &[given.first, given.second])?,
-        Err(refusal) => cases::print_refusal(rt, refusal)?,
+        Ok(given) => cases::print_line(b'N', &[given.first, given.second]),
+        Err(refusal) => cases::print_refusal(refusal),
     }
-    cases::print_clean(rt, cases::is_work_left(a, &work))
+    cases::print_clean(cases::is_work_left(a, &work));
+    Ok(())
 }
 
-fn main(rt: HostRuntime) -> io::Result<()> {
-    cases::run(&rt, 2, |numbers| run_case(&rt, numbers))
+fn main(rt: HostRuntime) -> Result<(), AllocError> {
+    cases::run(rt.alloc(), 2, |numbers| run_case(rt.alloc(), numbers))
 }

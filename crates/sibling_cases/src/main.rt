@@ -5,32 +5,33 @@
 // The numbers of a case in `stdin` (crate `cases`) are n; the lengths of V2e, the map and the work buffer; and the rows of the list.
 #![tactic(auto)]
 
-use std::io;
+use std::alloc::{AllocError, Global};
 
 // No code of a side: 8 * f + i has i at most 4.
 const MAP: u32 = 7;
 
-fn run_case(rt: &(impl Print + AllocGlobal), numbers: &[u32]) -> io::Result<()> {
+fn run_case(alloc: Global, numbers: &[u32]) -> Result<(), AllocError> {
     let &[n, v, s, w, ref list @ ..] = numbers else {
         return Ok(());
     };
-    let mut v2e = cases::filled(rt.alloc(), MAP, v.min(12))?;
-    let mut sibhe = cases::filled(rt.alloc(), MAP, s.min(40))?;
-    let mut work = cases::filled(rt.alloc(), cases::WORK, w.min(200))?;
+    let mut v2e = cases::filled(alloc, MAP, v.min(12))?;
+    let mut sibhe = cases::filled(alloc, MAP, s.min(40))?;
+    let mut work = cases::filled(alloc, cases::WORK, w.min(200))?;
     let a = sibling_map::siblings(n, list, &mut v2e, &mut sibhe, &mut work);
     match a {
         Ok(_) => {
-            cases::print_line(rt, 'V', &v2e)?;
+            cases::print_line(b'V', &v2e);
             for row in sibhe.chunks_exact(4) {
-                cases::print_line(rt, 'S', row)?;
+                cases::print_line(b'S', row);
             }
         }
-        Err(refusal) => cases::print_refusal(rt, refusal)?,
+        Err(refusal) => cases::print_refusal(refusal),
     }
     let kept = a.is_ok() || cases::is_all(&v2e, MAP) && cases::is_all(&sibhe, MAP);
-    cases::print_clean(rt, kept && cases::is_work_left(a, &work))
+    cases::print_clean(kept && cases::is_work_left(a, &work));
+    Ok(())
 }
 
-fn main(rt: HostRuntime) -> io::Result<()> {
-    cases::run(&rt, 4, |numbers| run_case(&rt, numbers))
+fn main(rt: HostRuntime) -> Result<(), AllocError> {
+    cases::run(rt.alloc(), 4, |numbers| run_case(rt.alloc(), numbers))
 }

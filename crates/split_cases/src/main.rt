@@ -12,15 +12,15 @@
 #![tactic(auto)]
 
 use cases::Lent;
-use std::io;
+use std::alloc::{AllocError, Global};
 
-fn run_case(rt: &(impl Print + AllocGlobal), numbers: &[u32]) -> io::Result<()> {
+fn run_case(alloc: Global, numbers: &[u32]) -> Result<(), AllocError> {
     let &[n, m, code, v, e, b, w, p, ref list @ ..] = numbers else {
         return Ok(());
     };
-    let mut lent = Lent::new(rt.alloc(), [n, m], list, [v.min(40), e.min(60), b.min(40)])?;
+    let mut lent = Lent::new(alloc, [n, m], list, [v.min(40), e.min(60), b.min(40)])?;
     let mut points = cases::POINTS;
-    let mut work = cases::filled(rt.alloc(), cases::WORK, w.min(240))?;
+    let mut work = cases::filled(alloc, cases::WORK, w.min(240))?;
     let before = lent.clone()?;
     let end = points.len().min(p as usize);
     let a = split::split(
@@ -33,26 +33,27 @@ fn run_case(rt: &(impl Print + AllocGlobal), numbers: &[u32]) -> io::Result<()> 
         &mut work,
         code,
     );
-    let old = cases::halves(rt.alloc(), &cases::POINTS)?;
-    let halves = cases::halves(rt.alloc(), &points)?;
+    let old = cases::halves(alloc, &cases::POINTS)?;
+    let halves = cases::halves(alloc, &points)?;
     match a {
         Ok(given) => {
-            cases::print_line(rt, 'N', &[given.first, given.second])?;
-            cases::print_line(rt, 'S', &lent.size)?;
-            lent.print(rt)?;
+            cases::print_line(b'N', &[given.first, given.second]);
+            cases::print_line(b'S', &lent.size);
+            lent.print();
             if let Some(point) = halves.chunks_exact(6).nth(n as usize) {
-                cases::print_line(rt, 'P', point)?;
+                cases::print_line(b'P', point);
             }
         }
-        Err(refusal) => cases::print_refusal(rt, refusal)?,
+        Err(refusal) => cases::print_refusal(refusal),
     }
     // All points must be as before, but after an answer that of the new vertex.
     let mut pairs = old.chunks_exact(6).zip(halves.chunks_exact(6)).enumerate();
     let points_kept = pairs.all(|(i, (x, y))| x == y || a.is_ok() && i == n as usize);
     let kept = a.is_ok() || lent == before;
-    cases::print_clean(rt, points_kept && kept && cases::is_work_left(a, &work))
+    cases::print_clean(points_kept && kept && cases::is_work_left(a, &work));
+    Ok(())
 }
 
-fn main(rt: HostRuntime) -> io::Result<()> {
-    cases::run(&rt, 8, |numbers| run_case(&rt, numbers))
+fn main(rt: HostRuntime) -> Result<(), AllocError> {
+    cases::run(rt.alloc(), 8, |numbers| run_case(rt.alloc(), numbers))
 }

@@ -12,14 +12,14 @@
 #![tactic(auto)]
 
 use cases::Lent;
-use std::io;
+use std::alloc::{AllocError, Global};
 
-fn run_case(rt: &(impl Print + AllocGlobal), numbers: &[u32]) -> io::Result<()> {
+fn run_case(alloc: Global, numbers: &[u32]) -> Result<(), AllocError> {
     let &[n, m, code, v, e, b, w, ref list @ ..] = numbers else {
         return Ok(());
     };
-    let mut lent = Lent::new(rt.alloc(), [n, m], list, [v.min(40), e.min(60), b.min(40)])?;
-    let mut work = cases::filled(rt.alloc(), cases::WORK, w.min(200))?;
+    let mut lent = Lent::new(alloc, [n, m], list, [v.min(40), e.min(60), b.min(40)])?;
+    let mut work = cases::filled(alloc, cases::WORK, w.min(200))?;
     let before = lent.clone()?;
     let a = swap::swap(
         n,
@@ -33,15 +33,16 @@ fn run_case(rt: &(impl Print + AllocGlobal), numbers: &[u32]) -> io::Result<()> 
     );
     match a {
         Ok(given) => {
-            cases::print_line(rt, 'N', &[given.first, given.second])?;
-            lent.print(rt)?;
+            cases::print_line(b'N', &[given.first, given.second]);
+            lent.print();
         }
-        Err(refusal) => cases::print_refusal(rt, refusal)?,
+        Err(refusal) => cases::print_refusal(refusal),
     }
     let kept = a.is_ok() || lent == before;
-    cases::print_clean(rt, kept && cases::is_work_left(a, &work))
+    cases::print_clean(kept && cases::is_work_left(a, &work));
+    Ok(())
 }
 
-fn main(rt: HostRuntime) -> io::Result<()> {
-    cases::run(&rt, 7, |numbers| run_case(&rt, numbers))
+fn main(rt: HostRuntime) -> Result<(), AllocError> {
+    cases::run(rt.alloc(), 7, |numbers| run_case(rt.alloc(), numbers))
 }
