@@ -226,5 +226,9 @@ fn run_case(alloc: Global, numbers: &[u32]) -> Result<(), AllocError> {
 }
 
 fn main(rt: HostRuntime) -> Result<(), AllocError> {
-    cases::run(rt.alloc(), cases::MOST, |numbers| run_case(rt.alloc(), numbers))
+    cases::run(
+        rt.alloc(),
+        cases::MOST,
+        |numbers| run_case(rt.alloc(), numbers),
+    )
 }
