@@ -4,7 +4,7 @@ use Rattle.std.specs.Prelude.{true, false, ℕ, ◌+◌, ◌*◌, ◌-◌, ◌/�
 use Rattle.rules.specs.Refusals.{Answer as Stated, gives, refused}
 use Rattle.answer.specs.declared.Given.{Given}
 use Rattle.answer.specs.declared.Reason.{Reason}
-use Rattle.answer.specs.declared.Reason.TheVariants.{Sizes, Lengths, Unfit, Repeated, Crowded, Alike, Unordered, Borders, NoList, Absent, Broken, Room, Line, Uneditable, Item, Face, Clash, Full, Pinched, Stranded}
+use Rattle.answer.specs.declared.Reason.TheVariants.{Sizes, Lengths, Unfit, Repeated, Crowded, Alike, Unordered, Borders, NoList, Absent, Broken, Room, Line, Uneditable, Item, Face, Clash, Full, Pinched, Stranded, Other}
 use Rattle.answer.specs.declared.Refusal.{Refusal}
 
 -- the paper's number of each reason
@@ -29,6 +29,7 @@ number_in Clash = 18
 number_in Full = 19
 number_in Pinched = 20
 number_in Stranded = 21
+number_in (Other x) = x
 
 abbrev pub placed : Reason → ℕ → ℕ → Refusal
 placed reason a b = record { reason = reason; first = a; second = b }

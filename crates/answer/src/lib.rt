@@ -8,49 +8,51 @@ ghost use Rattle.answer.specs.Numbers.{number_in, numbers, placed, packed, packe
 
 use halfedge::{element_of, number_of};
 
-// Why a call refuses: a row of the table of refusals, with its number.
+// Why a call refuses: a row of the table of refusals.
 #[derive(Clone, Copy, Debug, PartialEq, Eq)]
 pub enum Reason {
     // n, m or the length of the element list.
-    Sizes = 1,
+    Sizes,
     // The length of another buffer.
-    Lengths = 2,
+    Lengths,
     // A corner that is no vertex.
-    Unfit = 3,
+    Unfit,
     // A corner that equals an earlier one of its row.
-    Repeated = 4,
+    Repeated,
     // A side whose two vertices three or more sides join.
-    Crowded = 6,
+    Crowded,
     // A side that another one runs alike with.
-    Alike = 7,
+    Alike,
     // A vertex without a turn order.
-    Unordered = 8,
+    Unordered,
     // A B2e shorter than k.
-    Borders = 9,
+    Borders,
     // Tables that no accepted list has.
-    NoList = 10,
+    NoList,
     // What is asked about isn't there.
-    Absent = 11,
+    Absent,
     // A table entry that names nothing, or a walk that is overlong.
-    Broken = 12,
+    Broken,
     // An output too short for the answer.
-    Room = 13,
+    Room,
     // A line of the listing program's text.
-    Line = 14,
+    Line,
     // An edge that can't be edited so.
-    Uneditable = 15,
+    Uneditable,
     // An item of a text.
-    Item = 16,
+    Item,
     // A face with neither three nor four corners.
-    Face = 17,
+    Face,
     // Two elements that don't meet well.
-    Clash = 18,
+    Clash,
     // Buffers that can't hold what an edit adds.
-    Full = 19,
+    Full,
     // Ends of an edge with a common neighbour besides the third corners.
-    Pinched = 20,
+    Pinched,
     // A vertex that would be left unused.
-    Stranded = 21,
+    Stranded,
+    // A number that is in no row.
+    Other(u32),
 }
 
 // A call's refusal, with the two numbers of its place.
@@ -74,7 +76,60 @@ impl Reason {
     pub fn number(self) -> u32
         ensures { result ≡ number_in self }
     {
-        self as u32
+        match self {
+            Reason::Sizes => 1,
+            Reason::Lengths => 2,
+            Reason::Unfit => 3,
+            Reason::Repeated => 4,
+            Reason::Crowded => 6,
+            Reason::Alike => 7,
+            Reason::Unordered => 8,
+            Reason::Borders => 9,
+            Reason::NoList => 10,
+            Reason::Absent => 11,
+            Reason::Broken => 12,
+            Reason::Room => 13,
+            Reason::Line => 14,
+            Reason::Uneditable => 15,
+            Reason::Item => 16,
+            Reason::Face => 17,
+            Reason::Clash => 18,
+            Reason::Full => 19,
+            Reason::Pinched => 20,
+            Reason::Stranded => 21,
+            Reason::Other(number) => number,
+        }
+    }
+}
+
+// The reason of any number.
+impl From<u32> for Reason {
+    ghost from_gives = { λ number reason. number_in reason ≡ number };
+
+    fn from(number: u32) -> Reason {
+        match number {
+            1 => Reason::Sizes,
+            2 => Reason::Lengths,
+            3 => Reason::Unfit,
+            4 => Reason::Repeated,
+            6 => Reason::Crowded,
+            7 => Reason::Alike,
+            8 => Reason::Unordered,
+            9 => Reason::Borders,
+            10 => Reason::NoList,
+            11 => Reason::Absent,
+            12 => Reason::Broken,
+            13 => Reason::Room,
+            14 => Reason::Line,
+            15 => Reason::Uneditable,
+            16 => Reason::Item,
+            17 => Reason::Face,
+            18 => Reason::Clash,
+            19 => Reason::Full,
+            20 => Reason::Pinched,
+            21 => Reason::Stranded,
+            _ => Reason::Other(number),
+        }
     }
 }
 

@@ -23,13 +23,14 @@ pub fn clear_first(n: usize, out: &mut [u32])
     clear(&mut out[..n]);
 }
 
-// From the start of `out` on; the rest of `out` stays.
-#[tactic(auto, unfolding(rules::specs::Refusals::onto))]
+// From the start of `out` on; the rest of `out` stays. Kept with an index: by `copy_from_slice` the archive asks for `memmove` from outside.
 pub fn copy(from: &[u32], out: &mut [u32])
     requires { length from.now ≤ length out.old }
     ensures { out.new ≡ onto from.now out.old }
 {
-    out[..from.len()].copy_from_slice(from);
+    for i in 0..from.len() {
+        out[i] = from[i];
+    }
 }
 
 // From entry q on; the rest of `out` stays.

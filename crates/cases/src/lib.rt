@@ -8,7 +8,7 @@
 ghost use Rattle.std.specs.Prelude.{◌≡◌, ◌*◌, ◌<◌, ◌≤◌, ◌↔◌, ◌++◌, min, length as List·length, take, drop, replicate, IsTrue, IfOk, EachIndex, slice_index, vec_len};
 ghost use Rattle.cases.specs.Cases.{left_after, three};
 
-use answer::{Answer, Reason, Refusal};
+use answer::{Answer, Refusal};
 use std::alloc::{AllocError, Global};
 
 // How many bytes of its input a program reads at most, but for that with the longest.
@@ -181,8 +181,8 @@ pub fn is_all(a: &[u32], x: u32) -> bool
 pub fn is_work_left(a: Answer, work: &[u32]) -> bool
     ensures { IsTrue result ↔ EachIndex work.now (λ k. slice_index work.now k ≡ left_after a) }
 {
-    let left = match a.map_err(|refusal| refusal.reason) {
-        Err(Reason::Sizes | Reason::Lengths) => WORK,
+    let left = match a {
+        Err(refusal) if refusal.reason.number() <= 2 => WORK,
         _ => 0,
     };
     is_all(work, left)

@@ -34,21 +34,21 @@ pub trait Walk {
 }
 
 // The elements about a vertex, from the start side of its ring.
-#[derive(Drop)]
+#[derive(Clone, Copy)]
 pub struct Elements<'a> {
     pub fitting: &'a Fitting<'a>,
     pub start: u32,
 }
 
 // The ends of the sides of a vertex's ring.
-#[derive(Drop)]
+#[derive(Clone, Copy)]
 pub struct Ends<'a> {
     pub fitting: &'a Fitting<'a>,
     pub start: u32,
 }
 
 // The border numbers of a loop.
-#[derive(Drop)]
+#[derive(Clone, Copy)]
 pub struct Borders<'a> {
     pub fitting: &'a Fitting<'a>,
     pub start: u32,

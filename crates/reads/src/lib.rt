@@ -10,7 +10,7 @@ ghost use Rattle.rules.specs.Queries.{and_then, is_border_code, is_half_edge, is
 ghost use Rattle.rules.specs.Queries.{read_destination, border_next, start_side, onward, next_border, loop_next};
 ghost use Rattle.reads.specs.Readings.{read_of, prior_vertex};
 
-use halfedge::{border_code, element_of, is_border, number_of, slot_in, wide};
+use halfedge::{HalfEdge, element_of, is_border, number_of, slot_in, wide};
 use sides::{is_side, next_code, origin_of};
 use std::marker::Model;
 
@@ -237,14 +237,15 @@ impl Fitting<'_> {
     }
 
     // The border half-edge after x, as border numbers.
-    #[tactic(auto, using(crate::proofs::Tested::border_numbered), unfolding(rules::specs::Queries::next_border, rules::specs::Queries::and_then))]
+    #[tactic(auto, using(crate::proofs::Tested::border_numbered, halfedge::specs::Codes::border_code_lem), unfolding(rules::specs::Queries::next_border, rules::specs::Queries::and_then))]
     pub fn next_border(&self, x: u32) -> Option<u32>
         requires { (1 ≤ x) × (x ≤ length self.now.border) }
         ensures { read_of result ≡ next_border self.now x }
     {
         // That the mesh fits says how great x can be.
         let _ = &self.mesh;
-        let next = self.border_next(border_code(x))?;
+        let border = HalfEdge::border(x);
+        let next = self.border_next(border.code)?;
         Some(element_of(next))
     }
 

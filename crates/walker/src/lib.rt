@@ -23,9 +23,9 @@ pub struct Walker {
 impl Walker {
     // The side that the record goes on to, 0 at the ring's end.
     #[tactic(auto, unfolding(rules::specs::Queries::goes_to, rules::specs::Queries::and_then))]
-    fn next(&self, fitting: &Fitting) -> Option<u32>
-        ensures side { read_of result ≡ goes_to fitting.now (record_of self.now) }
-        ensures count { IfSome result (λ _. self.now.handed < max_element) }
+    fn next(self, fitting: &Fitting) -> Option<u32>
+        ensures side { read_of result ≡ goes_to fitting.now (record_of self) }
+        ensures count { IfSome result (λ _. self.handed < max_element) }
     {
         let m = fitting.element_count();
         if !fitting.mesh.is_side(self.start)
