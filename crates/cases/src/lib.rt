@@ -82,7 +82,7 @@ fn with_digit(x: u32, digit: u8) -> u32 {
 fn numbers_in(alloc: Global, text: &[u8]) -> Result<Vec<u32>, AllocError>
     ensures { IfOk result (λ v. vec_len v ≤ 127) }
 {
-    let mut numbers = Vec::new(alloc);
+    let mut numbers = Vec::with_capacity(alloc, MOST)?;
     for b in text {
         if !b.is_ascii_digit() {
             if numbers.len() < MOST {
@@ -207,7 +207,7 @@ fn bits_of(x: f64) -> u64 {
 pub fn halves(alloc: Global, points: &[f64]) -> Result<Vec<u32>, AllocError>
     ensures { IfOk result (λ h. vec_len h ≡ 2 * List·length points.now) }
 {
-    let mut halves = Vec::new(alloc);
+    let mut halves = Vec::with_capacity(alloc, 2 * points.len())?;
     for x in points {
         let bits = bits_of(*x);
         halves.push((bits >> 32) as u32)?;

@@ -13,7 +13,7 @@
 // and then the entries of the list, V2e, E2e and B2e; of 1, the tables are put behind the list once they are built.
 #![tactic(auto)]
 
-use answer::{Answer, Given, Refusal};
+use answer::Answer;
 use reads::Mesh;
 use std::alloc::{AllocError, Global};
 use walker::Walker;
@@ -98,9 +98,9 @@ impl Tables {
 
 // The number that a call gives, or 1000 and the refusal. 9000 where a number that must be 0 isn't.
 fn coded(a: Answer) -> u32 {
-    match a {
-        Ok(Given { first, second: 0 }) => first,
-        Err(refusal) if refusal == Refusal::of(refusal.reason) => 1000 + refusal.reason.number(),
+    match cases::numbers_of(a) {
+        [0, first, 0] => first,
+        [number, 0, 0] if number < 100 => 1000 + number,
         _ => 9000,
     }
 }
