@@ -1,7 +1,7 @@
 // What the test programs share. A program reads its cases from standard input, a case to a line: the label, and then numbers, each after
 // one byte that is no digit; the first such byte is a semicolon. Lines with no semicolon are headings of the cases after them; after the last
 // case, the last line is the label of a case of zeros.
-// What reads or prints (read_input, open, run, print_label, print_line, print_refusal, print_clean, Lent::print) promises nothing of it: no contract
+// What reads or prints (read_input, next_case, run, print_label, print_line, print_refusal, print_clean, Lent::print) promises nothing of it: no contract
 // can say what a terminal gives or gets. A write that fails is passed over.
 #![tactic(auto)]
 
@@ -122,9 +122,8 @@ pub fn print_label(text: &[u8]) {
 
 // Prints the label of the text's first case. The answer is the case's numbers, with zeros after them where they are fewer than `least`, and
 // the text after the case.
-pub fn open(alloc: Global, text: &[u8], least: usize) -> Result<(Vec<u32>, &[u8]), AllocError>
-    requires { 0 < List·length text.now }
-    ensures { IfOk result (λ r. List·length r.1.now < List·length text.now) }
+pub fn next_case(alloc: Global, text: &[u8], least: usize) -> Result<(Vec<u32>, &[u8]), AllocError>
+    ensures { IfOk result (λ r. 0 < List·length text.now → List·length r.1.now < List·length text.now) }
 {
     let (label, case) = cut(text, b';');
     let (case, after) = cut(case, b'\n');
@@ -148,7 +147,7 @@ pub fn run<F: FnMut(&[u32]) -> Result<(), AllocError>>(
     let input = read_input(alloc, ROOM)?;
     let mut rest = input.as_slice();
     while !rest.is_empty() {
-        let (numbers, after) = open(alloc, rest, least)?;
+        let (numbers, after) = next_case(alloc, rest, least)?;
         run_case(&numbers)?;
         rest = after;
     }
@@ -182,7 +181,7 @@ pub fn is_work_left(a: Answer, work: &[u32]) -> bool
     ensures { IsTrue result ↔ EachIndex work.now (λ k. slice_index work.now k ≡ left_after a) }
 {
     let left = match a {
-        Err(refusal) if refusal.reason.number() <= 2 => WORK,
+        Err(refusal) if matches!(refusal.reason.number(), 1 | 2) => WORK,
         _ => 0,
     };
     is_all(work, left)

@@ -36,7 +36,7 @@ fn main(rt: HostRuntime) -> Result<(), AllocError> {
     let input = cases::read_input(alloc, ROOM)?;
     let mut rest = input.as_slice();
     while !rest.is_empty() {
-        let (numbers, after) = cases::open(alloc, rest, 2)?;
+        let (numbers, after) = cases::next_case(alloc, rest, 2)?;
         let &[list_length, text_length, ..] = numbers.as_slice() else {
             break;
         };
