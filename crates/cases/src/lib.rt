@@ -1,8 +1,8 @@
 // What the test programs share. A program reads its cases from standard input, a case to a line: the label, and then numbers, each after
 // one byte that is no digit; the first such byte is a semicolon. Lines with no semicolon are headings of the cases after them; after the last
 // case, the last line is the label of a case of zeros.
-// What reads or prints (read_input, next_case, run, print_label, print_line, print_refusal, print_clean, Lent::print) promises nothing of it: no contract
-// can say what a terminal gives or gets. A write that fails is passed over.
+// What reads or prints (read_input, next_case, run_input, print_label, emit_line, emit_refusal, emit_clean, Lent::emit) promises nothing of it: no
+// contract can say what a terminal gives or gets. A write that fails is passed over; what tells of it is in terminal.rt.
 #![tactic(auto)]
 
 ghost use Rattle.std.specs.Prelude.{◌≡◌, ◌*◌, ◌<◌, ◌≤◌, ◌↔◌, ◌++◌, min, length as List·length, take, drop, replicate, IsTrue, IfOk, EachIndex, slice_index, vec_len};
@@ -11,10 +11,16 @@ ghost use Rattle.cases.specs.Cases.{left_after, three};
 use answer::{Answer, Refusal};
 use std::alloc::{AllocError, Global};
 
+mod terminal;
+#[cfg(test)]
+mod tests;
+
+pub use terminal::{print_clean, print_line, print_refusal, read_case, run};
+
 // How many bytes of its input a program reads at most, but for that with the longest.
 pub const ROOM: usize = 8192;
 
-// How many numbers a case has at most; the digits after more are digits of the last.
+// How many numbers a program takes of a case; the digits after more are digits of the last.
 pub const MOST: usize = 127;
 
 // What a work buffer holds before a call.
@@ -136,8 +142,8 @@ pub fn next_case(alloc: Global, text: &[u8], least: usize) -> Result<(Vec<u32>, 
     Ok((numbers, after))
 }
 
-// Runs each case of standard input on its numbers, at least so many.
-pub fn run<F: FnMut(&[u32]) -> Result<(), AllocError>>(
+// Runs each case of the first bytes of standard input on its numbers, at least so many.
+pub fn run_input<F: FnMut(&[u32]) -> Result<(), AllocError>>(
     alloc: Global,
     least: usize,
     mut run_case: F,
@@ -216,17 +222,17 @@ pub fn halves(alloc: Global, points: &[f64]) -> Result<Vec<u32>, AllocError>
 }
 
 // Prints a letter and numbers as one line; nothing where a line of 1,000 bytes may be too short for them.
-pub fn print_line(letter: u8, numbers: &[u32]) {
+pub fn emit_line(letter: u8, numbers: &[u32]) {
     let mut out = [0; 1000];
     let count = print::print_line(&mut out, 0, letter, numbers);
     io::write_all(1, &out[..count]);
 }
 
-pub fn print_refusal(refusal: Refusal) {
-    print_line(b'R', &numbers_of(Err(refusal)));
+pub fn emit_refusal(refusal: Refusal) {
+    emit_line(b'R', &numbers_of(Err(refusal)));
 }
 
-pub fn print_clean(clean: bool) {
+pub fn emit_clean(clean: bool) {
     io::write_all(1, if clean { b"clean\n" } else { b"dirty\n" });
 }
 
@@ -264,10 +270,10 @@ impl Lent {
     }
 
     // Prints the lines of the list and of the three tables, each to its end.
-    pub fn print(&self) {
-        print_line(b'L', &self.list);
-        print_line(b'V', &self.v2e);
-        print_line(b'E', &self.e2e);
-        print_line(b'B', &self.b2e);
+    pub fn emit(&self) {
+        emit_line(b'L', &self.list);
+        emit_line(b'V', &self.v2e);
+        emit_line(b'E', &self.e2e);
+        emit_line(b'B', &self.b2e);
     }
 }

@@ -35,20 +35,20 @@ fn run_case(alloc: Global, numbers: &[u32]) -> Result<(), AllocError> {
     );
     match a {
         Ok(given) => {
-            cases::print_line(b'N', &[given.first, given.second]);
-            cases::print_line(b'S', &lent.size);
-            lent.print();
-            cases::print_line(b'P', &cases::halves(alloc, &points[..end])?);
+            cases::emit_line(b'N', &[given.first, given.second]);
+            cases::emit_line(b'S', &lent.size);
+            lent.emit();
+            cases::emit_line(b'P', &cases::halves(alloc, &points[..end])?);
         }
-        Err(refusal) => cases::print_refusal(refusal),
+        Err(refusal) => cases::emit_refusal(refusal),
     }
     let old = cases::halves(alloc, &cases::POINTS)?;
     let halves = cases::halves(alloc, &points)?;
     let kept = a.is_ok() || lent == before && halves == old;
-    cases::print_clean(kept && cases::is_work_left(a, &work));
+    cases::emit_clean(kept && cases::is_work_left(a, &work));
     Ok(())
 }
 
 fn main(rt: HostRuntime) -> Result<(), AllocError> {
-    cases::run(rt.alloc(), 8, |numbers| run_case(rt.alloc(), numbers))
+    cases::run_input(rt.alloc(), 8, |numbers| run_case(rt.alloc(), numbers))
 }

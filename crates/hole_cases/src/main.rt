@@ -39,19 +39,19 @@ fn run_case(alloc: Global, numbers: &[u32]) -> Result<(), AllocError> {
     let a = holes::holes(&mesh, &mut hole, &mut lengths, &mut work);
     match a {
         Ok(given) => {
-            cases::print_line(b'N', &[given.first]);
-            cases::print_line(b'H', &hole);
-            cases::print_line(b'L', &lengths);
+            cases::emit_line(b'N', &[given.first]);
+            cases::emit_line(b'H', &hole);
+            cases::emit_line(b'L', &lengths);
         }
-        Err(refusal) => cases::print_refusal(refusal),
+        Err(refusal) => cases::emit_refusal(refusal),
     }
     let kept = a.is_ok() || cases::is_all(&hole, LEFT) && cases::is_all(&lengths, LEFT);
-    cases::print_clean(kept && cases::is_work_left(a, &work));
+    cases::emit_clean(kept && cases::is_work_left(a, &work));
     Ok(())
 }
 
 fn main(rt: HostRuntime) -> Result<(), AllocError> {
-    cases::run(
+    cases::run_input(
         rt.alloc(),
         cases::MOST,
         |numbers| run_case(rt.alloc(), numbers),

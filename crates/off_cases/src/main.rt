@@ -18,16 +18,16 @@ fn run_case(alloc: Global, list_length: u32, text: &[u8]) -> Result<(), AllocErr
         Ok(given) => {
             let entries = list.len().min(4 * given.second as usize);
             let (rows, rest) = list.split_at(entries);
-            cases::print_line(b'N', &[given.first, given.second]);
-            cases::print_line(b'L', rows);
+            cases::emit_line(b'N', &[given.first, given.second]);
+            cases::emit_line(b'L', rows);
             cases::is_all(rest, KEPT)
         }
         Err(refusal) => {
-            cases::print_refusal(refusal);
+            cases::emit_refusal(refusal);
             cases::is_all(&list, KEPT)
         }
     };
-    cases::print_clean(kept);
+    cases::emit_clean(kept);
     Ok(())
 }
 

@@ -119,8 +119,8 @@ fn print_each<F: Fn(&Mesh<'_>, u32) -> Answer>(
     for x in 0..end.min(80) {
         line.push(coded(query(mesh, x)))?;
     }
-    cases::print_line(letter, &line);
-    cases::print_line(letter, &[coded(query(mesh, u32::MAX))]);
+    cases::emit_line(letter, &line);
+    cases::emit_line(letter, &[coded(query(mesh, u32::MAX))]);
     Ok(())
 }
 
@@ -138,15 +138,15 @@ fn print_lists<F: Fn(&Mesh<'_>, u32, &mut [u32]) -> Answer>(
     for x in 0..end {
         let mut out = cases::filled(alloc, LEFT, room.min(11))?;
         let [number, first, second] = cases::numbers_of(query(mesh, x, &mut out));
-        cases::print_line(letter, &[x, number, first, second]);
-        cases::print_line(b'=', &out);
+        cases::emit_line(letter, &[x, number, first, second]);
+        cases::emit_line(b'=', &out);
     }
     Ok(())
 }
 
 // A line of an answer and of the record that the call leaves.
 fn print_moved(letter: u8, a: Answer, w: &Walker) {
-    cases::print_line(letter, &[coded(a), w.start, w.following, w.handed]);
+    cases::emit_line(letter, &[coded(a), w.start, w.following, w.handed]);
 }
 
 // Nine steps.
@@ -214,7 +214,7 @@ fn run_case(alloc: Global, numbers: &[u32]) -> Result<(), AllocError> {
     };
     if kind == 1 {
         let a = tables.build(alloc, n)?;
-        cases::print_line(b'K', &cases::numbers_of(a));
+        cases::emit_line(b'K', &cases::numbers_of(a));
         tables.change(first, second, third);
     }
     let mesh = tables.mesh(n, told);
@@ -226,7 +226,7 @@ fn run_case(alloc: Global, numbers: &[u32]) -> Result<(), AllocError> {
 }
 
 fn main(rt: HostRuntime) -> Result<(), AllocError> {
-    cases::run(
+    cases::run_input(
         rt.alloc(),
         cases::MOST,
         |numbers| run_case(rt.alloc(), numbers),

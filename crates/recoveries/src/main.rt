@@ -120,7 +120,7 @@ fn change_each<F: Fn(u32, u32) -> (u32, u32)>(
         let e2e = changed(alloc, case.e2e, i, &change)?;
         counts.add(&Case { e2e: &e2e, ..case }.recover(alloc)?);
     }
-    cases::print_line(letter, &[counts.no_list, counts.list, counts.other]);
+    cases::emit_line(letter, &[counts.no_list, counts.list, counts.other]);
     Ok(())
 }
 
@@ -140,10 +140,10 @@ fn run_case(alloc: Global, numbers: &[u32]) -> Result<(), AllocError> {
     };
     let outcome = case.recover(alloc)?;
     match outcome.answer {
-        Ok(_) => cases::print_line(b'L', &outcome.list),
-        Err(refusal) => cases::print_refusal(refusal),
+        Ok(_) => cases::emit_line(b'L', &outcome.list),
+        Err(refusal) => cases::emit_refusal(refusal),
     }
-    cases::print_clean(outcome.is_clean);
+    cases::emit_clean(outcome.is_clean);
     if each == 0 {
         return Ok(());
     }
@@ -161,7 +161,7 @@ fn run_case(alloc: Global, numbers: &[u32]) -> Result<(), AllocError> {
 }
 
 fn main(rt: HostRuntime) -> Result<(), AllocError> {
-    cases::run(
+    cases::run_input(
         rt.alloc(),
         cases::MOST,
         |numbers| run_case(rt.alloc(), numbers),

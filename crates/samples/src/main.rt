@@ -33,19 +33,19 @@ fn run_case(alloc: Global, numbers: &[u32]) -> Result<(), AllocError> {
             let columns = columns::columns_of(list);
             let k = b2e.len().min(given.first as usize);
             let (borders, rest) = b2e.split_at(k);
-            cases::print_line(b'K', &[given.first, given.second]);
+            cases::emit_line(b'K', &[given.first, given.second]);
             print_tables(columns, &v2e, &e2e, borders);
             cases::is_all(rest, TABLE)
         }
         Err(refusal) => {
-            cases::print_refusal(refusal);
+            cases::emit_refusal(refusal);
             cases::is_all(&v2e, TABLE) && cases::is_all(&e2e, TABLE) && cases::is_all(&b2e, TABLE)
         }
     };
-    cases::print_clean(kept && cases::is_work_left(a, &work));
+    cases::emit_clean(kept && cases::is_work_left(a, &work));
     Ok(())
 }
 
 fn main(rt: HostRuntime) -> Result<(), AllocError> {
-    cases::run(rt.alloc(), 5, |numbers| run_case(rt.alloc(), numbers))
+    cases::run_input(rt.alloc(), 5, |numbers| run_case(rt.alloc(), numbers))
 }

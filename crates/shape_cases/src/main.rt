@@ -13,13 +13,13 @@ fn run_case(alloc: Global, numbers: &[u32]) -> Result<(), AllocError> {
     let mut work = cases::filled(alloc, cases::WORK, w.min(500))?;
     let a = shape::shape(n, list, &mut work);
     match a {
-        Ok(given) => cases::print_line(b'N', &[given.first, given.second]),
-        Err(refusal) => cases::print_refusal(refusal),
+        Ok(given) => cases::emit_line(b'N', &[given.first, given.second]),
+        Err(refusal) => cases::emit_refusal(refusal),
     }
-    cases::print_clean(cases::is_work_left(a, &work));
+    cases::emit_clean(cases::is_work_left(a, &work));
     Ok(())
 }
 
 fn main(rt: HostRuntime) -> Result<(), AllocError> {
-    cases::run(rt.alloc(), 2, |numbers| run_case(rt.alloc(), numbers))
+    cases::run_input(rt.alloc(), 2, |numbers| run_case(rt.alloc(), numbers))
 }

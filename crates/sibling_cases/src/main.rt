@@ -20,18 +20,18 @@ fn run_case(alloc: Global, numbers: &[u32]) -> Result<(), AllocError> {
     let a = sibling_map::siblings(n, list, &mut v2e, &mut sibhe, &mut work);
     match a {
         Ok(_) => {
-            cases::print_line(b'V', &v2e);
+            cases::emit_line(b'V', &v2e);
             for row in sibhe.chunks_exact(4) {
-                cases::print_line(b'S', row);
+                cases::emit_line(b'S', row);
             }
         }
-        Err(refusal) => cases::print_refusal(refusal),
+        Err(refusal) => cases::emit_refusal(refusal),
     }
     let kept = a.is_ok() || cases::is_all(&v2e, MAP) && cases::is_all(&sibhe, MAP);
-    cases::print_clean(kept && cases::is_work_left(a, &work));
+    cases::emit_clean(kept && cases::is_work_left(a, &work));
     Ok(())
 }
 
 fn main(rt: HostRuntime) -> Result<(), AllocError> {
-    cases::run(rt.alloc(), 4, |numbers| run_case(rt.alloc(), numbers))
+    cases::run_input(rt.alloc(), 4, |numbers| run_case(rt.alloc(), numbers))
 }

@@ -37,23 +37,23 @@ fn run_case(alloc: Global, numbers: &[u32]) -> Result<(), AllocError> {
     let halves = cases::halves(alloc, &points)?;
     match a {
         Ok(given) => {
-            cases::print_line(b'N', &[given.first, given.second]);
-            cases::print_line(b'S', &lent.size);
-            lent.print();
+            cases::emit_line(b'N', &[given.first, given.second]);
+            cases::emit_line(b'S', &lent.size);
+            lent.emit();
             if let Some(point) = halves.chunks_exact(6).nth(n as usize) {
-                cases::print_line(b'P', point);
+                cases::emit_line(b'P', point);
             }
         }
-        Err(refusal) => cases::print_refusal(refusal),
+        Err(refusal) => cases::emit_refusal(refusal),
     }
     // All points must be as before, but after an answer that of the new vertex.
     let mut pairs = old.chunks_exact(6).zip(halves.chunks_exact(6)).enumerate();
     let points_kept = pairs.all(|(i, (x, y))| x == y || a.is_ok() && i == n as usize);
     let kept = a.is_ok() || lent == before;
-    cases::print_clean(points_kept && kept && cases::is_work_left(a, &work));
+    cases::emit_clean(points_kept && kept && cases::is_work_left(a, &work));
     Ok(())
 }
 
 fn main(rt: HostRuntime) -> Result<(), AllocError> {
-    cases::run(rt.alloc(), 8, |numbers| run_case(rt.alloc(), numbers))
+    cases::run_input(rt.alloc(), 8, |numbers| run_case(rt.alloc(), numbers))
 }

@@ -33,16 +33,16 @@ fn run_case(alloc: Global, numbers: &[u32]) -> Result<(), AllocError> {
     );
     match a {
         Ok(given) => {
-            cases::print_line(b'N', &[given.first, given.second]);
-            lent.print();
+            cases::emit_line(b'N', &[given.first, given.second]);
+            lent.emit();
         }
-        Err(refusal) => cases::print_refusal(refusal),
+        Err(refusal) => cases::emit_refusal(refusal),
     }
     let kept = a.is_ok() || lent == before;
-    cases::print_clean(kept && cases::is_work_left(a, &work));
+    cases::emit_clean(kept && cases::is_work_left(a, &work));
     Ok(())
 }
 
 fn main(rt: HostRuntime) -> Result<(), AllocError> {
-    cases::run(rt.alloc(), 7, |numbers| run_case(rt.alloc(), numbers))
+    cases::run_input(rt.alloc(), 7, |numbers| run_case(rt.alloc(), numbers))
 }
