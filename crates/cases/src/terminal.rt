@@ -1,5 +1,5 @@
-// What reads and prints through a runtime of the caller's: lines and numbers of any length, and the error of a read or a write that fails. A number
-// stands after each character that is no digit. No contract can say what a terminal gives or gets.
+// What reads and prints through a runtime of the caller's: lines of any length with however many numbers, and the error of a read or a write that
+// fails. A number stands after each character that is no digit. No contract can say what a terminal gives or gets.
 ghost use Rattle.std.specs.Prelude.{◌≤◌, IfOk, IfSome, vec_len};
 
 use super::{Lent, numbers_of, with_digit};

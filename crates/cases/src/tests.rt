@@ -7,7 +7,7 @@ use std::fmt::Display;
 use std::io::{BufRead, ErrorKind, Lines, Write};
 use std::test::Fail;
 
-// A terminal that gives a text, and keeps what is printed until it has taken so many prints.
+// A terminal that gives a text and keeps what is printed, but for one print, which fails, after so many.
 #[derive(Drop)]
 struct Terminal<'a> {
     alloc: Global,
@@ -28,10 +28,10 @@ impl<'a> Terminal<'a> {
 
     fn count(&self) -> std::io::Result<()> {
         let left = self.prints.get();
+        self.prints.set(left.wrapping_sub(1));
         if left == 0 {
             return Err(ErrorKind::BrokenPipe.into());
         }
-        self.prints.set(left - 1);
         Ok(())
     }
 }
@@ -79,7 +79,7 @@ impl Print for Terminal<'_> {
     }
 }
 
-// Over 20,000 bytes of cases, the first of 200 numbers, between headings.
+// Over 20,000 bytes of cases with headings between, the first of 200 numbers, the last in a line that no newline ends.
 #[test]
 fn run_takes_any_length(rt: HostRuntime) -> Result<(), Fail> {
     let mut text = String::new(rt.alloc());
@@ -97,7 +97,9 @@ fn run_takes_any_length(rt: HostRuntime) -> Result<(), Fail> {
         labels.extend_from_slice(b"\xc3\xa9\n")?;
         given.extend_from_slice(&[7, 0])?;
     }
-    text.push_str("the end")?;
+    text.push_str("the end\nz;9")?;
+    labels.extend_from_slice(b"z\n")?;
+    given.extend_from_slice(&[9, 0])?;
 
     let terminal = Terminal::new(rt.alloc(), text.as_bytes(), 5000);
     let mut taken = Vec::new(rt.alloc());
@@ -110,15 +112,16 @@ fn run_takes_any_length(rt: HostRuntime) -> Result<(), Fail> {
     Ok(())
 }
 
-// A number stands after each character that is no digit; a digit that would make it too large is passed over.
+// A number stands after each character that is none of ten digits; a digit that would make it too large is passed over.
 #[test]
 fn read_case_tells_headings(rt: HostRuntime) -> Result<(), Fail> {
     let terminal = Terminal::new(rt.alloc(), b"", 9);
     assert_eq!(rt; read_case(&terminal, "of one", 2)?.is_some(), false);
-    let numbers = read_case(&terminal, "a;3,4294967295 4294967296\u{e9}5;", 2)?.ok_or("a heading")?;
+    let text = "a;3,4294967295 42949672961\u{e9}5\u{663}6;";
+    let numbers = read_case(&terminal, text, 2)?.ok_or("a heading")?;
     assert_eq!(rt;
         numbers.as_slice(),
-        [3, 4294967295, 429496729, 5, 0].as_slice()
+        [3, 4294967295, 4294967291, 5, 6, 0].as_slice()
     );
     let numbers = read_case(&terminal, "b;", 4)?.ok_or("a heading")?;
     assert_eq!(rt; numbers.as_slice(), [0, 0, 0, 0].as_slice());
@@ -152,21 +155,15 @@ fn prints_whole_lines(rt: HostRuntime) -> Result<(), Fail> {
     Ok(())
 }
 
-// Of what an edit is lent each of the four lines fails in turn.
 #[test]
 fn a_write_that_fails_is_told(rt: HostRuntime) -> Result<(), Fail> {
-    let closed = Terminal::new(rt.alloc(), b"a;1\n", 0);
-    let lent = Lent::new(rt.alloc(), [3, 1], &[1, 2, 3, 0], [1, 0, 2])?;
+    let closed = || Terminal::new(rt.alloc(), b"a;1\n", 0);
     let told = [
-        run(&closed, 2, |_| Ok(())),
-        read_case(&closed, "a;1", 2).map(|_| ()),
-        print_line(&closed, 'L', &[1]),
-        print_refusal(&closed, Refusal::of(Reason::Sizes)),
-        print_clean(&closed, true),
-        lent.print(&closed),
-        lent.print(&Terminal::new(rt.alloc(), b"", 1)),
-        lent.print(&Terminal::new(rt.alloc(), b"", 2)),
-        lent.print(&Terminal::new(rt.alloc(), b"", 3)),
+        run(&closed(), 2, |_| Ok(())),
+        read_case(&closed(), "a;1", 2).map(|_| ()),
+        print_line(&closed(), 'L', &[1]),
+        print_refusal(&closed(), Refusal::of(Reason::Sizes)),
+        print_clean(&closed(), true),
     ];
     for result in told {
         assert_eq!(rt;
@@ -177,30 +174,58 @@ fn a_write_that_fails_is_told(rt: HostRuntime) -> Result<(), Fail> {
     Ok(())
 }
 
+// Each of the four lines fails in turn; those before it are printed, those after it aren't.
+#[test]
+fn print_stops_at_a_line_that_fails(rt: HostRuntime) -> Result<(), Fail> {
+    let lent = Lent::new(rt.alloc(), [3, 1], &[1, 2, 3, 0], [1, 0, 2])?;
+    let shown = [
+        "",
+        "L,1,2,3,0\n",
+        "L,1,2,3,0\nV,4294967295\n",
+        "L,1,2,3,0\nV,4294967295\nE\n",
+    ];
+    for (prints, lines) in (0..4).zip(shown) {
+        let terminal = Terminal::new(rt.alloc(), b"", prints);
+        let result = lent.print(&terminal);
+        assert_eq!(rt;
+            result.map_err(|error| error.kind()),
+            Err(ErrorKind::BrokenPipe)
+        );
+        assert_eq!(rt; terminal.shown.try_borrow()?.as_slice(), lines.as_bytes());
+    }
+    Ok(())
+}
+
 // A line that is no text, and an error of what is run; the cases before them are run.
 #[test]
 fn run_hands_errors_on(rt: HostRuntime) -> Result<(), Fail> {
-    let terminal = Terminal::new(rt.alloc(), b"a;1\nb\xff;2\nc;3\n", 9);
-    let read = run(&terminal, 1, |_| Ok(()));
+    let broken = Terminal::new(rt.alloc(), b"a;1\nb\xff;2\nc;3\n", 9);
+    let mut taken = Vec::new(rt.alloc());
+    let result = run(&broken, 1, |numbers| {
+        taken.extend_from_slice(numbers)?;
+        Ok(())
+    });
     assert_eq!(rt;
-        read.map_err(|error| error.kind()),
+        result.map_err(|error| error.kind()),
         Err(ErrorKind::InvalidData)
     );
-    let terminal_of_two = Terminal::new(rt.alloc(), b"a;1\nb;2\nc;3\n", 9);
-    let case = run(&terminal_of_two, 1, |numbers| {
+    assert_eq!(rt; taken.as_slice(), [1].as_slice());
+    assert_eq!(rt; broken.shown.try_borrow()?.as_slice(), b"a\n".as_slice());
+
+    let whole = Terminal::new(rt.alloc(), b"a;1\nb;2\nc;3\n", 9);
+    taken.clear();
+    let result = run(&whole, 1, |numbers| {
+        taken.extend_from_slice(numbers)?;
         if numbers == [2].as_slice() {
             return Err(ErrorKind::StorageFull.into());
         }
         Ok(())
     });
     assert_eq!(rt;
-        case.map_err(|error| error.kind()),
+        result.map_err(|error| error.kind()),
         Err(ErrorKind::StorageFull)
     );
-    assert_eq!(rt; terminal.shown.try_borrow()?.as_slice(), b"a\n".as_slice());
-    assert_eq!(rt;
-        terminal_of_two.shown.try_borrow()?.as_slice(),
-        b"a\nb\n".as_slice()
-    );
+    assert_eq!(rt; taken.as_slice(), [1, 2].as_slice());
+    assert_eq!(rt; whole.shown.try_borrow()?.as_slice(), b"a\nb\n".as_slice());
     Ok(())
 }
